@@ -7,10 +7,7 @@ mod branches;
 
 use crate::measured::{Measured, mixed};
 use addr4::{Addr, Memory, Prefix, Row};
-use bgp_attr::{
-    AsPath, Attrs, Neighbour, Numbers, Origin, Route, Segment, SegmentKind, SharedAttrs,
-    UnrecognizedAttrs,
-};
+use bgp_attr::{AsPath, Attrs, Neighbour, Origin, Route, SharedAttrs, UnrecognizedAttrs};
 use branches::TrieBranches;
 use decision::take_in;
 use link_change::Change;
@@ -22,18 +19,13 @@ const KINDS: u64 = 64;
 
 // Attributes whose path has 1 to 4 AS numbers.
 fn attrs_of(alloc: Global, kind: u64) -> Result<SharedAttrs, Memory> {
-    let mut numbers = Vec::new(alloc);
-    for place in 0..kind % 4 + 1 {
-        numbers.push(65001 + (kind % 7) as u32 + (place % 4) as u32)?;
+    let mut path = AsPath::new(alloc);
+    for place in (0..kind % 4 + 1).rev() {
+        path = path.prepended(65001 + (kind % 7) as u32 + (place % 4) as u32, 0)?;
     }
-    let mut segments = Vec::new(alloc);
-    segments.push(Segment {
-        kind: SegmentKind::Sequence,
-        numbers: Numbers::from_vec(numbers),
-    })?;
     let attrs = Attrs {
         origin: Origin::Igp,
-        path: AsPath::from_vec(segments),
+        path,
         next_hop: Addr::new(0xc000_0201),
         med: None,
         local_pref: None,

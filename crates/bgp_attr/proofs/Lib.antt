@@ -1,1 +1,4 @@
 pub mod FrontLemmas
+pub mod WordLaws
+pub mod FrontLaws
+pub mod HasLaws

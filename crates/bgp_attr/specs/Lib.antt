@@ -1,4 +1,5 @@
 pub mod Paths
 pub mod Fronts
+pub mod Words
 pub mod Hosts
 pub mod Speakers

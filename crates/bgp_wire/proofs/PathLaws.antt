@@ -1,13 +1,17 @@
 -- Paths: what is read is in the grammar, and what is in the grammar is read.
-use Rattle.std.proofs.Common.{◌≡◌, ℕ, zero, suc, ◌+◌, ◌-◌, ◌*◌, ◌≤◌, ◌<◌, true, false, cond, eqb, ltb, ◌||◌, List, [], ◌∷◌, ◌++◌, length, take, drop, Option, Some, None, Ok, Err, refl, sym, ap, subst, ◌∙◌, append_assoc, arith}
-use Rattle.std.proofs.lemmas.List.{length-take, length-drop, length-append, append-nil, take-append-drop, drop_at, drop-append-le}
+use Rattle.std.proofs.Common.{◌≡◌, ℕ, zero, suc, ◌+◌, ◌-◌, ◌*◌, ◌≤◌, ◌<◌, true, false, cond, eqb, ltb, ◌||◌, List, [], ◌∷◌, ◌++◌, length, take, drop, Option, Some, None, Result, Ok, Err, refl, sym, ap, subst, ◌∙◌, arith}
+use Rattle.std.proofs.lemmas.List.{length-take, length-drop, drop-drop, length-append, take-append-drop, drop_at, drop-append-le}
 use Rattle.std.proofs.lemmas.Bool.{ltb-false, le-ltb, eqb-true}
 use Rattle.byteorder.specs.Endian.{big_number}
 use Rattle.byteorder.specs.Numbers.{big_from-append}
 use Rattle.bgp_attr.specs.declared.path.Segment.{Segment}
 use Rattle.bgp_attr.specs.declared.path.SegmentKind.{SegmentKind}
 use Rattle.bgp_attr.specs.declared.path.SegmentKind.TheVariants.{Set, Sequence}
-use Rattle.bgp_wire.specs.Paths.{code_of, kind_of, numbers_at, IsSegment, IsPath, bad_path, segment_of, segment_at, path_at}
+use Rattle.bgp_wire.specs.Paths.{code_of, kind_of, numbers_at, IsSegment, IsPath, bad_path, segment_of, segment_at, path_at, behind}
+use Rattle.bgp_wire.specs.declared.notice.Notice.{Notice}
+use Rattle.bgp_wire.specs.declared.notice.Refusal.{Refusal}
+use Rattle.bgp_wire.specs.declared.notice.Refusal.TheVariants as refusals
+use Rattle.bgp_wire.specs.Faults.{Fails}
 use Rattle.bgp_wire.proofs.TestLemmas.{or_false_left, or_false_right, nonzero, not_zero}
 use Rattle.bgp_wire.proofs.ResultLemmas.{same_ok, guard_ok, not_both}
 use Rattle.bgp_wire.proofs.ItemLaws.{items_take, items_again}
@@ -23,36 +27,50 @@ numbers_front width (suc count) front rest le =
     λ i. big_from-append width front rest here i ∷ (ap (numbers_at width count) later ∙ numbers_front width count (drop width front) rest enough) i
 
 -- ---- a loop that reads numbers
-pub record IsReadTo (width count done : ℕ) (front rest octets : List ℕ) : Type 0 where
-  pub so_far : front ++ numbers_at width (count - done) rest ≡ numbers_at width count octets
-  pub enough : (count - done) * width ≤ length rest
 
-pub read_more : (width count done : ℕ) (front rest octets : List ℕ) → done < count → IsReadTo width count done front rest octets → IsReadTo width count (suc done) (front ++ big_number width rest ∷ []) (drop width rest) octets
-read_more width count done front rest octets lt is =
-    let left : count - done ≡ suc (count - suc done) = omega arith in
-    let whole : suc (count - suc done) * width ≡ (count - suc done) * width + width = omega arith in
-    let enough : suc (count - suc done) * width ≤ length rest = subst (λ n. n * width ≤ length rest) left is.enough in
+-- so many numbers are read behind those of the last segment, and the rest follows
+pub record AreRead (width done : ℕ) (octets rest : List ℕ) (old new : List Segment) : Type 0 where
+  pub segments : (front : List Segment) (kind : SegmentKind) → old ≡ front ++ record { kind = kind; numbers = [] } ∷ [] → new ≡ front ++ record { kind = kind; numbers = numbers_at width done octets } ∷ []
+  pub after : rest ≡ drop (done * width) octets
+
+numbers_more : (width done : ℕ) (octets : List ℕ) → numbers_at width (suc done) octets ≡ numbers_at width done octets ++ big_number width (drop (done * width) octets) ∷ []
+numbers_more width zero octets = let z : 0 ≡ 0 * width = omega arith in ap (λ n. big_number width (drop n octets) ∷ []) z
+numbers_more width (suc done) octets =
+    let whole : width + done * width ≡ suc done * width = omega arith in
+    ap (λ ns. big_number width octets ∷ ns)
+    (numbers_more width done (drop width octets)
+    ∙ ap (λ os. numbers_at width done (drop width octets) ++ big_number width os ∷ []) (drop-drop (done * width) width octets ∙ ap (λ n. drop n octets) whole))
+
+pub begin_numbers : (width : ℕ) (octets : List ℕ) (old : List Segment) → AreRead width 0 octets octets old old
+begin_numbers width octets old = let z : 0 ≡ 0 * width = omega arith in record { segments = λ front kind e. e; after = ap (λ n. drop n octets) z }
+
+pub read_more : (width done : ℕ) (octets rest : List ℕ) (old here new : List Segment) → AreRead width done octets rest old here
+    → ((front : List Segment) (kind : SegmentKind) (numbers : List ℕ) → here ≡ front ++ record { kind = kind; numbers = numbers } ∷ [] → new ≡ front ++ record { kind = kind; numbers = numbers ++ big_number width rest ∷ [] } ∷ [])
+    → AreRead width (suc done) octets (drop width rest) old new
+read_more width done octets rest old here new is more =
+    let whole : done * width + width ≡ suc done * width = omega arith in
     record {
-      so_far = append_assoc front (big_number width rest ∷ []) (numbers_at width (count - suc done) (drop width rest)) ∙ ap (λ n. front ++ numbers_at width n rest) (sym left) ∙ is.so_far;
-      enough = omega (arith, whole, length-drop width rest, enough);
+      segments = λ front kind e.
+          more front kind (numbers_at width done octets) (is.segments front kind e)
+          ∙ ap (λ ns. front ++ record { kind = kind; numbers = ns } ∷ []) (ap (λ os. numbers_at width done octets ++ big_number width os ∷ []) is.after ∙ sym (numbers_more width done octets));
+      after = ap (drop width) is.after ∙ drop-drop width (done * width) octets ∙ ap (λ n. drop n octets) whole;
     }
 
-pub room_for : (width count done : ℕ) (front rest octets : List ℕ) → done < count → IsReadTo width count done front rest octets → width ≤ length rest
-room_for width count done front rest octets lt is =
-    let left : count - done ≡ suc (count - suc done) = omega arith in
-    let whole : suc (count - suc done) * width ≡ (count - suc done) * width + width = omega arith in
-    let enough : suc (count - suc done) * width ≤ length rest = subst (λ n. n * width ≤ length rest) left is.enough in
-    omega (arith, whole, enough)
+pub room_for : (width count done : ℕ) (octets rest : List ℕ) (old new : List Segment) → done < count → count * width ≤ length octets → AreRead width done octets rest old new → width ≤ length rest
+room_for width count done octets rest old new lt enough is =
+    let left : suc (count - suc done + done) * width ≡ (count - suc done) * width + done * width + width = omega arith in
+    let all : count ≡ suc (count - suc done + done) = omega arith in
+    omega (arith, left, ap (λ n. n * width) all, length-drop (done * width) octets, ap length is.after)
 
-pub read_all : (width count : ℕ) (front rest octets : List ℕ) → IsReadTo width count count front rest octets → front ≡ numbers_at width count octets
-read_all width count front rest octets is =
-    let none : count - count ≡ 0 = omega arith in
-    sym (append-nil front) ∙ ap (λ n. front ++ numbers_at width n rest) (sym none) ∙ is.so_far
+-- ---- a segment behind those that were read
+pub behind_ok : (front : List Segment) (read : Result (Segment × List ℕ) Notice) (new : List Segment) (after : List ℕ) → behind front read ≡ Ok (new, after) → (x : Segment × List ℕ) × (read ≡ Ok x) × (front ++ x.0 ∷ [] ≡ new) × (x.1 ≡ after)
+behind_ok front (Ok x) new after e = let p = same_ok (front ++ x.0 ∷ [], x.1) (new, after) e in (x, refl, ap (λ y. y.0) p, ap (λ y. y.1) p)
+behind_ok front (Err n) new after e = absurd (not_both n (new, after) e)
 
-pub begin_reading : (width count : ℕ) (octets : List ℕ) → count * width ≤ length octets → IsReadTo width count 0 [] octets octets
-begin_reading width count octets le =
-    let all : count - 0 ≡ count = omega arith in
-    record { so_far = ap (λ n. numbers_at width n octets) all; enough = subst (λ n. n * width ≤ length octets) (sym all) le }
+pub behind_fails : (e : Refusal) (front : List Segment) (read : Result (Segment × List ℕ) Notice) → Fails e (behind front read) → Fails e read
+behind_fails refusals.Memory front read fails = tt
+behind_fails (refusals.Fault n) front (Ok x) fails = absurd (not_both n (front ++ x.0 ∷ [], x.1) (sym fails))
+behind_fails (refusals.Fault n) front (Err m) fails = let same : m ≡ n = cc in ap (λ d. Err d) same
 
 length-numbers_at : (width count : ℕ) (octets : List ℕ) → length (numbers_at width count octets) ≡ count
 length-numbers_at width zero octets = refl

@@ -1,11 +1,11 @@
 -- AS paths on the wire (RFC 4271, section 4.3; with numbers of four octets RFC 6793, section 4.1).
-use Rattle.std.specs.Prelude.{◌≡◌, ℕ, zero, suc, ◌*◌, ◌<◌, List, [], ◌∷◌, length, drop, Option, Some, None, Result, Ok, Err, Bool, nat_lt, ◌==◌, ◌||◌, if◌then◌else◌}
+use Rattle.std.specs.Prelude.{◌≡◌, ℕ, zero, suc, ◌*◌, ◌<◌, List, [], ◌∷◌, ◌++◌, length, drop, Option, Some, None, Result, Ok, Err, Bool, nat_lt, ◌==◌, ◌||◌, if◌then◌else◌}
 use Rattle.byteorder.specs.Endian.{big_number}
 use Rattle.bgp_attr.specs.declared.path.Segment.{Segment}
 use Rattle.bgp_attr.specs.declared.path.SegmentKind.{SegmentKind}
 use Rattle.bgp_attr.specs.declared.path.SegmentKind.TheVariants.{Set, Sequence}
 use Rattle.bgp_wire.specs.declared.notice.Notice.{Notice}
-use Rattle.bgp_wire.specs.Faults.{notice}
+use Rattle.bgp_wire.specs.Faults.{notice, ◌>>=◌}
 use Rattle.bgp_wire.specs.Items.{AreItems, items_at}
 
 -- how many octets an AS number has
@@ -49,6 +49,10 @@ unfoldable pub segment_at : ℕ → List ℕ → Result (Segment × List ℕ) No
 segment_at width [] = Err bad_path
 segment_at width (code ∷ []) = Err bad_path
 segment_at width (code ∷ count ∷ rest) = segment_of width count rest (kind_of code)
+
+-- what was read as a segment, behind segments that were read before
+abbrev pub behind : List Segment → Result (Segment × List ℕ) Notice → Result (List Segment × List ℕ) Notice
+behind front read = read >>= λ x. Ok (front ++ x.0 ∷ [], x.1)
 
 abbrev pub path_at : ℕ → List ℕ → Result (List Segment) Notice
 path_at width = items_at (segment_at width)

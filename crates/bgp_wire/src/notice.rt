@@ -87,6 +87,14 @@ impl<T: Drop> From<AllocFailed<T>> for Refusal {
     }
 }
 
+impl From<addr4::Memory> for Refusal {
+    ghost from_gives = { λ _ refusal. refusal ≡ Memory };
+
+    fn from(_error: addr4::Memory) -> Refusal {
+        Refusal::Memory
+    }
+}
+
 /// A fault with data.
 pub(crate) fn refused(alloc: Global, kind: FaultKind, octets: &[u8]) -> Refusal
     ensures { Refuses result (notice (code_of kind) (subcode_of kind) octets.now) }

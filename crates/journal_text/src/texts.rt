@@ -9,7 +9,9 @@ ghost use Rattle.journal_text.specs.Texts.{origin_number, segment_text, path_tex
 use crate::names::fib_proto_word;
 use crate::value::Value;
 use addr4::{Addr, Memory, push_addr, push_number};
-use bgp_attr::{Aggregator, Attrs, Neighbour, Origin, Route, Segment, SegmentKind, Unrecognized};
+use bgp_attr::{
+    Aggregator, AsPath, Attrs, Neighbour, Origin, Route, Segment, SegmentKind, Unrecognized,
+};
 use rib_route::{External, FibProto, FibRow, Iface, Interior};
 use std::alloc::Global;
 
@@ -54,7 +56,7 @@ fn push_dotted(out: &mut Vec<u8>, numbers: &[u32]) -> Result<(), Memory>
 }
 
 #[tactic(auto, unfolding(crate::specs::Texts::segment_text))]
-fn push_segment(out: &mut Vec<u8>, segment: &Segment) -> Result<(), Memory>
+fn push_segment(out: &mut Vec<u8>, segment: &Segment<'_>) -> Result<(), Memory>
     ensures { OnOk result (out.new.items ≡ out.old.items ++ segment_text segment.now) }
 {
     match segment.kind {
@@ -73,11 +75,13 @@ fn push_segment(out: &mut Vec<u8>, segment: &Segment) -> Result<(), Memory>
 }
 
 #[tactic(auto, unfolding(crate::specs::Texts::path_text))]
-fn push_path(out: &mut Vec<u8>, path: &[Segment]) -> Result<(), Memory>
+fn push_path(out: &mut Vec<u8>, path: &AsPath) -> Result<(), Memory>
     ensures { OnOk result (out.new.items ≡ out.old.items ++ path_text path.now) }
 {
-    for segment in path {
-        push_segment(out, segment)?;
+    let mut rest = path.segments();
+    'segments: while let Some((segment, others)) = rest.split_first() {
+        push_segment(out, &segment)?;
+        rest = others;
     }
     Ok(())
 }
@@ -148,7 +152,7 @@ fn push_required(out: &mut Vec<u8>, attrs: &Attrs) -> Result<(), Memory>
     push_text(out, b"o")?;
     push_number(out, origin_number(attrs.origin))?;
     push_text(out, b",p")?;
-    push_path(out, attrs.path.as_slice())?;
+    push_path(out, &attrs.path)?;
     push_text(out, b",n")?;
     push_addr(out, attrs.next_hop)?;
     Ok(())

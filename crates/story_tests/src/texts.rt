@@ -1,7 +1,7 @@
 //! Messages in words.
 
 use addr4::{Memory, Prefix, push_addr, push_number, push_prefix};
-use bgp_attr::{Aggregator, Attrs, Origin, Segment, SegmentKind, Unrecognized};
+use bgp_attr::{Aggregator, AsPath, Attrs, Origin, Segment, SegmentKind, Unrecognized};
 use bgp_wire::{Message, Notice, RouteRefresh, Update};
 
 fn push_text(out: &mut Vec<u8>, text: &str) -> Result<(), Memory> {
@@ -31,7 +31,7 @@ fn push_numbers(out: &mut Vec<u8>, numbers: &[u32]) -> Result<(), Memory> {
 }
 
 /// `{..}` for a set, `(..)` for a sequence; of more than four numbers how many there are, and the first.
-fn push_segment(out: &mut Vec<u8>, segment: &Segment) -> Result<(), Memory> {
+fn push_segment(out: &mut Vec<u8>, segment: &Segment<'_>) -> Result<(), Memory> {
     let (open, close) = match segment.kind {
         SegmentKind::Set => ("{", "}"),
         SegmentKind::Sequence => ("(", ")"),
@@ -72,10 +72,12 @@ fn push_unrecognized(out: &mut Vec<u8>, items: &[Unrecognized]) -> Result<(), Me
     Ok(())
 }
 
-fn push_path(out: &mut Vec<u8>, path: &[Segment]) -> Result<(), Memory> {
+fn push_path(out: &mut Vec<u8>, path: &AsPath) -> Result<(), Memory> {
     push_text(out, ",p")?;
-    for segment in path {
-        push_segment(out, segment)?;
+    let mut rest = path.segments();
+    'segments: while let Some((segment, others)) = rest.split_first() {
+        push_segment(out, &segment)?;
+        rest = others;
     }
     Ok(())
 }
@@ -98,7 +100,7 @@ fn push_mandatory(out: &mut Vec<u8>, attrs: &Attrs) -> Result<(), Memory> {
         Origin::Incomplete => " o2",
     };
     push_text(out, origin)?;
-    push_path(out, attrs.path.as_slice())?;
+    push_path(out, &attrs.path)?;
     push_text(out, ",n")?;
     push_addr(out, attrs.next_hop)
 }

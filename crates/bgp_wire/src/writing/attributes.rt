@@ -104,13 +104,15 @@ fn push_path(out: &mut Vec<u8>, as4: bool, path: &AsPath) -> Result<(), Memory>
     ensures { OnOk result (out.new.items ≡ out.old.items ++ (spelled 64 2 (path_octets (width_of as4) path.now)).octets) }
 {
     push_head(out, WELL_KNOWN, AS_PATH, path_length(as4, path))?;
-    for segment in path.as_slice() {
-        push_segment(out, as4, segment)?;
+    let mut rest = path.segments();
+    'segments: while let Some((segment, others)) = rest.split_first() {
+        push_segment(out, as4, &segment)?;
+        rest = others;
     }
     Ok(())
 }
 
-fn push_segment(out: &mut Vec<u8>, as4: bool, segment: &Segment) -> Result<(), Memory>
+fn push_segment(out: &mut Vec<u8>, as4: bool, segment: &Segment<'_>) -> Result<(), Memory>
     requires { FitsSegment as4 segment.now }
     ensures { OnOk result (out.new.items ≡ out.old.items ++ segment_octets (width_of as4) segment.now) }
 {

@@ -21,7 +21,7 @@ pub(crate) fn spelled_length(size: u128) -> u128
     if size > 255 { size + 4 } else { size + 3 }
 }
 
-fn segment_length(as4: bool, segment: &Segment) -> u128
+fn segment_length(as4: bool, segment: &Segment<'_>) -> u128
     ensures value { result ≡ length (segment_octets (width_of as4) segment.now) }
     ensures small { result ≤ 2 ^ 63 + 4 }
 {
@@ -35,8 +35,10 @@ pub(crate) fn path_length(as4: bool, path: &AsPath) -> u128
     ensures small { result < 2 ^ 126 + 2 ^ 66 }
 {
     let mut total: u128 = 0;
-    for segment in path.as_slice() {
-        total += segment_length(as4, segment);
+    let mut rest = path.segments();
+    'segments: while let Some((segment, others)) = rest.split_first() {
+        total += segment_length(as4, &segment);
+        rest = others;
     }
     total
 }

@@ -1,6 +1,9 @@
-use Rattle.std.proofs.Common.{◌≡◌, ◌≤◌, ◌*◌, ◌^◌, take}
+use Rattle.std.proofs.Common.{◌≡◌, ◌≤◌, ◌+◌, ◌*◌, ◌^◌, length}
 use Rattle.bgp_attr.specs.Paths.{hops}
 use Rattle.bgp_attr.proofs.path.AsPath.hops.Given as goal
 
-abbrev pub invariant-loop-segment : goal.invariant-loop-segment
-invariant-loop-segment l = (l.total ≡ hops (take l.segment-index l.segments)) × (l.total ≤ l.segment-index * 2 ^ 64)
+abbrev pub invariant-segments : goal.invariant-segments
+invariant-segments l = (l.total + hops l.rest ≡ hops l.self) × (l.total + length l.rest * 2 ^ 64 ≤ length l.self * 2 ^ 64)
+
+abbrev pub decreases-segments : goal.decreases-segments
+decreases-segments l = length l.rest
