@@ -4,7 +4,6 @@ use Rattle.std.specs.Option.{ForSome}
 use Rattle.bgp_attr.specs.declared.speaker.Profile.{Profile}
 use Rattle.bgp_attr.specs.declared.speaker.Speaker.{Speaker}
 use Rattle.bgp_wire.specs.Lengths.{attributes_length}
-use Rattle.peer_out.specs.Forms.{sent_form}
 use Rattle.peer_out.specs.declared.form.Formed.{Formed}
 
 -- who sends to which kind of peer
@@ -13,11 +12,11 @@ pub record Exit : Type 0 where
   pub me : Speaker
   pub external : Bool
 
--- the attributes are the route's in the form in which they are sent, and have so many octets
-pub record IsFormOf (exit : Exit) (formed : Formed) : Type 0 where
-  pub attrs : formed.attrs ≡ sent_form exit.me exit.external formed.of
-  pub size : attributes_length exit.profile.as4 formed.attrs ≡ formed.size
+-- the attributes are the form of the route, and have so many octets, with AS numbers of this width
+pub record IsFormOf (as4 : Bool) (formed : Formed) : Type 0 where
+  pub attrs : formed.attrs ≡ formed.of
+  pub size : attributes_length as4 formed.attrs ≡ formed.size
 
 -- what is remembered, if anything
-abbrev pub Remembers : Exit → Option Formed → Type 0
-Remembers exit last = ForSome last (IsFormOf exit)
+abbrev pub Remembers : Bool → Option Formed → Type 0
+Remembers as4 last = ForSome last (IsFormOf as4)

@@ -1,52 +1,24 @@
 //! The form in which a route is sent.
 
-ghost use Rattle.std.specs.Prelude.{◌≡◌, ◌+◌, ◌↔◌, IfOk, IsTrue, Bool, if◌then◌else◌};
-ghost use Rattle.bgp_attr.specs.Paths.{times_in_front};
-ghost use Rattle.peer_out.specs.Forms.{sent_form, as_sent, AreSentAlike};
-ghost use Rattle.peer_out.specs.Remembered.{Exit, IsFormOf};
+ghost use Rattle.std.specs.Prelude.{◌≡◌, ◌↔◌, IfOk, IsTrue, Bool};
+ghost use Rattle.bgp_wire.specs.Lengths.{attributes_length};
+ghost use Rattle.peer_out.specs.Forms.{as_sent, fitting};
+ghost use Rattle.peer_out.specs.Remembered.{IsFormOf, Remembers};
 
+use crate::sent_route::SentRoute;
 use addr4::{Memory, Prefix, Row};
-use bgp_attr::{AsPath, Attrs, Profile, Route, SharedAttrs, Speaker};
+use bgp_attr::{Profile, Route, SharedAttrs, Speaker};
 use bgp_wire::{announcement_fits, attributes_length};
 use std::alloc::Global;
 
-/// A route's attributes in the form in which they are sent.
+/// The form of a route.
 #[derive(Drop)]
 pub(crate) struct Formed {
-    /// The route that they are of.
-    of: Route,
-    attrs: SharedAttrs,
+    /// The route that it is of.
+    of: SentRoute,
+    pub(crate) attrs: SharedAttrs,
     /// How many octets they have when they are written.
-    size: u128,
-}
-
-fn sent_path(me: &Speaker, external: bool, row: &Route) -> Result<AsPath, Memory>
-    ensures { IfOk result (λ path. path ≡ (if external then times_in_front (1 + row.now.prepend) me.now.asn row.now.attrs.path else row.now.attrs.path)) }
-{
-    let path = &row.attrs.attrs().path;
-    if external {
-        path.prepended(me.asn, row.prepend)
-    } else {
-        path.copy()
-    }
-}
-
-fn sent_form(me: &Speaker, external: bool, row: &Route) -> Result<Attrs, Memory>
-    ensures { IfOk result (λ attrs. attrs ≡ sent_form me.now external row.now) }
-{
-    let attrs = row.attrs.attrs();
-    let path = sent_path(me, external, row)?;
-    let unrecognized = attrs.unrecognized.copy()?;
-    Ok(Attrs {
-        origin: attrs.origin,
-        path,
-        next_hop: if external { me.addr } else { attrs.next_hop },
-        med: row.med,
-        local_pref: if external { None } else { Some(row.pref) },
-        atomic: attrs.atomic,
-        aggregator: attrs.aggregator,
-        unrecognized,
-    })
+    pub(crate) size: u128,
 }
 
 impl Formed {
@@ -54,39 +26,93 @@ impl Formed {
     pub(crate) fn new(
         alloc: Global,
         profile: Profile,
-        me: &Speaker,
-        external: bool,
-        row: &Route,
+        route: &SentRoute,
     ) -> Result<Formed, Memory>
-        ensures form { IfOk result (IsFormOf (record { profile = profile; me = me.now; external = external })) }
-        ensures of { IfOk result (λ formed. formed.of ≡ row.now) }
+        ensures form { IfOk result (IsFormOf profile.as4) }
+        ensures of { IfOk result (λ formed. formed.of ≡ route.now) }
     {
-        let attrs = sent_form(me, external, row)?;
+        let attrs = route.form()?;
         let size = attributes_length(profile, &attrs);
         let attrs = SharedAttrs::new(alloc, attrs)?;
-        let of = row.copy()?;
+        let of = route.copy()?;
         Ok(Formed { of, attrs, size })
     }
 
-    /// Whether the route is sent alike.
-    pub(crate) fn is_alike(&self, row: &Route) -> bool
-        ensures { IsTrue result ↔ AreSentAlike self.now.of row.now }
+    /// Whether a route has this form.
+    pub(crate) fn is_of(&self, route: &SentRoute) -> bool
+        ensures { IsTrue result ↔ (self.now.of ≡ route.now) }
     {
-        self.of.pref == row.pref
-            && self.of.med == row.med
-            && self.of.prepend == row.prepend
-            && self.of.attrs.same(&row.attrs)
+        self.of.same(route)
     }
+}
 
-    /// What is sent at a prefix. Takes no memory.
-    pub(crate) fn at(&self, prefix: Prefix) -> Result<Option<SharedAttrs>, Memory>
-        ensures { (exit : Exit) → IsFormOf exit self.now → IfOk result (λ sent. sent ≡ as_sent exit.profile exit.me exit.external prefix self.now.of) }
+/// How many octets the attributes of a route's form have. The form is remembered, in place of the last one.
+pub(crate) fn remembered_size(
+    last: &mut Option<Formed>,
+    alloc: Global,
+    profile: Profile,
+    route: &SentRoute,
+) -> Result<u128, Memory>
+    requires { Remembers profile.as4 last.old }
+    ensures size { IfOk result (λ size. attributes_length profile.as4 route.now ≡ size) }
+    ensures last { Remembers profile.as4 last.new }
+{
+    if let Some(formed) = &*last
+        && formed.is_of(route)
     {
-        if announcement_fits(prefix, self.size) {
-            Ok(Some(self.attrs.copy()?))
-        } else {
-            Ok(None)
-        }
+        return Ok(formed.size);
+    }
+    let formed = Formed::new(alloc, profile, route)?;
+    let size = formed.size;
+    *last = Some(formed);
+    Ok(size)
+}
+
+/// The same by what is remembered. No more is.
+pub(crate) fn size(
+    last: &Option<Formed>,
+    alloc: Global,
+    profile: Profile,
+    route: &SentRoute,
+) -> Result<u128, Memory>
+    requires { Remembers profile.as4 last.now }
+    ensures { IfOk result (λ size. attributes_length profile.as4 route.now ≡ size) }
+{
+    if let Some(formed) = last
+        && formed.is_of(route)
+    {
+        return Ok(formed.size);
+    }
+    let formed = Formed::new(alloc, profile, route)?;
+    Ok(formed.size)
+}
+
+/// The form of a route, by what is remembered.
+pub(crate) fn form(
+    last: &Option<Formed>,
+    alloc: Global,
+    profile: Profile,
+    route: &SentRoute,
+) -> Result<SharedAttrs, Memory>
+    requires { Remembers profile.as4 last.now }
+    ensures { IfOk result (λ attrs. attrs ≡ route.now) }
+{
+    if let Some(formed) = last
+        && formed.is_of(route)
+    {
+        return formed.attrs.copy();
+    }
+    SharedAttrs::new(alloc, route.form()?)
+}
+
+/// The route at a prefix, where its announcement fits into a message.
+pub(crate) fn fitting(prefix: Prefix, size: u128, route: SentRoute) -> Option<SentRoute>
+    ensures { (as4 : Bool) → attributes_length as4 route ≡ size → result ≡ fitting as4 prefix route }
+{
+    if announcement_fits(prefix, size) {
+        Some(route)
+    } else {
+        None
     }
 }
 
@@ -102,5 +128,12 @@ pub fn as_sent(
 ) -> Result<Option<SharedAttrs>, Memory>
     ensures { IfOk result (λ sent. sent ≡ as_sent profile me.now external prefix row.now) }
 {
-    Formed::new(alloc, profile, me, external, row)?.at(prefix)
+    let route = SentRoute::new(me, external, row)?;
+    let attrs = route.form()?;
+    let size = attributes_length(profile, &attrs);
+    if announcement_fits(prefix, size) {
+        Ok(Some(SharedAttrs::new(alloc, attrs)?))
+    } else {
+        Ok(None)
+    }
 }

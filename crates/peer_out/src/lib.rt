@@ -17,6 +17,7 @@ mod form;
 mod laws;
 mod octets;
 mod peer;
+mod sent_route;
 
 pub use form::as_sent;
 pub use laws::{
@@ -25,3 +26,4 @@ pub use laws::{
 };
 pub use octets::{announcement, message};
 pub use peer::PeerOut;
+pub use sent_route::SentRoute;
