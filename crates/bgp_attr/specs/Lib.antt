@@ -1,3 +1,4 @@
 pub mod Paths
+pub mod Fronts
 pub mod Hosts
 pub mod Speakers

@@ -8,12 +8,13 @@
 //! equal exactly where everything in them is.
 //!
 //! An [`AsPath`] answers what the decision and the filters ask of it (its hops, its first AS, whether it has an AS), and
-//! gives the path that is sent to an external peer. Attributes and routes are rows of tables and links ([`addr4::Row`]):
-//! they are copied, a route by sharing its attributes, and compared as a whole. `bgp_wire` reads and writes the
-//! attributes of messages, the stages above pass routes on.
+//! gives the path that is sent to an external peer, or says whether two such paths are the same. Attributes and routes are
+//! rows of tables and links ([`addr4::Row`]): they are copied, a route by sharing its attributes, and compared as a whole.
+//! `bgp_wire` reads and writes the attributes of messages, the stages above pass routes on.
 #![tactic(auto)]
 
 mod attrs;
+mod fronted;
 mod hosts;
 mod octets;
 mod path;
@@ -24,7 +25,7 @@ mod unrecognized;
 pub use attrs::{Aggregator, Attrs, Origin, SharedAttrs};
 pub use hosts::{is_host, is_host_prefix};
 pub use octets::Octets;
-pub use path::{AsPath, Numbers, Segment, SegmentKind};
+pub use path::{AsPath, Numbers, Segment, SegmentKind, SegmentView, Segments};
 pub use route::Route;
 pub use speaker::{Neighbour, Profile, Speaker};
 pub use unrecognized::{Unrecognized, UnrecognizedAttrs};
