@@ -1,4 +1,4 @@
-//! The form in which routes are sent.
+//! What a peer is sent of routes.
 
 ghost use Rattle.std.specs.Prelude.{◌≡◌, IfOk, Option};
 ghost use Rattle.addr4.specs.Prefixes.{Network};
@@ -7,7 +7,7 @@ ghost use Rattle.bgp_attr.specs.declared.route.Route.{Route};
 use addr4::{Memory, Prefix, Row};
 use bgp_attr::Route;
 
-/// Puts routes into the form in which one peer is sent them. What it remembers of the last routes changes no answer.
+/// Tells what one peer is sent of routes. What it remembers of the last ones changes no answer.
 pub trait Sent {
     /// What the peer is sent of a route. Two are equal where the peer gets the same.
     type Row: Row;
@@ -15,7 +15,7 @@ pub trait Sent {
     /// What is sent of a route at a prefix; nothing where it doesn't fit into a message.
     ghost form: { Self → Network → Route → Option Self.Row };
 
-    /// A route in its form, to be sent. Memory only for want of memory.
+    /// What the peer is sent of a route. Memory only for want of memory.
     fn sent(&mut self, p: &Prefix, row: &Route) -> Result<Option<Self::Row>, Memory>
         ensures sent { IfOk result (λ sent. sent ≡ form self.old p.now row.now) }
         ensures same { self.new ≡ self.old };

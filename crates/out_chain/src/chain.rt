@@ -389,4 +389,3 @@ fn route_value(row: Option<Route>) -> Option<Value>
         None => None,
     }
 }
-

@@ -23,11 +23,7 @@ pub(crate) struct Formed {
 
 impl Formed {
     /// A route in the form in which it is sent.
-    pub(crate) fn new(
-        alloc: Global,
-        profile: Profile,
-        route: &SentRoute,
-    ) -> Result<Formed, Memory>
+    pub(crate) fn new(alloc: Global, profile: Profile, route: &SentRoute) -> Result<Formed, Memory>
         ensures form { IfOk result (IsFormOf profile.as4) }
         ensures of { IfOk result (λ formed. formed.of ≡ route.now) }
     {
@@ -129,10 +125,9 @@ pub fn as_sent(
     ensures { IfOk result (λ sent. sent ≡ as_sent profile me.now external prefix row.now) }
 {
     let route = SentRoute::new(me, external, row)?;
-    let attrs = route.form()?;
-    let size = attributes_length(profile, &attrs);
-    if announcement_fits(prefix, size) {
-        Ok(Some(SharedAttrs::new(alloc, attrs)?))
+    let formed = Formed::new(alloc, profile, &route)?;
+    if announcement_fits(prefix, formed.size) {
+        Ok(Some(formed.attrs.copy()?))
     } else {
         Ok(None)
     }

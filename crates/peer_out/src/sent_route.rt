@@ -1,7 +1,6 @@
 //! A route as a peer is sent it.
 
 ghost use Rattle.std.specs.Prelude.{◌≡◌, ◌↔◌, ◌+◌, IfOk, IsTrue};
-ghost use Rattle.bgp_attr.specs.Paths.{times_in_front};
 ghost use Rattle.peer_out.specs.Forms.{sent_form};
 ghost use Rattle.peer_out.specs.Terms.{path_by, hop_by, pref_by, form_by, HaveOneWay, HaveOneRest};
 
@@ -18,6 +17,15 @@ pub(crate) struct Outside {
     addr: Addr,
     /// How often more than once the local AS is put in front of the path, 0 to 16.
     prepend: u8,
+}
+
+impl Outside {
+    /// How often the local AS is put in front of the path.
+    fn times(self) -> u32
+        ensures { result ≡ 1 + self.prepend }
+    {
+        1 + u32::from(self.prepend)
+    }
 }
 
 /// What a form takes from elsewhere than the route's attributes, by the kind of peer.
@@ -72,7 +80,8 @@ impl Terms {
 }
 
 /// A route as a peer is sent it: the route that the rules let out, of which the attributes that the peer gets are made where
-/// they are needed. Contracts see these attributes, so two are equal where the peer gets the same of both.
+/// they are needed. Contracts see these attributes, so two are equal where the peer gets the same of both. A table keeps one for
+/// each prefix that was sent: so it has 32 octets and owns nothing but its share of the attributes.
 #[derive(Drop)]
 pub struct SentRoute {
     /// As they were received, shared with the table in.
@@ -81,6 +90,8 @@ pub struct SentRoute {
     med: Option<u32>,
     terms: Terms,
 }
+
+const _: () = prove!(size_of::<SentRoute>() <= 32);
 
 impl Model for SentRoute {
     ghost use Rattle.bgp_attr.specs.declared.attrs.Attrs.{Attrs};
@@ -156,12 +167,12 @@ fn has_one_way(terms: Terms, attrs: &Attrs, other: Terms, others: &Attrs) -> boo
         (Terms::External(one), Terms::External(two)) => {
             one.asn == two.asn
                 && one.addr == two.addr
-                && same_in_front(&attrs.path, one.asn, one.prepend, &others.path, two.prepend)
+                && attrs
+                    .path
+                    .same_in_front(one.asn, one.times(), &others.path, two.times())
         }
         (Terms::Internal(one), Terms::Internal(two)) => {
-            one == two
-                && attrs.next_hop == others.next_hop
-                && attrs.path.same(&others.path)
+            one == two && attrs.next_hop == others.next_hop && attrs.path.same(&others.path)
         }
         _ => false,
     }
@@ -176,14 +187,3 @@ fn has_one_rest(attrs: &Attrs, others: &Attrs) -> bool
         && attrs.aggregator == others.aggregator
         && attrs.unrecognized.same(&others.unrecognized)
 }
-
-fn same_in_front(path: &AsPath, asn: u32, prepend: u8, other: &AsPath, times: u8) -> bool
-    ensures { IsTrue result ↔ (times_in_front (1 + prepend) asn path.now ≡ times_in_front (1 + times) asn other.now) }
-{
-    match (path.prepended(asn, prepend), other.prepended(asn, times)) {
-        (Ok(path), Ok(other)) => path.same(&other),
-        _ => false,
-    }
-}
-
-const _: () = prove!(size_of::<SentRoute>() == 32);
