@@ -1,9 +1,10 @@
 //! The form in which a route is sent.
 
-ghost use Rattle.std.specs.Prelude.{◌≡◌, ◌↔◌, IfOk, IsTrue, Bool};
+ghost use Rattle.std.specs.Prelude.{◌≡◌, ◌↔◌, IfOk, IsTrue, Bool, None, option_copied};
+ghost use Rattle.std.specs.Option.{ForSome};
 ghost use Rattle.bgp_wire.specs.Lengths.{attributes_length};
 ghost use Rattle.peer_out.specs.Forms.{as_sent, fitting};
-ghost use Rattle.peer_out.specs.Remembered.{IsFormOf, Remembers};
+ghost use Rattle.peer_out.specs.Remembered.{IsFormOf, IsFormed, Remembers};
 
 use crate::sent_route::SentRoute;
 use addr4::{Memory, Prefix, Row};
@@ -16,16 +17,15 @@ use std::alloc::Global;
 pub(crate) struct Formed {
     /// The route that it is of.
     of: SentRoute,
-    pub(crate) attrs: SharedAttrs,
+    attrs: SharedAttrs,
     /// How many octets they have when they are written.
-    pub(crate) size: u128,
+    size: u128,
 }
 
 impl Formed {
     /// A route in the form in which it is sent.
-    pub(crate) fn new(alloc: Global, profile: Profile, route: &SentRoute) -> Result<Formed, Memory>
-        ensures form { IfOk result (IsFormOf profile.as4) }
-        ensures of { IfOk result (λ formed. formed.of ≡ route.now) }
+    fn new(alloc: Global, profile: Profile, route: &SentRoute) -> Result<Formed, Memory>
+        ensures { IfOk result (IsFormOf profile.as4 route.now) }
     {
         let attrs = route.form()?;
         let size = attributes_length(profile, &attrs);
@@ -35,70 +35,98 @@ impl Formed {
     }
 
     /// Whether a route has this form.
-    pub(crate) fn is_of(&self, route: &SentRoute) -> bool
+    fn is_of(&self, route: &SentRoute) -> bool
         ensures { IsTrue result ↔ (self.now.of ≡ route.now) }
     {
         self.of.same(route)
     }
 }
 
-/// How many octets the attributes of a route's form have. The form is remembered, in place of the last one.
-pub(crate) fn remembered_size(
-    last: &mut Option<Formed>,
-    alloc: Global,
-    profile: Profile,
-    route: &SentRoute,
-) -> Result<u128, Memory>
-    requires { Remembers profile.as4 last.old }
-    ensures size { IfOk result (λ size. attributes_length profile.as4 route.now ≡ size) }
-    ensures last { Remembers profile.as4 last.new }
-{
-    if let Some(formed) = &*last
-        && formed.is_of(route)
-    {
-        return Ok(formed.size);
-    }
-    let formed = Formed::new(alloc, profile, route)?;
-    let size = formed.size;
-    *last = Some(formed);
-    Ok(size)
+/// The two forms that were made last: where a row is replaced by another, those of both.
+#[derive(Drop)]
+pub(crate) struct LastForms {
+    last: Option<Formed>,
+    former: Option<Formed>,
 }
 
-/// The same by what is remembered. No more is.
-pub(crate) fn size(
-    last: &Option<Formed>,
-    alloc: Global,
-    profile: Profile,
-    route: &SentRoute,
-) -> Result<u128, Memory>
-    requires { Remembers profile.as4 last.now }
-    ensures { IfOk result (λ size. attributes_length profile.as4 route.now ≡ size) }
-{
-    if let Some(formed) = last
-        && formed.is_of(route)
+impl LastForms {
+    /// None yet.
+    pub(crate) fn new() -> LastForms
+        ensures { (as4 : Bool) → Remembers as4 result }
     {
-        return Ok(formed.size);
+        LastForms {
+            last: None,
+            former: None,
+        }
     }
-    let formed = Formed::new(alloc, profile, route)?;
-    Ok(formed.size)
+
+    /// The form of a route, if it is remembered.
+    fn found(&self, route: &SentRoute) -> Option<&Formed>
+        ensures { (as4 : Bool) → Remembers as4 self.now → ForSome (option_copied result) (IsFormOf as4 route.now) }
+    {
+        match matching(&self.last, route) {
+            Some(formed) => Some(formed),
+            None => matching(&self.former, route),
+        }
+    }
+
+    /// How many octets the attributes of a route's form have. The form is remembered.
+    pub(crate) fn remember(
+        &mut self,
+        alloc: Global,
+        profile: Profile,
+        route: &SentRoute,
+    ) -> Result<u128, Memory>
+        requires { Remembers profile.as4 self.old }
+        ensures size { IfOk result (λ size. attributes_length profile.as4 route.now ≡ size) }
+        ensures forms { Remembers profile.as4 self.new }
+    {
+        if let Some(formed) = self.found(route) {
+            return Ok(formed.size);
+        }
+        let formed = Formed::new(alloc, profile, route)?;
+        let size = formed.size;
+        self.former = self.last.replace(formed);
+        Ok(size)
+    }
+
+    /// The same without remembering more.
+    pub(crate) fn size(
+        &self,
+        alloc: Global,
+        profile: Profile,
+        route: &SentRoute,
+    ) -> Result<u128, Memory>
+        requires { Remembers profile.as4 self.now }
+        ensures { IfOk result (λ size. attributes_length profile.as4 route.now ≡ size) }
+    {
+        if let Some(formed) = self.found(route) {
+            return Ok(formed.size);
+        }
+        let formed = Formed::new(alloc, profile, route)?;
+        Ok(formed.size)
+    }
+
+    /// The form of a route, which is not remembered anew.
+    pub(crate) fn form(&self, alloc: Global, route: &SentRoute) -> Result<SharedAttrs, Memory>
+        requires { (as4 : Bool) × Remembers as4 self.now }
+        ensures { IfOk result (λ attrs. attrs ≡ route.now) }
+    {
+        if let Some(formed) = self.found(route) {
+            return formed.attrs.copy();
+        }
+        SharedAttrs::new(alloc, route.form()?)
+    }
 }
 
-/// The form of a route, by what is remembered.
-pub(crate) fn form(
-    last: &Option<Formed>,
-    alloc: Global,
-    profile: Profile,
-    route: &SentRoute,
-) -> Result<SharedAttrs, Memory>
-    requires { Remembers profile.as4 last.now }
-    ensures { IfOk result (λ attrs. attrs ≡ route.now) }
+/// What is remembered, where it is the form of a route.
+fn matching<'a>(remembered: &'a Option<Formed>, route: &SentRoute) -> Option<&'a Formed>
+    ensures { (as4 : Bool) → IsFormed as4 remembered.now → ForSome (option_copied result) (IsFormOf as4 route.now) }
 {
-    if let Some(formed) = last
-        && formed.is_of(route)
-    {
-        return formed.attrs.copy();
+    match remembered {
+        Some(formed) if formed.is_of(route) => Some(formed),
+        _ => None,
     }
-    SharedAttrs::new(alloc, route.form()?)
 }
 
 /// The route at a prefix, where its announcement fits into a message.

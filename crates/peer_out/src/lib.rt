@@ -7,7 +7,7 @@
 //! What is kept is the route itself ([`SentRoute`]): its attributes as they were received, shared with the table in, and the
 //! few words that the form takes from elsewhere. The form is made where it is needed, and contracts see it alone. So two are equal
 //! where the peer gets the same, though the routes may differ in what it doesn't get; that is told without making a form.
-//! [`PeerOut`] answers what one peer is sent, and remembers the last form that it made.
+//! [`PeerOut`] answers what one peer is sent, and remembers the last two forms that it made: those of the rows of a change.
 //!
 //! [`message`] gives the octets of a change of what a peer was sent, an announcement or a withdrawal of one prefix;
 //! [`announcement`] those of an announcement whose attributes are lent, the same. What is kept true: a neighbour that reads these

@@ -7,7 +7,7 @@ ghost use Rattle.bgp_wire.specs.Readable.{announcement};
 ghost use Rattle.bgp_wire.specs.Spelling.{update_octets};
 ghost use Rattle.peer_out.specs.Changes.{IsSentOf, IsReadAs, saying, message_octets};
 
-use crate::form::{Formed, fitting, form, remembered_size, size};
+use crate::form::{LastForms, fitting};
 use crate::octets::{announcement, message};
 use crate::sent_route::SentRoute;
 use addr4::{Memory, Prefix};
@@ -23,8 +23,7 @@ pub struct PeerOut {
     profile: Profile,
     me: Speaker,
     external: bool,
-    /// The last form that was made.
-    last: Option<Formed>,
+    forms: LastForms,
 }
 
 impl Model for PeerOut {
@@ -34,7 +33,7 @@ impl Model for PeerOut {
 
     ghost view = { λ p. record { profile = p.profile; me = p.me; external = p.external } };
 
-    ghost invariant = { λ p. Remembers p.profile.as4 p.last };
+    ghost invariant = { λ p. Remembers p.profile.as4 p.forms };
 }
 
 impl PeerOut {
@@ -47,18 +46,18 @@ impl PeerOut {
             profile,
             me,
             external,
-            last: None,
+            forms: LastForms::new(),
         }
     }
 
     /// What the peer is sent of a route at a prefix ([`crate::as_sent`]). Its form is made, to know whether it fits, and
-    /// remembered: what follows at once, its message, makes none. Memory only for want of memory.
+    /// remembered: so [`formed`](PeerOut::formed) makes none where a change follows at once. Memory only for want of memory.
     pub fn sent(&mut self, prefix: Prefix, row: &Route) -> Result<Option<SentRoute>, Memory>
         ensures sent { IfOk result (λ sent. sent ≡ as_sent self.old.profile self.old.me self.old.external prefix row.now) }
         ensures same { self.new ≡ self.old }
     {
         let route = SentRoute::new(&self.me, self.external, row)?;
-        let size = remembered_size(&mut self.last, self.alloc, self.profile, &route)?;
+        let size = self.forms.remember(self.alloc, self.profile, &route)?;
         Ok(fitting(prefix, size, route))
     }
 
@@ -67,16 +66,16 @@ impl PeerOut {
         ensures { IfOk result (λ sent. sent ≡ as_sent self.now.profile self.now.me self.now.external prefix row.now) }
     {
         let route = SentRoute::new(&self.me, self.external, row)?;
-        let size = size(&self.last, self.alloc, self.profile, &route)?;
+        let size = self.forms.size(self.alloc, self.profile, &route)?;
         Ok(fitting(prefix, size, route))
     }
 
-    /// The attributes that the peer gets of a route that it is sent. Memory only for want of memory; none where it is the route
-    /// of the last form.
+    /// The attributes that the peer gets of a route that it is sent. Memory only for want of memory; none is taken where the form
+    /// is remembered.
     pub fn form(&self, route: &SentRoute) -> Result<SharedAttrs, Memory>
         ensures { IfOk result (λ attrs. attrs ≡ route.now) }
     {
-        form(&self.last, self.alloc, self.profile, route)
+        self.forms.form(self.alloc, route)
     }
 
     /// A change of what the peer is sent, with the attributes that it gets.
