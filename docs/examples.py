@@ -32,8 +32,8 @@ TOPICS = [
      'each_step med_within_an_as six_orders neighbour_as best_is_lost best_hop_is_lost best_in_walks best_without_routes '
      'quiet_below sixty_four_peers'),
     ('What peers are sent', 'docs/BGP.md, "What is sent".',
-     'quiet_exits slow_and_fast rules_edited_in_the_middle rules_of_a_down_peer same_rules_again too_long_to_send '
-     'one_octet_too_long'),
+     'quiet_exits unseen_outside slow_and_fast rules_edited_in_the_middle rules_of_a_down_peer same_rules_again '
+     'too_long_to_send one_octet_too_long'),
     ('Routes that are sent again', 'RFC 2918; docs/BGP.md, "Route refresh".',
      'refreshed refresh_between_turns refresh_during_losses refresh_under_new_rules sixty_four_refreshes '
      'refresh_of_a_wrong_length'),

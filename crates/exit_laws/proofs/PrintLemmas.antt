@@ -217,7 +217,7 @@ prefix_of_one p None None differs was is = absurd (differs refl)
 prefix_of_one p (Some b) after differs was is = was b refl
 prefix_of_one p None (Some a) differs was is = is a refl
 
-row_there : (form : Form) (peer : Neighbour) (rules : Option (List Rule)) (p : Network) (o : Option Route) (a : Attrs) → outgoing form peer rules p o ≡ Some a → (row : Route) × (o ≡ Some row) × (outgoing form peer rules p (Some row) ≡ Some a)
+row_there : (form : Form Attrs) (peer : Neighbour) (rules : Option (List Rule)) (p : Network) (o : Option Route) (a : Attrs) → outgoing form peer rules p o ≡ Some a → (row : Route) × (o ≡ Some row) × (outgoing form peer rules p (Some row) ≡ Some a)
 row_there form peer rules p None a e = absurd (let clash : ◌≡◌ {A = Option Attrs} None (Some a) = e in cc)
 row_there form peer rules p (Some row) a e = (row, refl, e)
 

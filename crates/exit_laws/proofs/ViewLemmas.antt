@@ -110,12 +110,12 @@ put_keeps_views change e e' puts = ap views_of puts.after
 -- ---- a turn
 
 -- the filter lets out nothing but prefixes of hosts
-let_out_hosts : (host kept : Bool) (form : Form) (p : Network) (later : Option Route) (a : Attrs) → formed form p (cond (not kept && host) later None) ≡ Some a → host ≡ true
+let_out_hosts : (host kept : Bool) (form : Form Attrs) (p : Network) (later : Option Route) (a : Attrs) → formed form p (cond (not kept && host) later None) ≡ Some a → host ≡ true
 let_out_hosts true kept form p later a e = refl
 let_out_hosts false true form p later a e = absurd (let clash : ◌≡◌ {A = Option Attrs} None (Some a) = e in cc)
 let_out_hosts false false form p later a e = absurd (let clash : ◌≡◌ {A = Option Attrs} None (Some a) = e in cc)
 
-pub hosts_alone : (form : Form) (peer : Neighbour) (rules : Option (List Rule)) (p : Network) (row : Option Route) (a : Attrs) → outgoing form peer rules p row ≡ Some a → is_host_prefix p ≡ true
+pub hosts_alone : (form : Form Attrs) (peer : Neighbour) (rules : Option (List Rule)) (p : Network) (row : Option Route) (a : Attrs) → outgoing form peer rules p row ≡ Some a → is_host_prefix p ≡ true
 hosts_alone form peer rules p None a e = absurd (let clash : ◌≡◌ {A = Option Attrs} None (Some a) = e in cc)
 hosts_alone form peer rules p (Some r) a e = let_out_hosts (is_host_prefix p) _ form p (let_by rules p (first_out peer r)) a e
 

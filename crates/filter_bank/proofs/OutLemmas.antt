@@ -1,5 +1,5 @@
 -- The laws of outgoing filters.
-use Rattle.std.proofs.Common.{◌≡◌, nat_eq, not, ◌&&◌, ◌||◌, Bool, true, false, cond, Option, Some, None, refl, sym, ap, ◌∙◌, arith}
+use Rattle.std.proofs.Common.{◌≡◌, nat_eq, not, ◌&&◌, ◌||◌, Bool, true, false, cond, List, Option, Some, None, refl, sym, ap, ◌∙◌, arith}
 use Rattle.std.proofs.lemmas.Bool.Decides.{nat_tests}
 use Rattle.addr4.specs.Prefixes.{Network}
 use Rattle.bgp_attr.specs.Hosts.{is_host_prefix}
@@ -7,17 +7,19 @@ use Rattle.bgp_attr.specs.declared.attrs.Attrs.{Attrs}
 use Rattle.bgp_attr.specs.declared.route.Route.{Route}
 use Rattle.bgp_attr.specs.declared.speaker.Neighbour.{Neighbour}
 use Rattle.link_change.proofs.RowLemmas.{same_function}
+use Rattle.pass_core.specs.Split.{MakesNone}
+use Rattle.policy_rules.specs.declared.rule.Rule.{Rule}
 use Rattle.filter_bank.specs.Outgoing.{Form, is_kept_from, may_go, first_out, let_by, formed, outgoing}
-use Rattle.filter_bank.specs.OutLaws.{NothingOfNothing, NothingAtFirst, OnlyWhatMayGo}
+use Rattle.filter_bank.specs.OutLaws.{NothingAtFirst, OnlyWhatMayGo}
 
-pub makes_none_out : NothingOfNothing
+pub makes_none_out : {R : Type 0} (form : Form R) (peer : Neighbour) (rules : Option (List Rule)) → MakesNone (outgoing form peer rules)
 makes_none_out form peer rules q = refl
 
-bare : (form : Form) (p : Network) (may : Bool) → formed form p (cond may None None) ≡ None
+bare : (form : Form Attrs) (p : Network) (may : Bool) → formed form p (cond may None None) ≡ None
 bare form p true = refl
 bare form p false = refl
 
-nothing_by_none : (form : Form) (peer : Neighbour) (p : Network) (row : Option Route) → outgoing form peer None p row ≡ None
+nothing_by_none : (form : Form Attrs) (peer : Neighbour) (p : Network) (row : Option Route) → outgoing form peer None p row ≡ None
 nothing_by_none form peer p None = refl
 nothing_by_none form peer p (Some r) = bare form p (may_go peer p r)
 
@@ -38,7 +40,7 @@ neither false false z h = (refl, λ _ e. let f : false ≡ true = e in cc)
 not_kept : (peer : Neighbour) (o : Option Neighbour) (from : Neighbour) → is_kept_from peer o ≡ false → o ≡ Some from → (nat_eq from.number peer.number || (from.internal && peer.internal)) ≡ false
 not_kept peer o from free is = sym (ap (is_kept_from peer) is) ∙ free
 
-went : (form : Form) (p : Network) (may : Bool) (later : Option Route) (a : Attrs) → formed form p (cond may later None) ≡ Some a → may ≡ true
+went : (form : Form Attrs) (p : Network) (may : Bool) (later : Option Route) (a : Attrs) → formed form p (cond may later None) ≡ Some a → may ≡ true
 went form p true later a e = refl
 went form p false later a e = absurd (let f : None ≡ Some a = e in cc)
 

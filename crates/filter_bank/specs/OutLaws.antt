@@ -13,12 +13,12 @@ use Rattle.filter_bank.specs.Outgoing.{Form, outgoing, first_walk}
 
 -- Where no row is above, none is sent: so what holds of all walks holds of these.
 abbrev pub NothingOfNothing : Type 0
-NothingOfNothing = (form : Form) (peer : Neighbour) (rules : Option (List Rule)) → MakesNone (outgoing form peer rules)
+NothingOfNothing = (form : Form Attrs) (peer : Neighbour) (rules : Option (List Rule)) → MakesNone (outgoing form peer rules)
 
 -- A session begins with no row sent, whatever its rules.
 abbrev pub NothingAtFirst : Type 0
 NothingAtFirst =
-    (form : Form) (peer : Neighbour) (rules : List Rule) (upper : Rows Route) → passed_rows (outgoing form peer) (first_walk rules) upper ≡ no_rows
+    (form : Form Attrs) (peer : Neighbour) (rules : List Rule) (upper : Rows Route) → passed_rows (outgoing form peer) (first_walk rules) upper ≡ no_rows
 
 -- the peer may get the route
 pub record MayGo (peer : Neighbour) (p : Network) (r : Route) : Type 0 where
@@ -29,5 +29,5 @@ pub record MayGo (peer : Neighbour) (p : Network) (r : Route) : Type 0 where
 -- Whatever the rules, only such routes are sent.
 abbrev pub OnlyWhatMayGo : Type 0
 OnlyWhatMayGo =
-    (form : Form) (peer : Neighbour) (rules : Option (List Rule)) (p : Network) (r : Route) (a : Attrs)
+    (form : Form Attrs) (peer : Neighbour) (rules : Option (List Rule)) (p : Network) (r : Route) (a : Attrs)
     → outgoing form peer rules p (Some r) ≡ Some a → MayGo peer p r

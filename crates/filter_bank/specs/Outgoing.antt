@@ -2,16 +2,15 @@
 use Rattle.std.specs.Prelude.{◌==◌, not, ◌&&◌, ◌||◌, Bool, false, if◌then◌else◌, List, Option, Some, None}
 use Rattle.addr4.specs.Prefixes.{Network}
 use Rattle.bgp_attr.specs.Hosts.{is_host_prefix}
-use Rattle.bgp_attr.specs.declared.attrs.Attrs.{Attrs}
 use Rattle.bgp_attr.specs.declared.route.Route.{Route}
 use Rattle.bgp_attr.specs.declared.speaker.Neighbour.{Neighbour}
 use Rattle.policy_rules.specs.declared.rule.Rule.{Rule}
 use Rattle.policy_rules.specs.Verdicts.{judged_by}
 use Rattle.pass_core.specs.Passed.{Passed, begun}
 
--- the form in which a route is sent at a prefix, or none where it can't be
-abbrev pub Form : Type 0
-Form = Network → Route → Option Attrs
+-- what is sent of a route at a prefix, or none where it can't be
+abbrev pub Form : Type 0 → Type 0
+Form R = Network → Route → Option R
 
 -- the route came from the peer itself, or from another internal peer where this one is internal too (section 9.2)
 abbrev pub is_kept_from : Neighbour → Option Neighbour → Bool
@@ -36,12 +35,12 @@ abbrev pub let_out : Neighbour → Option (List Rule) → Network → Option Rou
 let_out peer rules p None = None
 let_out peer rules p (Some r) = if may_go peer p r then let_by rules p (first_out peer r) else None
 
-abbrev pub formed : Form → Network → Option Route → Option Attrs
+abbrev pub formed : {R : Type 0} → Form R → Network → Option Route → Option R
 formed form p None = None
 formed form p (Some r) = form p r
 
 -- what the filter makes of the route at a prefix, by rules, or by none
-abbrev pub outgoing : Form → Neighbour → Option (List Rule) → Network → Option Route → Option Attrs
+abbrev pub outgoing : {R : Type 0} → Form R → Neighbour → Option (List Rule) → Network → Option Route → Option R
 outgoing form peer rules p row = formed form p (let_out peer rules p row)
 
 -- a session begins: nothing is sent, and a walk brings its rules into force

@@ -7,8 +7,8 @@
 //!
 //! The outgoing filter (RFC 4271, sections 9.1.3 and 9.2): a route doesn't go back to the peer that it came from, nor from one
 //! internal peer to another, nor does a prefix of multicast or of class E go out. An external peer gets no
-//! MULTI_EXIT_DISC but one that rules set. Then the rules judge the route, and it is put into the form in which the peer gets
-//! it ([`Sent`]). A session begins with nothing sent, and a walk to its rules.
+//! MULTI_EXIT_DISC but one that rules set. Then the rules judge the route, and what the peer is sent of it is asked
+//! ([`Sent`]). A session begins with nothing sent, and a walk to its rules.
 //!
 //! New rules hold nowhere at first: a walk over the prefixes of the link above brings them into force, a candidate each
 //! turn, and sends the change that this makes. At any moment a lookup and a message at one prefix go by the same rules,

@@ -2,6 +2,7 @@
 
 ghost use Rattle.std.specs.Prelude.{◌≡◌, IfOk, OnErr, Some, is_some};
 ghost use Rattle.addr4.specs.Places.{key_of};
+ghost use Rattle.bgp_attr.specs.declared.attrs.Attrs.{Attrs};
 ghost use Rattle.bgp_attr.specs.declared.speaker.Neighbour.{Neighbour};
 ghost use Rattle.link_change.specs.Rows.{IsNextCandidate, CoversRows};
 ghost use Rattle.pass_core.specs.Passed.{edited, holds_up, waits};
@@ -11,7 +12,7 @@ ghost use Rattle.filter_bank.specs.Outgoing.{Form, outgoing, first_walk};
 use crate::outgoing::{asked_row, sent_change, sent_row};
 use crate::sent::Sent;
 use addr4::{Memory, Place, Prefix};
-use bgp_attr::{Neighbour, Route, SharedAttrs};
+use bgp_attr::{Neighbour, Route};
 use link_change::{Change, Turn, Upstream};
 use pass_core::Pass;
 use policy_rules::Rules;
@@ -82,7 +83,7 @@ impl OutFilter {
         change: Change<Route>,
         form: &mut S,
         peer: &Neighbour,
-    ) -> Result<Option<Change<SharedAttrs>>, Memory>
+    ) -> Result<Option<Change<S::Row>>, Memory>
         ensures sent { IfOk result (IsPassedOn (outgoing (S.form form.old) peer.now) self.now change) }
         ensures same { form.new ≡ form.old }
     {
@@ -100,7 +101,7 @@ impl OutFilter {
         upper: &U,
         form: &mut S,
         peer: &Neighbour,
-    ) -> Result<Turn<SharedAttrs>, Memory>
+    ) -> Result<Turn<S::Row>, Memory>
         ensures taken { IfOk result (IsWalked (outgoing (S.form form.old) peer.now) (U.candidates upper.now) (U.rows upper.now) self.old self.new) }
         ensures same { form.new ≡ form.old }
         ensures memory { OnErr result (self.new ≡ self.old) }
@@ -127,7 +128,7 @@ impl OutFilter {
         prefix: Prefix,
         form: &S,
         peer: &Neighbour,
-    ) -> Result<Option<SharedAttrs>, Memory>
+    ) -> Result<Option<S::Row>, Memory>
         ensures { IfOk result (λ row. row ≡ passed_rows (outgoing (S.form form.now) peer.now) self.now (U.rows upper.now) prefix) }
     {
         let row = upper.asked(&prefix)?;
@@ -141,7 +142,7 @@ impl OutFilter {
         row: Option<Route>,
         form: &S,
         peer: &Neighbour,
-    ) -> Result<Option<SharedAttrs>, Memory>
+    ) -> Result<Option<S::Row>, Memory>
         ensures { IfOk result (λ sent. sent ≡ passed (outgoing (S.form form.now) peer.now) self.now prefix row) }
     {
         asked_row(form, peer, self.pass.at(prefix), prefix, row)
@@ -155,7 +156,7 @@ impl OutFilter {
         after: Place,
     ) -> Option<Prefix>
         ensures next { IsNextCandidate (U.candidates upper.now) (key_of after) result }
-        ensures covers { (form : Form) (peer : Neighbour) → CoversRows (U.candidates upper.now) (passed_rows (outgoing form peer) self.now (U.rows upper.now)) }
+        ensures covers { (form : Form Attrs) (peer : Neighbour) → CoversRows (U.candidates upper.now) (passed_rows (outgoing form peer) self.now (U.rows upper.now)) }
     {
         upper.next_candidate(&after)
     }

@@ -6,7 +6,7 @@ ghost use Rattle.filter_bank.specs.Outgoing.{is_kept_from, may_go, first_out, le
 
 use crate::sent::Sent;
 use addr4::{Memory, Prefix, Row};
-use bgp_attr::{Neighbour, Route, SharedAttrs, is_host_prefix};
+use bgp_attr::{Neighbour, Route, is_host_prefix};
 use link_change::Change;
 use policy_rules::{Rules, judge};
 
@@ -65,7 +65,7 @@ pub(crate) fn sent_row<S: Sent>(
     rules: &Option<Rules>,
     prefix: Prefix,
     row: Option<Route>,
-) -> Result<Option<SharedAttrs>, Memory>
+) -> Result<Option<S::Row>, Memory>
     ensures sent { IfOk result (λ sent. sent ≡ outgoing (S.form form.old) peer.now rules.now prefix row) }
     ensures same { form.new ≡ form.old }
 {
@@ -82,7 +82,7 @@ pub(crate) fn sent_before<S: Sent>(
     rules: &Option<Rules>,
     prefix: Prefix,
     row: &Option<Route>,
-) -> Result<Option<SharedAttrs>, Memory>
+) -> Result<Option<S::Row>, Memory>
     ensures sent { IfOk result (λ sent. sent ≡ outgoing (S.form form.old) peer.now rules.now prefix row.now) }
     ensures same { form.new ≡ form.old }
 {
@@ -100,7 +100,7 @@ pub(crate) fn sent_change<S: Sent>(
     latter: &Option<Rules>,
     prefix: Prefix,
     row: Option<Route>,
-) -> Result<Option<Change<SharedAttrs>>, Memory>
+) -> Result<Option<Change<S::Row>>, Memory>
     ensures sent { IfOk result (IsChangeOf prefix (outgoing (S.form form.old) peer.now former.now prefix row) (outgoing (S.form form.old) peer.now latter.now prefix row)) }
     ensures same { form.new ≡ form.old }
 {
@@ -116,7 +116,7 @@ pub(crate) fn asked_row<S: Sent>(
     rules: &Option<Rules>,
     prefix: Prefix,
     row: Option<Route>,
-) -> Result<Option<SharedAttrs>, Memory>
+) -> Result<Option<S::Row>, Memory>
     ensures { IfOk result (λ sent. sent ≡ outgoing (S.form form.now) peer.now rules.now prefix row) }
 {
     match let_out(peer, rules, prefix, row) {

@@ -1,25 +1,26 @@
-//! The form in which routes are sent.
+//! What a peer is sent of routes.
 
 ghost use Rattle.std.specs.Prelude.{◌≡◌, IfOk, Option};
 ghost use Rattle.addr4.specs.Prefixes.{Network};
-ghost use Rattle.bgp_attr.specs.declared.attrs.Attrs.{Attrs};
 ghost use Rattle.bgp_attr.specs.declared.route.Route.{Route};
 
-use addr4::{Memory, Prefix};
-use bgp_attr::{Route, SharedAttrs};
+use addr4::{Memory, Prefix, Row};
+use bgp_attr::Route;
 
-/// Puts routes into the form in which one peer is sent them. What it remembers of the last routes, so that routes that are
-/// sent alike share their attributes, changes no answer.
+/// Tells what one peer is sent of routes. What it remembers of the last ones changes no answer.
 pub trait Sent {
-    /// What is sent of a route at a prefix; nothing where it doesn't fit into a message.
-    ghost form: { Self → Network → Route → Option Attrs };
+    /// What the peer is sent of a route. Two are equal where the peer gets the same.
+    type Row: Row;
 
-    /// A route in its form, to be sent. Memory only for want of memory.
-    fn sent(&mut self, p: &Prefix, row: &Route) -> Result<Option<SharedAttrs>, Memory>
+    /// What is sent of a route at a prefix; nothing where it doesn't fit into a message.
+    ghost form: { Self → Network → Route → Option Self.Row };
+
+    /// What the peer is sent of a route. Memory only for want of memory.
+    fn sent(&mut self, p: &Prefix, row: &Route) -> Result<Option<Self::Row>, Memory>
         ensures sent { IfOk result (λ sent. sent ≡ form self.old p.now row.now) }
         ensures same { self.new ≡ self.old };
 
     /// The same for a lookup: nothing more is remembered.
-    fn asked(&self, p: &Prefix, row: &Route) -> Result<Option<SharedAttrs>, Memory>
+    fn asked(&self, p: &Prefix, row: &Route) -> Result<Option<Self::Row>, Memory>
         ensures { IfOk result (λ sent. sent ≡ form self.now p.now row.now) };
 }

@@ -24,26 +24,26 @@ use Rattle.out_chain.specs.Chains.{OutChained, form_of, made_by, RowsMayBeHeard}
 -- ---- what is sent of a route is the form of one with its attributes
 
 -- a route that has these attributes and is sent so
-abbrev IsOf : Form → Network → Route → Attrs → Type 0
+abbrev IsOf : Form Attrs → Network → Route → Attrs → Type 0
 IsOf form p row a = (r : Route) × (form p r ≡ Some a) × (r.attrs ≡ row.attrs)
 
 first_keeps : (peer : Neighbour) (row : Route) → (first_out peer row).attrs ≡ row.attrs
 first_keeps peer row = elim peer.internal as (λ b. (cond b row (record row { med = None })).attrs ≡ row.attrs) [ true ↦ refl | false ↦ refl ]
 
-of_judged : (form : Form) (p : Network) (row first : Route) (judged : Option Route) (a : Attrs) → first.attrs ≡ row.attrs → IfSome judged (KeepsSource first) → formed form p judged ≡ Some a → IsOf form p row a
+of_judged : (form : Form Attrs) (p : Network) (row first : Route) (judged : Option Route) (a : Attrs) → first.attrs ≡ row.attrs → IfSome judged (KeepsSource first) → formed form p judged ≡ Some a → IsOf form p row a
 of_judged form p row first None a keeps judged e = absurd (let clash : ◌≡◌ {A = Option Attrs} None (Some a) = e in cc)
 of_judged form p row first (Some r) a keeps judged e = (r, e, judged.attrs ∙ keeps)
 
-of_rules : (form : Form) (p : Network) (row first : Route) (rules : Option (List Rule)) (a : Attrs) → first.attrs ≡ row.attrs → formed form p (let_by rules p first) ≡ Some a → IsOf form p row a
+of_rules : (form : Form Attrs) (p : Network) (row first : Route) (rules : Option (List Rule)) (a : Attrs) → first.attrs ≡ row.attrs → formed form p (let_by rules p first) ≡ Some a → IsOf form p row a
 of_rules form p row first None a keeps e = absurd (let clash : ◌≡◌ {A = Option Attrs} None (Some a) = e in cc)
 of_rules form p row first (Some rules) a keeps e =
     of_judged form p row first (judged_by rules p first) a keeps (judged_keeps p rules first (judged_by rules p first) (answer_is_judged rules p first)) e
 
-of_let : (form : Form) (p : Network) (row : Route) (may : Bool) (later : Option Route) (a : Attrs) → (formed form p later ≡ Some a → IsOf form p row a) → formed form p (cond may later None) ≡ Some a → IsOf form p row a
+of_let : (form : Form Attrs) (p : Network) (row : Route) (may : Bool) (later : Option Route) (a : Attrs) → (formed form p later ≡ Some a → IsOf form p row a) → formed form p (cond may later None) ≡ Some a → IsOf form p row a
 of_let form p row true later a by e = by e
 of_let form p row false later a by e = absurd (let clash : ◌≡◌ {A = Option Attrs} None (Some a) = e in cc)
 
-is_of : (form : Form) (peer : Neighbour) (rules : Option (List Rule)) (p : Network) (row : Route) (a : Attrs) → outgoing form peer rules p (Some row) ≡ Some a → IsOf form p row a
+is_of : (form : Form Attrs) (peer : Neighbour) (rules : Option (List Rule)) (p : Network) (row : Route) (a : Attrs) → outgoing form peer rules p (Some row) ≡ Some a → IsOf form p row a
 is_of form peer rules p row a e =
     of_let form p row (may_go peer p row) (let_by rules p (first_out peer row)) a (of_rules form p row (first_out peer row) rules a (first_keeps peer row)) e
 

@@ -96,24 +96,23 @@ said_all j mid end now outf adv line mid_is end_is now_is =
     ∙ ap (λ (m : Journaled). with_lines m (as_lines adv ++ line ∷ [])) mid_is ∙ with_lines_append j (as_lines outf) (as_lines adv ++ line ∷ [])
     ∙ ap (with_lines j) (sym (append_assoc (as_lines outf) (as_lines adv) (line ∷ [])) ∙ ap (λ (l : List Line). l ++ line ∷ []) (sym (as_lines_append outf adv)))
 
--- the lines of a change that is said
-pub said_lines : (c v : OutChained) → v ≡ c → (sent : Change Attrs) (n : ℕ) (octets : List ℕ) (j mid now : Journaled) → n ≡ v.peer.number → octets ≡ message_octets v.exit.profile.as4 sent
-    → mid ≡ with_entries j (valued_change attrs_value (Adv n v.session) sent) → now ≡ with_lines mid (lines.Out n octets ∷ [])
-    → now ≡ with_lines (with_entries j (valued_change attrs_value (Adv c.peer.number c.session) sent)) (message_lines c (Some sent))
-said_lines c v is sent n octets j mid now number told adv out =
-    subst (λ (x : OutChained). now ≡ with_lines (with_entries j (valued_change attrs_value (Adv x.peer.number x.session) sent)) (message_lines x (Some sent))) is (
-    out ∙ ap (λ (m : Journaled). with_lines m (lines.Out n octets ∷ [])) adv
-    ∙ ap (λ (m : ℕ). with_lines (with_entries j (valued_change attrs_value (Adv m v.session) sent)) (lines.Out m octets ∷ [])) number
-    ∙ ap (λ (o : List ℕ). with_lines (with_entries j (valued_change attrs_value (Adv v.peer.number v.session) sent)) (lines.Out v.peer.number o ∷ [])) told)
+-- the lines of a change that is said: its entries, and the message
+pub said_lines : (c v : OutChained) → v ≡ c → (sent : Change Attrs) (n : ℕ) (octets : List ℕ) (j mid end now : Journaled) → n ≡ v.peer.number → octets ≡ message_octets v.exit.profile.as4 sent
+    → mid ≡ with_entries j (valued_change attrs_value (Outf n v.session) sent) → end ≡ with_entries mid (valued_change attrs_value (Adv n v.session) sent) → now ≡ with_lines end (lines.Out n octets ∷ [])
+    → now ≡ with_lines j (said_of c [] (Some sent))
+said_lines c v is sent n octets j mid end now number told outf adv out = subst (λ (x : OutChained). now ≡ with_lines j (said_of x [] (Some sent))) is (
+    let Entries : ℕ → List (Entry Value) = λ m. valued_change attrs_value (Outf m v.session) sent ++ valued_change attrs_value (Adv m v.session) sent in
+    said_all j mid end now (valued_change attrs_value (Outf n v.session) sent) (valued_change attrs_value (Adv n v.session) sent) (lines.Out n octets) outf adv out
+    ∙ ap (λ (m : ℕ). with_lines j (map (λ e. lines.Journal e) (Entries m) ++ lines.Out m octets ∷ [])) number
+    ∙ ap (λ (o : List ℕ). with_lines j (map (λ e. lines.Journal e) (Entries v.peer.number) ++ lines.Out v.peer.number o ∷ [])) told)
 
--- the lines of what the filter sends, one after another
-pub sent_lines : (c v : OutChained) → v ≡ c → (change sent : Change Attrs) (n : ℕ) (j mid now : Journaled) → n ≡ v.peer.number → sent ≡ change → mid ≡ with_entries j (valued_change attrs_value (Outf n v.session) change)
-    → now ≡ with_lines (with_entries mid (valued_change attrs_value (Adv v.peer.number v.session) sent)) (message_lines v (Some sent)) → now ≡ with_lines j (said_of c [] (Some change))
-sent_lines c v is change sent n j mid now number same outf out = subst (λ (x : OutChained). now ≡ with_lines j (said_of x [] (Some change))) is (
-    let adv = valued_change attrs_value (Adv v.peer.number v.session) change in
-    said_all j mid (with_entries mid adv) now (valued_change attrs_value (Outf v.peer.number v.session) change) adv (lines.Out v.peer.number (message_octets v.exit.profile.as4 change))
-    (outf ∙ ap (λ (m : ℕ). with_entries j (valued_change attrs_value (Outf m v.session) change)) number) refl
-    (out ∙ ap (λ (s : Change Attrs). with_lines (with_entries mid (valued_change attrs_value (Adv v.peer.number v.session) s)) (message_lines v (Some s))) same))
+-- those of the change that it was formed of
+pub sent_lines : (c v : OutChained) → v ≡ c → (change sent : Change Attrs) (j now : Journaled) → sent ≡ change → now ≡ with_lines j (said_of v [] (Some sent)) → now ≡ with_lines j (said_of c [] (Some change))
+sent_lines c v is change sent j now same said =
+    subst (λ (x : OutChained). now ≡ with_lines j (said_of x [] (Some change))) is (said ∙ ap (λ (s : Change Attrs). with_lines j (said_of v [] (Some s))) same)
+
+pub sent_told : (c v : OutChained) → v ≡ c → (change sent : Change Attrs) → sent ≡ change → IsTold v.exit sent → IsTold c.exit change
+sent_told c v is change sent same told = subst (λ (x : OutChained). IsTold x.exit change) is (subst (IsTold v.exit) same told)
 
 -- ---- what the reader hasn't taken, before and after a turn
 module _ (queued left : Queued Route) (reader : ℕ) where

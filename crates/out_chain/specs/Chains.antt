@@ -58,7 +58,7 @@ out_chained_code e n f a =
 -- ---- rows
 
 -- the form in which the peer is sent a route at a prefix
-abbrev pub form_of : Exit → Form
+abbrev pub form_of : Exit → Form Attrs
 form_of exit p row = as_sent exit.profile exit.me exit.external p row
 
 -- what the outgoing filter makes of a row at a prefix, by rules, or by none

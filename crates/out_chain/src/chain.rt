@@ -26,7 +26,7 @@ use fanout_queue::{Queue, Reader};
 use filter_bank::OutFilter;
 use journal_text::{Entry, Journal, Line, Link, Value};
 use link_change::{Change, Turn, Upstream};
-use peer_out::PeerOut;
+use peer_out::{PeerOut, SentRoute};
 use policy_rules::Rules;
 use std::alloc::Global;
 use std::marker::Model;
@@ -39,7 +39,7 @@ pub struct OutChain {
     session: u32,
     reader: Reader,
     filter: OutFilter,
-    pub(crate) sent: Cache<SharedAttrs>,
+    pub(crate) sent: Cache<SentRoute>,
     pub(crate) to_peer: ToPeer,
     /// The place of the walk of a refresh, if one is on.
     pub(crate) refresh: Option<Place>,
@@ -194,10 +194,10 @@ impl OutChain {
     }
 
     // A change of what the filter makes is kept, and said to the peer. The walk of a refresh ends where no row lies beyond its place
-    // any more.
+    // any more. What is printed and said is formed once.
     fn send(
         &mut self,
-        change: Change<SharedAttrs>,
+        change: Change<SentRoute>,
         journal: &mut Journal,
     ) -> Result<Change<SharedAttrs>, Memory>
         requires { ForSome change.after (IsSentOf self.old.exit.profile self.old.exit.external change.prefix) }
@@ -206,10 +206,9 @@ impl OutChain {
         ensures lines { OnOk result (journal.new ≡ with_lines journal.old (said_of self.old [] (Some change))) }
         ensures told { OnOk result (IsTold self.old.exit change) }
     {
-        let number = u32::from(self.peer.number);
-        journal.push_change(Link::Outf(number, self.session), &change)?;
-        let sent = self.sent.take_in(change)?;
+        self.sent.keep(change.prefix, &change.after)?;
         self.refresh = still_on(&self.sent, self.refresh);
+        let sent = self.to_peer.out.formed(&change)?;
         match self.say(&sent, journal) {
             Ok(()) => Ok(sent),
             Err(fault) => {
@@ -219,14 +218,15 @@ impl OutChain {
         }
     }
 
-    // A change goes out on `adv.J.S`, and is said to the peer.
+    // A change goes out on `outf.J.S` and `adv.J.S`, and is said to the peer.
     fn say(&mut self, sent: &Change<SharedAttrs>, journal: &mut Journal) -> Result<(), Memory>
         requires { ForSome sent.now.after (IsSentOf self.old.exit.profile self.old.exit.external sent.now.prefix) }
         ensures same { OnOk result (self.new ≡ self.old) }
-        ensures lines { OnOk result (journal.new ≡ with_lines (with_entries journal.old (valued_change attrs_value (names.Adv self.old.peer.number self.old.session) sent.now)) (message_lines self.old (Some sent.now))) }
+        ensures lines { OnOk result (journal.new ≡ with_lines journal.old (said_of self.old [] (Some sent.now))) }
         ensures told { OnOk result (IsTold self.old.exit sent.now) }
     {
         let number = u32::from(self.peer.number);
+        journal.push_change(Link::Outf(number, self.session), sent)?;
         journal.push_change(Link::Adv(number, self.session), sent)?;
         let octets = self.to_peer.out.message(sent)?;
         journal.push_line(Line::Out(number, Octets::from_vec(octets)))?;
@@ -296,13 +296,23 @@ impl OutChain {
             Link::Outf(_, _) => {
                 let row = queue.asked(&self.reader, best, p)?;
                 let sent = self.filter.made(p, row, &self.to_peer, &self.peer)?;
-                Ok(attrs_value(sent))
+                self.attrs_value(&sent)
             }
             Link::Adv(_, _) => {
                 let sent = Upstream::asked(&self.sent, &p)?;
-                Ok(attrs_value(sent))
+                self.attrs_value(&sent)
             }
             _ => unreachable!(),
+        }
+    }
+
+    // A row of `outf.J.S` or `adv.J.S`, as a value.
+    fn attrs_value(&self, row: &Option<SentRoute>) -> Result<Option<Value>, Memory>
+        ensures { IfOk result (λ value. value ≡ option_map attrs_value row.now) }
+    {
+        match row {
+            Some(row) => Ok(Some(Value::Attrs(self.to_peer.out.form(row)?))),
+            None => Ok(None),
         }
     }
 
@@ -376,16 +386,6 @@ fn route_value(row: Option<Route>) -> Option<Value>
 {
     match row {
         Some(row) => Some(Value::Route(row)),
-        None => None,
-    }
-}
-
-// One of `outf.J.S` or `adv.J.S`.
-fn attrs_value(row: Option<SharedAttrs>) -> Option<Value>
-    ensures { result ≡ option_map attrs_value row }
-{
-    match row {
-        Some(row) => Some(Value::Attrs(row)),
         None => None,
     }
 }

@@ -11,13 +11,14 @@ ghost use Rattle.out_chain.specs.Steps.{message_lines, IsTold, announcing, IsRes
 
 use crate::chain::OutChain;
 use addr4::{Memory, Place, Prefix};
-use bgp_attr::{Octets, SharedAttrs};
+use bgp_attr::Octets;
 use cache_stage::Cache;
 use journal_text::{Journal, Line};
 use link_change::Upstream;
+use peer_out::SentRoute;
 
 // A walk at a place is on where a row lies beyond it.
-fn walk_on(sent: &Cache<SharedAttrs>, place: Place) -> Option<Place>
+fn walk_on(sent: &Cache<SentRoute>, place: Place) -> Option<Place>
     ensures { option_map key_of result ≡ walk_on sent.now (key_of place) }
 {
     match Upstream::next_candidate(sent, &place) {
@@ -27,7 +28,7 @@ fn walk_on(sent: &Cache<SharedAttrs>, place: Place) -> Option<Place>
 }
 
 // Whether the walk that was on goes on. It looks only where one was.
-pub(crate) fn still_on(sent: &Cache<SharedAttrs>, walk: Option<Place>) -> Option<Place>
+pub(crate) fn still_on(sent: &Cache<SentRoute>, walk: Option<Place>) -> Option<Place>
     ensures { option_map key_of result ≡ still_on sent.now (option_map key_of walk) }
 {
     match walk {

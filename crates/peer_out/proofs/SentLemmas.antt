@@ -21,18 +21,9 @@ use Rattle.wire_laws.proofs.Prepended.{prepended_is_readable, readable_fits}
 use Rattle.wire_laws.proofs.SaidAgain.{internal_reads}
 use Rattle.wire_laws.proofs.SpelledMessages.{announcement_is_read, withdrawal_is_read}
 use Rattle.link_change.specs.declared.change.Change.{Change}
-use Rattle.peer_out.specs.Forms.{sent_form, AreSentAlike}
+use Rattle.peer_out.specs.Forms.{sent_form}
 use Rattle.peer_out.specs.Changes.{saying, message_octets, IsReadAs, MayBeHeard, IsSender, IsSentOf, HasNumbers, CanBeRead}
 use Rattle.peer_out.specs.Laws.{bare_attrs}
-
--- routes that are sent alike have one form
-pub same_form : (me : Speaker) (external : Bool) (row other : Route) → AreSentAlike row other → sent_form me external row ≡ sent_form me external other
-same_form me external row other alike =
-    let attrs = alike.attrs in
-    let pref = alike.pref in
-    let med = alike.med in
-    let prepend = alike.prepend in
-    cc
 
 form_readable : (profile : Profile) (external : Bool) (me : Speaker) (row : Route) → IsSender profile me → MayBeHeard profile row.attrs → HasNumbers (sent_form me external row) → IsReadable profile external (sent_form me external row)
 form_readable profile true me row sender heard numbers = record {

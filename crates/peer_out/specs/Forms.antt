@@ -28,9 +28,6 @@ abbrev pub as_sent : Profile → Speaker → Bool → Network → Route → Opti
 as_sent profile me external p row =
     if nat_le (announcement_length profile.as4 p (sent_form me external row)) 4096 then Some (sent_form me external row) else None
 
--- routes that are sent alike, whoever they are from
-pub record AreSentAlike (row other : Route) : Type 0 where
-  pub attrs : row.attrs ≡ other.attrs
-  pub pref : row.pref ≡ other.pref
-  pub med : row.med ≡ other.med
-  pub prepend : row.prepend ≡ other.prepend
+-- What is sent at a prefix of a form: the form where its announcement fits.
+abbrev pub fitting : Bool → Network → Attrs → Option Attrs
+fitting as4 p form = if nat_le (announcement_length as4 p form) 4096 then Some form else None

@@ -1,15 +1,20 @@
-//! What a peer is sent: a route's attributes in the form in which they go out, and the UPDATE that says a change of them.
+//! What a peer is sent: a route, its attributes in the form in which they go out, and the UPDATE that says a change of them.
 //!
 //! [`as_sent`] gives a route's attributes as a peer gets them (RFC 4271, sections 5.1 and 9.1.3): an external peer gets the local
 //! AS in front of the path, the local address as the next hop and no LOCAL_PREF, an internal one the degree of preference.
-//! A route whose announcement is longer than a message isn't sent. [`PeerOut`] answers the same for one peer, and remembers the
-//! last form: routes that came with one UPDATE and are treated alike are sent with one value that they share.
+//! A route whose announcement is longer than a message isn't sent.
+//!
+//! What is kept is the route itself ([`SentRoute`]): its attributes as they were received, shared with the table in, and the
+//! few words that the form takes from elsewhere. The form is made where it is needed, and contracts see it alone. So two are equal
+//! where the peer gets the same, though the routes may differ in what it doesn't get; that is told without making a form.
+//! [`PeerOut`] answers what one peer is sent, and remembers the last two forms that it made: those of the rows of a change.
 //!
 //! [`message`] gives the octets of a change of what a peer was sent, an announcement or a withdrawal of one prefix;
-//! [`announcement`] those of an announcement whose attributes are lent, the same. What is kept true: a neighbour that reads these octets reads that change and nothing else ([`the_peer_reads_the_change`]). It holds for
-//! every route whose attributes some neighbour may have said (`MayBeHeard`), which is kept of all live routes.
+//! [`announcement`] those of an announcement whose attributes are lent, the same. What is kept true: a neighbour that reads these
+//! octets reads that change and nothing else ([`the_peer_reads_the_change`]). It holds for every route whose attributes some
+//! neighbour may have said (`MayBeHeard`), which is kept of all live routes.
 //!
-//! The outgoing filter of a peer puts its routes into this form, the cache below it keeps what was sent, and the end of a peer's
+//! The outgoing filter of a peer asks what it is sent of each route, the cache below keeps what was sent, and the end of a peer's
 //! outgoing chain writes the messages.
 #![tactic(auto)]
 
@@ -17,6 +22,7 @@ mod form;
 mod laws;
 mod octets;
 mod peer;
+mod sent_route;
 
 pub use form::as_sent;
 pub use laws::{
@@ -25,3 +31,4 @@ pub use laws::{
 };
 pub use octets::{announcement, message};
 pub use peer::PeerOut;
+pub use sent_route::SentRoute;

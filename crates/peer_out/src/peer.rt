@@ -7,8 +7,9 @@ ghost use Rattle.bgp_wire.specs.Readable.{announcement};
 ghost use Rattle.bgp_wire.specs.Spelling.{update_octets};
 ghost use Rattle.peer_out.specs.Changes.{IsSentOf, IsReadAs, saying, message_octets};
 
-use crate::form::Formed;
+use crate::form::{LastForms, fitting};
 use crate::octets::{announcement, message};
+use crate::sent_route::SentRoute;
 use addr4::{Memory, Prefix};
 use bgp_attr::{Profile, Route, SharedAttrs, Speaker};
 use link_change::Change;
@@ -22,8 +23,7 @@ pub struct PeerOut {
     profile: Profile,
     me: Speaker,
     external: bool,
-    /// The last route that was sent, in its form.
-    last: Option<Formed>,
+    forms: LastForms,
 }
 
 impl Model for PeerOut {
@@ -33,7 +33,7 @@ impl Model for PeerOut {
 
     ghost view = { λ p. record { profile = p.profile; me = p.me; external = p.external } };
 
-    ghost invariant = { λ p. Remembers (record { profile = p.profile; me = p.me; external = p.external }) p.last };
+    ghost invariant = { λ p. Remembers p.profile.as4 p.forms };
 }
 
 impl PeerOut {
@@ -46,37 +46,58 @@ impl PeerOut {
             profile,
             me,
             external,
-            last: None,
+            forms: LastForms::new(),
         }
     }
 
-    /// What the peer is sent of a route at a prefix ([`crate::as_sent`]), and remembers its form: a route with equal attributes
-    /// and the same preference, metric and prepending that comes next shares the value. Memory only for want of memory.
-    pub fn sent(&mut self, prefix: Prefix, row: &Route) -> Result<Option<SharedAttrs>, Memory>
+    /// What the peer is sent of a route at a prefix ([`crate::as_sent`]). Its form is made, to know whether it fits, and
+    /// remembered: so [`formed`](PeerOut::formed) makes none where a change follows at once. Memory only for want of memory.
+    pub fn sent(&mut self, prefix: Prefix, row: &Route) -> Result<Option<SentRoute>, Memory>
         ensures sent { IfOk result (λ sent. sent ≡ as_sent self.old.profile self.old.me self.old.external prefix row.now) }
         ensures same { self.new ≡ self.old }
     {
-        if let Some(last) = &self.last
-            && last.is_alike(row)
-        {
-            return last.at(prefix);
-        }
-        let formed = Formed::new(self.alloc, self.profile, &self.me, self.external, row)?;
-        let sent = formed.at(prefix)?;
-        self.last = Some(formed);
-        Ok(sent)
+        let route = SentRoute::new(&self.me, self.external, row)?;
+        let size = self.forms.remember(self.alloc, self.profile, &route)?;
+        Ok(fitting(prefix, size, route))
     }
 
     /// The same without remembering more.
-    pub fn asked(&self, prefix: Prefix, row: &Route) -> Result<Option<SharedAttrs>, Memory>
+    pub fn asked(&self, prefix: Prefix, row: &Route) -> Result<Option<SentRoute>, Memory>
         ensures { IfOk result (λ sent. sent ≡ as_sent self.now.profile self.now.me self.now.external prefix row.now) }
     {
-        if let Some(last) = &self.last
-            && last.is_alike(row)
-        {
-            return last.at(prefix);
+        let route = SentRoute::new(&self.me, self.external, row)?;
+        let size = self.forms.size(self.alloc, self.profile, &route)?;
+        Ok(fitting(prefix, size, route))
+    }
+
+    /// The attributes that the peer gets of a route that it is sent. Memory only for want of memory; none is taken where the form
+    /// is remembered.
+    pub fn form(&self, route: &SentRoute) -> Result<SharedAttrs, Memory>
+        ensures { IfOk result (λ attrs. attrs ≡ route.now) }
+    {
+        self.forms.form(self.alloc, route)
+    }
+
+    /// A change of what the peer is sent, with the attributes that it gets.
+    pub fn formed(&self, change: &Change<SentRoute>) -> Result<Change<SharedAttrs>, Memory>
+        ensures { IfOk result (λ formed. formed ≡ change.now) }
+    {
+        let before = self.formed_row(&change.before)?;
+        let after = self.formed_row(&change.after)?;
+        Ok(Change {
+            prefix: change.prefix,
+            before,
+            after,
+        })
+    }
+
+    fn formed_row(&self, row: &Option<SentRoute>) -> Result<Option<SharedAttrs>, Memory>
+        ensures { IfOk result (λ formed. formed ≡ row.now) }
+    {
+        match row {
+            Some(route) => Ok(Some(self.form(route)?)),
+            None => Ok(None),
         }
-        Formed::new(self.alloc, self.profile, &self.me, self.external, row)?.at(prefix)
     }
 
     /// The octets that say a change to the peer ([`crate::message`]).
@@ -89,13 +110,14 @@ impl PeerOut {
         message(self.alloc, self.profile, change, self.external)
     }
 
-    /// The octets that announce a prefix to the peer with attributes that are lent ([`crate::announcement`]).
-    pub fn announcement(&self, prefix: Prefix, sent: &SharedAttrs) -> Result<Vec<u8>, Memory>
+    /// The octets that announce a prefix to the peer with a route that is lent ([`crate::announcement`]).
+    pub fn announcement(&self, prefix: Prefix, sent: &SentRoute) -> Result<Vec<u8>, Memory>
         requires { IsSentOf self.now.profile self.now.external prefix sent.now }
         ensures octets { IfOk result (λ octets. octets.items ≡ update_octets self.now.profile.as4 (announcement prefix sent.now)) }
         ensures short { IfOk result (λ octets. length octets.items ≤ 4096) }
         ensures reads { IfOk result (λ octets. IsReadAs self.now.profile self.now.external octets.items (announcement prefix sent.now)) }
     {
-        announcement(self.alloc, self.profile, prefix, sent, self.external)
+        let attrs = self.form(sent)?;
+        announcement(self.alloc, self.profile, prefix, &attrs, self.external)
     }
 }

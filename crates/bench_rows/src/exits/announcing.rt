@@ -74,7 +74,8 @@ fn announce(
         before: None,
         after: Some(sent),
     };
-    let octets = exit.message(&change)?;
+    let formed = exit.formed(&change)?;
+    let octets = exit.message(&formed)?;
     measured.add(octets.len() as u64);
     Ok(())
 }

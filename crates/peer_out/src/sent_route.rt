@@ -1,0 +1,189 @@
+//! A route as a peer is sent it.
+
+ghost use Rattle.std.specs.Prelude.{◌≡◌, ◌↔◌, ◌+◌, IfOk, IsTrue};
+ghost use Rattle.peer_out.specs.Forms.{sent_form};
+ghost use Rattle.peer_out.specs.Terms.{path_by, hop_by, pref_by, form_by, HaveOneWay, HaveOneRest};
+
+use addr4::{Addr, Memory, Row};
+use bgp_attr::{AsPath, Attrs, Route, SharedAttrs, Speaker};
+use std::marker::Model;
+
+/// What an external peer gets of this speaker.
+#[derive(Clone, Copy)]
+pub(crate) struct Outside {
+    /// The local AS.
+    asn: u32,
+    /// The local address.
+    addr: Addr,
+    /// How often more than once the local AS is put in front of the path, 0 to 16.
+    prepend: u8,
+}
+
+impl Outside {
+    /// How often the local AS is put in front of the path.
+    fn times(self) -> u32
+        ensures { result ≡ 1 + self.prepend }
+    {
+        1 + u32::from(self.prepend)
+    }
+}
+
+/// What a form takes from elsewhere than the route's attributes, by the kind of peer.
+#[derive(Clone, Copy)]
+pub(crate) enum Terms {
+    External(Outside),
+    /// With the degree of preference.
+    Internal(u32),
+}
+
+impl Terms {
+    fn new(me: &Speaker, external: bool, row: &Route) -> Terms
+        ensures { form_by result row.now.med row.now.attrs ≡ sent_form me.now external row.now }
+    {
+        if external {
+            Terms::External(Outside {
+                asn: me.asn,
+                addr: me.addr,
+                prepend: row.prepend,
+            })
+        } else {
+            Terms::Internal(row.pref)
+        }
+    }
+
+    fn path(self, path: &AsPath) -> Result<AsPath, Memory>
+        ensures { IfOk result (λ sent. sent ≡ path_by self path.now) }
+    {
+        match self {
+            Terms::External(outside) => path.prepended(outside.asn, outside.prepend),
+            Terms::Internal(_) => path.copy(),
+        }
+    }
+
+    fn next_hop(self, next_hop: Addr) -> Addr
+        ensures { result ≡ hop_by self next_hop }
+    {
+        match self {
+            Terms::External(outside) => outside.addr,
+            Terms::Internal(_) => next_hop,
+        }
+    }
+
+    fn local_pref(self) -> Option<u32>
+        ensures { result ≡ pref_by self }
+    {
+        match self {
+            Terms::External(_) => None,
+            Terms::Internal(pref) => Some(pref),
+        }
+    }
+}
+
+/// A route as a peer is sent it: the route that the rules let out, of which the attributes that the peer gets are made where
+/// they are needed. Contracts see these attributes, so two are equal where the peer gets the same of both. A table keeps one for
+/// each prefix that was sent: so it has 32 octets and owns nothing but its share of the attributes.
+#[derive(Drop)]
+pub struct SentRoute {
+    /// As they were received, shared with the table in.
+    attrs: SharedAttrs,
+    /// MULTI_EXIT_DISC, which rules may have set.
+    med: Option<u32>,
+    terms: Terms,
+}
+
+const _: () = prove!(size_of::<SentRoute>() <= 32);
+
+impl Model for SentRoute {
+    ghost use Rattle.bgp_attr.specs.declared.attrs.Attrs.{Attrs};
+
+    ghost Value = { Attrs };
+
+    ghost use Rattle.peer_out.specs.Terms.{form_by};
+
+    ghost view = { λ s. form_by s.terms s.med s.attrs };
+}
+
+impl SentRoute {
+    /// A route as it is sent to a peer, external or internal to this speaker. Takes no memory: the attributes are shared.
+    pub fn new(me: &Speaker, external: bool, row: &Route) -> Result<SentRoute, Memory>
+        ensures { IfOk result (λ sent. sent ≡ sent_form me.now external row.now) }
+    {
+        let attrs = row.attrs.copy()?;
+        let terms = Terms::new(me, external, row);
+        Ok(SentRoute {
+            attrs,
+            med: row.med,
+            terms,
+        })
+    }
+
+    /// The attributes that the peer gets. Memory only for want of memory.
+    pub fn form(&self) -> Result<Attrs, Memory>
+        ensures { IfOk result (λ form. form ≡ self.now) }
+    {
+        let attrs = self.attrs.attrs();
+        let path = self.terms.path(&attrs.path)?;
+        let unrecognized = attrs.unrecognized.copy()?;
+        Ok(Attrs {
+            origin: attrs.origin,
+            path,
+            next_hop: self.terms.next_hop(attrs.next_hop),
+            med: self.med,
+            local_pref: self.terms.local_pref(),
+            atomic: attrs.atomic,
+            aggregator: attrs.aggregator,
+            unrecognized,
+        })
+    }
+}
+
+impl Row for SentRoute {
+    /// Takes no memory: the attributes are shared.
+    fn copy(&self) -> Result<SentRoute, Memory> {
+        let attrs = self.attrs.copy()?;
+        Ok(SentRoute {
+            attrs,
+            med: self.med,
+            terms: self.terms,
+        })
+    }
+
+    /// Whether the peer gets the same of both, though they may differ in what it doesn't get. Takes no memory.
+    fn same(&self, other: &SentRoute) -> bool {
+        let attrs = self.attrs.attrs();
+        let others = other.attrs.attrs();
+        self.med == other.med
+            && has_one_rest(attrs, others)
+            && has_one_way(self.terms, attrs, other.terms, others)
+    }
+}
+
+/// Whether two forms have the same path, next hop and LOCAL_PREF. An internal peer gets a LOCAL_PREF, an external one none; and
+/// an external one gets the local AS in front of the path at least once.
+fn has_one_way(terms: Terms, attrs: &Attrs, other: Terms, others: &Attrs) -> bool
+    ensures { IsTrue result ↔ HaveOneWay terms attrs.now other others.now }
+{
+    match (terms, other) {
+        (Terms::External(one), Terms::External(two)) => {
+            one.asn == two.asn
+                && one.addr == two.addr
+                && attrs
+                    .path
+                    .same_in_front(one.asn, one.times(), &others.path, two.times())
+        }
+        (Terms::Internal(one), Terms::Internal(two)) => {
+            one == two && attrs.next_hop == others.next_hop && attrs.path.same(&others.path)
+        }
+        _ => false,
+    }
+}
+
+/// Whether two routes have the same of what every peer gets as it is.
+fn has_one_rest(attrs: &Attrs, others: &Attrs) -> bool
+    ensures { IsTrue result ↔ HaveOneRest attrs.now others.now }
+{
+    attrs.origin == others.origin
+        && attrs.atomic == others.atomic
+        && attrs.aggregator == others.aggregator
+        && attrs.unrecognized.same(&others.unrecognized)
+}
