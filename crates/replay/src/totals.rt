@@ -46,7 +46,7 @@ fn push_turns(alloc: Global, out: &mut Vec<u8>, turns: u128) -> Result<(), Memor
     ensures { OnOk result (out.new.items ≡ out.old.items ++ turns_line turns) }
 {
     let line = text_of_line(alloc, Line::Work(turns))?;
-    let pushed = push_renamed(out, b"total turns", &line);
+    let pushed = push_renamed(out, b"total turns", line.as_slice());
     drop(line);
     pushed
 }
@@ -57,7 +57,7 @@ fn push_count(alloc: Global, out: &mut Vec<u8>, link: Link, rows: u128) -> Resul
     ensures { OnOk result (out.new.items ≡ out.old.items ++ rows_line link rows) }
 {
     let line = text_of_line(alloc, Line::Rows(link, rows))?;
-    let pushed = push_renamed(out, b"total", &line);
+    let pushed = push_renamed(out, b"total", line.as_slice());
     drop(line);
     pushed
 }

@@ -1,4 +1,4 @@
-use Rattle.std.proofs.Common.{sym, ◌∙◌}
+use Rattle.std.proofs.Common.{sym}
 use Rattle.check_run.proofs.Known.{of_failed}
 use Rattle.replay.proofs.Endings.{ended_front}
 use Rattle.replay.proofs.output.finish.Goals as goal

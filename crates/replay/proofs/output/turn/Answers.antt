@@ -1,4 +1,4 @@
-use Rattle.std.proofs.Common.{List, ℕ, [], sym, ◌∙◌, subst}
+use Rattle.std.proofs.Common.{List, ℕ, [], sym, subst}
 use Rattle.std.proofs.lemmas.List.{append-nil}
 use Rattle.replay.specs.Stream.{HasStepped}
 use Rattle.replay.specs.Streams.{state}
