@@ -6,3 +6,5 @@ pub mod ReadBack
 pub mod JournalLemmas
 pub mod ReadNames
 pub mod FallLemmas
+pub mod KeptLemmas
+pub mod ReadLemmas

@@ -1,6 +1,8 @@
 pub mod Links
 pub mod Walk
 pub mod Texts
+pub mod Kept
+pub mod Reading
 pub mod Journals
 pub mod Laws
 pub mod Names

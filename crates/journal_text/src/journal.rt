@@ -8,9 +8,11 @@ ghost use Rattle.journal_text.specs.Journals.{with_lines, with_entries, flushed}
 ghost use Rattle.journal_text.specs.Values.{valued_change, sent_entries};
 
 use crate::entry::Entry;
+use crate::kept::Text;
 use crate::line::Line;
-use crate::lines::{is_entry, push_lines};
+use crate::lines::is_entry;
 use crate::link::Link;
+use crate::reader::{TextReader, read_spans};
 use crate::value::Value;
 use crate::valued::{Valued, value_of};
 use addr4::{Memory, Prefix};
@@ -18,12 +20,12 @@ use link_change::Change;
 use std::alloc::Global;
 use std::marker::Model;
 
-/// The text of the lines that the router gives, as it is made. Where the output is quiet, the journal's own lines give no
-/// text, and nothing is kept of them.
+/// The text of the lines that the router gives, as it is made; of the octets in `out` and `note` the hex digits when it is
+/// read. Where the output is quiet, the journal's own lines give no text, and nothing is kept of them.
 #[derive(Drop)]
 pub struct Journal {
     alloc: Global,
-    text: Vec<u8>,
+    text: Text,
     // The lines whose text isn't made yet; none of the journal's own where it is quiet.
     pending: Vec<Line>,
     quiet: bool,
@@ -31,13 +33,16 @@ pub struct Journal {
 
 impl Model for Journal {
     ghost use Rattle.journal_text.specs.Journals.{Journaled, journaled_code};
+    ghost use Rattle.journal_text.specs.Kept.{IsWhole, chars};
     ghost use Rattle.journal_text.specs.Texts.{text_of};
 
     ghost Value = { Journaled };
 
     ghost coded = { journaled_code };
 
-    ghost view = { λ j. record { text = j.text.items; pending = text_of j.quiet j.pending.items; quiet = j.quiet } };
+    ghost view = { λ j. record { text = chars j.text; pending = text_of j.quiet j.pending.items; quiet = j.quiet } };
+
+    ghost invariant = { λ j. IsWhole j.text };
 }
 
 impl Journal {
@@ -47,7 +52,7 @@ impl Journal {
     {
         Journal {
             alloc,
-            text: Vec::new(alloc),
+            text: Text::new(alloc),
             pending: Vec::new(alloc),
             quiet,
         }
@@ -115,22 +120,30 @@ impl Journal {
         }
     }
 
-    /// Makes the text of the lines that have none yet. For want of memory some front of that
-    /// text may have been made, and all of these lines stay.
+    /// Makes the text of the lines that have none yet. For want of memory there is no text any
+    /// more, and all of these lines stay.
     pub fn flush(&mut self) -> Result<(), Memory>
         ensures ok { OnOk result (self.new ≡ flushed self.old) }
         ensures memory { OnErr result ((self.new.pending ≡ self.old.pending) × (self.new.quiet ≡ self.old.quiet)) }
     {
-        push_lines(self.alloc, &mut self.text, self.quiet, &self.pending)?;
-        self.pending.clear();
-        Ok(())
+        let made = self.text.push_lines(self.alloc, self.quiet, &self.pending);
+        match made {
+            Ok(()) => {
+                self.pending.clear();
+                Ok(())
+            }
+            Err(memory) => {
+                self.text.clear();
+                Err(memory)
+            }
+        }
     }
 
-    /// The text of the lines that were flushed; those pushed since the last [`flush`](Journal::flush) aren't in it.
-    pub fn text(&self) -> &[u8]
-        ensures { result.now ≡ self.now.text }
+    /// Reads the text of the lines that were flushed; those pushed since the last [`flush`](Journal::flush) aren't in it.
+    pub fn reader(&self) -> TextReader<'_>
+        ensures { result ≡ self.now.text }
     {
-        self.text.as_slice()
+        read_spans(self.text.content.as_slice(), self.text.spans.as_slice())
     }
 
     /// Drops the text, and keeps its memory for the next one. Lines that weren't flushed stay.

@@ -10,11 +10,13 @@
 
 mod entry;
 mod journal;
+mod kept;
 mod laws;
 mod line;
 mod lines;
 mod link;
 mod names;
+mod reader;
 mod reading;
 mod texts;
 mod value;
@@ -27,6 +29,8 @@ pub use laws::{
     links_are_set_in_either_order, read_links_are_named, same_links, task_names_are_read_back,
 };
 pub use line::{Code, Line};
+pub use lines::push_line;
 pub use link::{Link, Task};
+pub use reader::TextReader;
 pub use value::Value;
 pub use valued::Valued;

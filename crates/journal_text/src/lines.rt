@@ -4,13 +4,13 @@ ghost use Rattle.std.specs.Prelude.{◌≡◌, ◌++◌, ◌∷◌, [], OnOk, co
 ghost use Rattle.std.specs.Fmt.{decimal};
 ghost use Rattle.hex.specs.Hex.{encode_lower};
 ghost use Rattle.addr4.specs.Texts.{addr_text, prefix_text};
-ghost use Rattle.journal_text.specs.Texts.{answer_text, code_text, entry_words, held_words, is_entry, line_text, link_text, match_text, task_text, text_of, value_text, words_line};
+ghost use Rattle.journal_text.specs.Texts.{answer_text, code_text, entry_words, held_words, is_entry, line_text, link_text, match_text, task_text, value_text, words_line};
 
 use crate::entry::Entry;
 use crate::line::{Code, Line};
 use crate::link::{Link, Task};
 use crate::names::{push_link, push_task};
-use crate::texts::{push_answer, push_text, push_value, push_wide};
+use crate::texts::{push_answer, push_hex, push_text, push_value, push_wide};
 use crate::value::Value;
 use addr4::{Addr, Memory, Prefix, push_addr, push_number, push_prefix};
 use std::alloc::Global;
@@ -57,7 +57,6 @@ fn push_head(out: &mut Vec<u8>, word: &[u8], link: Link, prefix: Prefix) -> Resu
 
 /// A word, a link, a prefix and a value: `+ LINK PREFIX NEW`, `- LINK PREFIX OLD`, `row LINK PREFIX VALUE`.
 fn push_row(
-    alloc: Global,
     out: &mut Vec<u8>,
     word: &[u8],
     link: Link,
@@ -67,14 +66,13 @@ fn push_row(
     ensures { OnOk result (out.new.items ≡ out.old.items ++ words_line (word.now ∷ link_text link ∷ prefix_text prefix ∷ value_text value.now ∷ [])) }
 {
     push_head(out, word, link, prefix)?;
-    push_value(alloc, out, value)?;
+    push_value(out, value)?;
     out.push(b'\n')?;
     Ok(())
 }
 
 /// `= LINK PREFIX OLD NEW`
 fn push_replace(
-    alloc: Global,
     out: &mut Vec<u8>,
     link: Link,
     prefix: Prefix,
@@ -84,16 +82,15 @@ fn push_replace(
     ensures { OnOk result (out.new.items ≡ out.old.items ++ words_line (codes "=" ∷ link_text link ∷ prefix_text prefix ∷ value_text old.now ∷ value_text new.now ∷ [])) }
 {
     push_head(out, b"=", link, prefix)?;
-    push_value(alloc, out, old)?;
+    push_value(out, old)?;
     out.push(b' ')?;
-    push_value(alloc, out, new)?;
+    push_value(out, new)?;
     out.push(b'\n')?;
     Ok(())
 }
 
 /// `? LINK PREFIX VALUE`
 fn push_asked(
-    alloc: Global,
     out: &mut Vec<u8>,
     link: Link,
     prefix: Prefix,
@@ -102,24 +99,22 @@ fn push_asked(
     ensures { OnOk result (out.new.items ≡ out.old.items ++ words_line (codes "?" ∷ link_text link ∷ prefix_text prefix ∷ answer_text row.now ∷ [])) }
 {
     push_head(out, b"?", link, prefix)?;
-    push_answer(alloc, out, row)?;
+    push_answer(out, row)?;
     out.push(b'\n')?;
     Ok(())
 }
 
 #[tactic(auto, unfolding(crate::specs::Texts::entry_words))]
-fn push_entry(alloc: Global, out: &mut Vec<u8>, entry: &Entry<Value>) -> Result<(), Memory>
+fn push_entry(out: &mut Vec<u8>, entry: &Entry<Value>) -> Result<(), Memory>
     ensures { OnOk result (out.new.items ≡ out.old.items ++ words_line (entry_words entry.now)) }
 {
     match entry {
         Entry::Begin(link) => push_one(out, b"b", *link),
         Entry::Inherit(link, from) => push_both(out, b"i", *link, *from),
-        Entry::Add(link, prefix, new) => push_row(alloc, out, b"+", *link, *prefix, new),
-        Entry::Delete(link, prefix, old) => push_row(alloc, out, b"-", *link, *prefix, old),
-        Entry::Replace(link, prefix, old, new) => {
-            push_replace(alloc, out, *link, *prefix, old, new)
-        }
-        Entry::Asked(link, prefix, row) => push_asked(alloc, out, *link, *prefix, row),
+        Entry::Add(link, prefix, new) => push_row(out, b"+", *link, *prefix, new),
+        Entry::Delete(link, prefix, old) => push_row(out, b"-", *link, *prefix, old),
+        Entry::Replace(link, prefix, old, new) => { push_replace(out, *link, *prefix, old, new) }
+        Entry::Asked(link, prefix, row) => push_asked(out, *link, *prefix, row),
         Entry::Weld(upper, lower) => push_both(out, b"w", *upper, *lower),
         Entry::End(link) => push_one(out, b"e", *link),
     }
@@ -136,22 +131,23 @@ fn push_count(alloc: Global, out: &mut Vec<u8>, word: &[u8], count: u128) -> Res
     Ok(())
 }
 
-/// A word, a peer's number and octets: `out K HEX`, `note K HEX`.
-fn push_octets(
-    alloc: Global,
-    out: &mut Vec<u8>,
-    word: &[u8],
-    peer: u32,
-    octets: &[u8],
-) -> Result<(), Memory>
-    ensures { OnOk result (out.new.items ≡ out.old.items ++ words_line (word.now ∷ decimal peer ∷ encode_lower octets.now ∷ [])) }
+/// A word and a peer's number, with a space after each.
+pub(crate) fn push_peer(out: &mut Vec<u8>, word: &[u8], peer: u32) -> Result<(), Memory>
+    ensures { OnOk result (out.new.items ≡ out.old.items ++ (word.now ++ 32 ∷ decimal peer ++ 32 ∷ [])) }
 {
     push_text(out, word)?;
     out.push(b' ')?;
     push_number(out, u64::from(peer))?;
     out.push(b' ')?;
-    let digits = hex::encode(alloc, octets)?;
-    push_text(out, digits.as_bytes())?;
+    Ok(())
+}
+
+/// A word, a peer's number and octets: `out K HEX`, `note K HEX`.
+fn push_message(out: &mut Vec<u8>, word: &[u8], peer: u32, octets: &[u8]) -> Result<(), Memory>
+    ensures { OnOk result (out.new.items ≡ out.old.items ++ words_line (word.now ∷ decimal peer ∷ encode_lower octets.now ∷ [])) }
+{
+    push_peer(out, word, peer)?;
+    push_hex(out, octets)?;
     out.push(b'\n')?;
     Ok(())
 }
@@ -245,16 +241,16 @@ fn push_refused(out: &mut Vec<u8>, number: u64, code: Code) -> Result<(), Memory
     Ok(())
 }
 
-/// The words of a line, and LF.
+/// Appends the words of a line, and LF.
 #[tactic(auto, unfolding(crate::specs::Texts::line_text))]
-fn push_line(alloc: Global, out: &mut Vec<u8>, line: &Line) -> Result<(), Memory>
+pub fn push_line(alloc: Global, out: &mut Vec<u8>, line: &Line) -> Result<(), Memory>
     ensures { OnOk result (out.new.items ≡ out.old.items ++ line_text line.now) }
 {
     match line {
-        Line::Journal(entry) => push_entry(alloc, out, entry),
-        Line::Out(peer, octets) => push_octets(alloc, out, b"out", *peer, octets.as_slice()),
-        Line::Note(peer, octets) => push_octets(alloc, out, b"note", *peer, octets.as_slice()),
-        Line::Row(link, prefix, value) => push_row(alloc, out, b"row", *link, *prefix, value),
+        Line::Journal(entry) => push_entry(out, entry),
+        Line::Out(peer, octets) => push_message(out, b"out", *peer, octets.as_slice()),
+        Line::Note(peer, octets) => push_message(out, b"note", *peer, octets.as_slice()),
+        Line::Row(link, prefix, value) => push_row(out, b"row", *link, *prefix, value),
         Line::Rows(link, count) => push_rows(alloc, out, *link, *count),
         Line::Cover(addr, found, subnet) => push_cover(out, *addr, *found, *subnet),
         Line::Settled(prefix, held) => push_settled(out, *prefix, *held),
@@ -272,21 +268,4 @@ pub(crate) fn is_entry(line: &Line) -> bool
     ensures { result ≡ is_entry line.now }
 {
     matches!(line, Line::Journal(_))
-}
-
-/// The texts of lines, one after another; where it is quiet none of the journal's own.
-pub(crate) fn push_lines(
-    alloc: Global,
-    out: &mut Vec<u8>,
-    quiet: bool,
-    lines: &[Line],
-) -> Result<(), Memory>
-    ensures { OnOk result (out.new.items ≡ out.old.items ++ text_of quiet lines.now) }
-{
-    for line in lines {
-        if !(quiet && is_entry(line)) {
-            push_line(alloc, out, line)?;
-        }
-    }
-    Ok(())
 }

@@ -3,6 +3,7 @@
 ghost use Rattle.std.specs.Prelude.{◌≡◌, ◌++◌, ◌∷◌, [], List, OnOk, Option, Some, None, codes, map, cond, length};
 ghost use Rattle.std.specs.List.{flat_map};
 ghost use Rattle.std.specs.Fmt.{decimal};
+ghost use Rattle.hex.specs.Hex.{encode_lower};
 ghost use Rattle.addr4.specs.Texts.{dotted};
 ghost use Rattle.journal_text.specs.Texts.{origin_number, segment_text, path_text, lettered, aggregator_text, unrecognized_text, required_text, optional_text, attrs_text, sender_number, field_text, known_text, route_text, fib_proto_text, gateway_text, with_colons, interior_text, external_text, fib_text, value_text, answer_text};
 
@@ -30,6 +31,21 @@ pub(crate) fn push_wide(alloc: Global, out: &mut Vec<u8>, number: u128) -> Resul
     let text = number.to_string(alloc)?;
     out.extend_from_slice(text.as_bytes())?;
     Ok(())
+}
+
+/// The hex digits of octets.
+pub(crate) fn push_hex(out: &mut Vec<u8>, octets: &[u8]) -> Result<(), Memory>
+    ensures { OnOk result (out.new.items ≡ out.old.items ++ encode_lower octets.now) }
+{
+    let at = out.len();
+    let Some(end) = at.checked_add(2 * octets.len()) else {
+        return Err(Memory);
+    };
+    out.resize(end, 0)?;
+    match hex::encode_to_slice(octets, &mut out[at..]) {
+        Ok(()) => Ok(()),
+        Err(_) => Err(Memory),
+    }
 }
 
 fn origin_number(origin: Origin) -> u64
@@ -115,31 +131,21 @@ fn push_aggregator(out: &mut Vec<u8>, aggregator: Option<Aggregator>) -> Result<
 }
 
 #[tactic(auto, unfolding(crate::specs::Texts::unrecognized_text))]
-fn push_unrecognized(
-    alloc: Global,
-    out: &mut Vec<u8>,
-    attribute: &Unrecognized,
-) -> Result<(), Memory>
+fn push_unrecognized(out: &mut Vec<u8>, attribute: &Unrecognized) -> Result<(), Memory>
     ensures { OnOk result (out.new.items ≡ out.old.items ++ unrecognized_text attribute.now) }
 {
     push_text(out, b",x")?;
     push_number(out, u64::from(attribute.kind))?;
     out.push(b':')?;
-    let digits = hex::encode(alloc, attribute.value.as_slice())?;
-    push_text(out, digits.as_bytes())?;
-    Ok(())
+    push_hex(out, attribute.value.as_slice())
 }
 
 /// The unrecognized attributes, one after another.
-fn push_unrecognized_all(
-    alloc: Global,
-    out: &mut Vec<u8>,
-    attributes: &[Unrecognized],
-) -> Result<(), Memory>
+fn push_unrecognized_all(out: &mut Vec<u8>, attributes: &[Unrecognized]) -> Result<(), Memory>
     ensures { OnOk result (out.new.items ≡ out.old.items ++ flat_map unrecognized_text attributes.now) }
 {
     for attribute in attributes {
-        push_unrecognized(alloc, out, attribute)?;
+        push_unrecognized(out, attribute)?;
     }
     Ok(())
 }
@@ -181,12 +187,12 @@ fn push_optional(out: &mut Vec<u8>, attrs: &Attrs) -> Result<(), Memory>
 
 /// The attributes, parted by commas.
 #[tactic(auto, unfolding(crate::specs::Texts::attrs_text))]
-fn push_attrs(alloc: Global, out: &mut Vec<u8>, attrs: &Attrs) -> Result<(), Memory>
+fn push_attrs(out: &mut Vec<u8>, attrs: &Attrs) -> Result<(), Memory>
     ensures { OnOk result (out.new.items ≡ out.old.items ++ attrs_text attrs.now) }
 {
     push_required(out, attrs)?;
     push_optional(out, attrs)?;
-    push_unrecognized_all(alloc, out, attrs.unrecognized.as_slice())?;
+    push_unrecognized_all(out, attrs.unrecognized.as_slice())?;
     Ok(())
 }
 
@@ -220,7 +226,7 @@ fn push_known(out: &mut Vec<u8>, number: Option<u32>) -> Result<(), Memory>
 
 /// What the decision compares, each with a colon, and the attributes.
 #[tactic(auto, unfolding(crate::specs::Texts::route_text))]
-fn push_route(alloc: Global, out: &mut Vec<u8>, route: &Route) -> Result<(), Memory>
+fn push_route(out: &mut Vec<u8>, route: &Route) -> Result<(), Memory>
     ensures { OnOk result (out.new.items ≡ out.old.items ++ route_text route.now) }
 {
     push_field(out, sender_number(route.from))?;
@@ -228,7 +234,7 @@ fn push_route(alloc: Global, out: &mut Vec<u8>, route: &Route) -> Result<(), Mem
     push_known(out, route.med)?;
     push_field(out, u32::from(route.prepend))?;
     push_known(out, route.igp)?;
-    push_attrs(alloc, out, route.attrs.attrs())
+    push_attrs(out, route.attrs.attrs())
 }
 
 /// An address, or `direct` for none.
@@ -284,12 +290,12 @@ fn push_fib_row(out: &mut Vec<u8>, row: &FibRow) -> Result<(), Memory>
 }
 
 /// The text of a value.
-pub(crate) fn push_value(alloc: Global, out: &mut Vec<u8>, value: &Value) -> Result<(), Memory>
+pub(crate) fn push_value(out: &mut Vec<u8>, value: &Value) -> Result<(), Memory>
     ensures { OnOk result (out.new.items ≡ out.old.items ++ value_text value.now) }
 {
     match value {
-        Value::Attrs(attrs) => push_attrs(alloc, out, attrs.attrs()),
-        Value::Route(route) => push_route(alloc, out, route),
+        Value::Attrs(attrs) => push_attrs(out, attrs.attrs()),
+        Value::Route(route) => push_route(out, route),
         Value::Interior(row) => push_interior(out, row),
         Value::External(row) => push_external(out, row),
         Value::FibRow(row) => push_fib_row(out, row),
@@ -297,15 +303,11 @@ pub(crate) fn push_value(alloc: Global, out: &mut Vec<u8>, value: &Value) -> Res
 }
 
 /// The text of a value, or `-` for none.
-pub(crate) fn push_answer(
-    alloc: Global,
-    out: &mut Vec<u8>,
-    row: &Option<Value>,
-) -> Result<(), Memory>
+pub(crate) fn push_answer(out: &mut Vec<u8>, row: &Option<Value>) -> Result<(), Memory>
     ensures { OnOk result (out.new.items ≡ out.old.items ++ answer_text row.now) }
 {
     match row {
-        Some(value) => push_value(alloc, out, value),
+        Some(value) => push_value(out, value),
         None => push_text(out, b"-"),
     }
 }

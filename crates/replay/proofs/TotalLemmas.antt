@@ -1,10 +1,10 @@
 -- The texts of totals.
-use Rattle.std.proofs.Common.{◌≡◌, ℕ, suc, ◌+◌, ◌-◌, ◌^◌, ◌<◌, ◌≤◌, false, List, [], ◌∷◌, ◌++◌, length, take, drop, get_or, codes, refl, sym, ap, ◌∙◌, arith, subst, append_assoc, Option, Some, None}
+use Rattle.std.proofs.Common.{◌≡◌, ℕ, suc, ◌+◌, ◌-◌, ◌^◌, ◌<◌, ◌≤◌, List, [], ◌∷◌, ◌++◌, length, take, drop, get_or, codes, refl, sym, ap, ◌∙◌, arith, subst, append_assoc, Option, Some, None}
 use Rattle.std.proofs.lemmas.List.{append-nil, length-drop}
 use Rattle.std.proofs.Math.Seq.{take-length, take-suc}
 use Rattle.journal_text.specs.declared.line.Line.TheVariants.{Rows, Work}
 use Rattle.journal_text.specs.declared.link.Link.{Link}
-use Rattle.journal_text.specs.Texts.{line_text, text_of}
+use Rattle.journal_text.specs.Texts.{line_text}
 use Rattle.link_change.specs.Rows.{Rows as LinkRows}
 use Rattle.journal_text.specs.declared.value.Value.{Value}
 use Rattle.router_core.specs.Lookups.{IsCountOf}
@@ -12,28 +12,22 @@ use Rattle.router_core.specs.Moments.{Moment, router_links}
 use Rattle.replay.specs.Totals.{Adds, AreTotals, AreTotalsOf, IsTotal, rows_line, total_links, turns_line}
 
 -- a line's text begins with its first word, here one of four bytes
-work_text : (turns : ℕ) → text_of false (Work turns ∷ []) ≡ line_text (Work turns)
-work_text turns = append-nil (line_text (Work turns))
-
-rows_text : (link : Link) (rows : ℕ) → text_of false (Rows link rows ∷ []) ≡ line_text (Rows link rows)
-rows_text link rows = append-nil (line_text (Rows link rows))
-
-pub long_work : (turns : ℕ) → 4 ≤ length (text_of false (Work turns ∷ []))
+pub long_work : (turns : ℕ) → 4 ≤ length (line_text (Work turns))
 unfolding line_text
-long_work turns = subst (λ (t : List ℕ). 4 ≤ length t) (sym (work_text turns)) (omega arith)
+long_work turns = omega arith
 
-pub long_rows : (link : Link) (rows : ℕ) → 4 ≤ length (text_of false (Rows link rows ∷ []))
+pub long_rows : (link : Link) (rows : ℕ) → 4 ≤ length (line_text (Rows link rows))
 unfolding line_text
-long_rows link rows = subst (λ (t : List ℕ). 4 ≤ length t) (sym (rows_text link rows)) (omega arith)
+long_rows link rows = omega arith
 
 -- another first word
-pub behind_work : (turns : ℕ) → codes "total turns" ++ drop 4 (text_of false (Work turns ∷ [])) ≡ turns_line turns
+pub behind_work : (turns : ℕ) → codes "total turns" ++ drop 4 (line_text (Work turns)) ≡ turns_line turns
 unfolding line_text
-behind_work turns = ap (λ t. codes "total turns" ++ drop 4 t) (work_text turns)
+behind_work turns = refl
 
-pub behind_rows : (link : Link) (rows : ℕ) → codes "total" ++ drop 4 (text_of false (Rows link rows ∷ [])) ≡ rows_line link rows
+pub behind_rows : (link : Link) (rows : ℕ) → codes "total" ++ drop 4 (line_text (Rows link rows)) ≡ rows_line link rows
 unfolding line_text
-behind_rows link rows = ap (λ t. codes "total" ++ drop 4 t) (rows_text link rows)
+behind_rows link rows = refl
 
 -- what stands behind the first bytes
 pub slice_rest : (n : ℕ) (t : List ℕ) → take (length t - n) (drop n t) ≡ drop n t

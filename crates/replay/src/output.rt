@@ -11,7 +11,7 @@ ghost use Rattle.check_run.specs.Runs.{Writes, IsFrontOf};
 use crate::status::Status;
 use crate::stream::Stream;
 use addr4::Memory;
-use check_run::write_all;
+use check_run::write_text;
 use edge_io::Sink;
 use journal_text::Journal;
 
@@ -74,7 +74,7 @@ pub fn turn<K: Sink>(
     let Ok(accepted) = step_piece(stream, piece, journal) else {
         return Some(Status::Memory);
     };
-    if write_all(sink, journal.text()).is_err() {
+    if write_text(sink, journal).is_err() {
         return Some(Status::WriteFault);
     }
     if accepted {
@@ -102,7 +102,7 @@ pub fn finish<K: Sink>(stream: &mut Stream, journal: &mut Journal, sink: &mut K)
     let Ok(accepted) = step_last(stream, journal) else {
         return Status::Memory;
     };
-    if write_all(sink, journal.text()).is_err() {
+    if write_text(sink, journal).is_err() {
         return Status::WriteFault;
     }
     if accepted {

@@ -1,9 +1,9 @@
 //! The totals that end the output of generated events.
 
-ghost use Rattle.std.specs.Prelude.{◌≡◌, ◌≤◌, ◌⊎◌, ◌++◌, ◌∷◌, [], ℕ, List, drop, length, false, OnOk, IfOk};
+ghost use Rattle.std.specs.Prelude.{◌≡◌, ◌≤◌, ◌⊎◌, ◌++◌, ℕ, List, drop, length, OnOk, IfOk};
 ghost use Rattle.edge_io.specs.Causes.{Rose};
 ghost use Rattle.check_run.specs.Runs.{Writes, IsFrontOf};
-ghost use Rattle.journal_text.specs.Texts.{text_of};
+ghost use Rattle.journal_text.specs.Texts.{line_text};
 ghost use Rattle.event_text.specs.Declarations.{peer_at};
 ghost use Rattle.router_core.specs.Moments.{router_links};
 ghost use Rattle.replay.specs.Totals.{Adds, AreTotals, AreTotalsOf, IsTotal, rows_line, sent_link, sent_links, total_links, turns_line};
@@ -14,7 +14,7 @@ use addr4::Memory;
 use check_run::write_all;
 use edge_io::Sink;
 use event_text::Declared;
-use journal_text::{Journal, Line, Link};
+use journal_text::{Line, Link, push_line};
 use router_core::Core;
 use std::alloc::Global;
 
@@ -22,22 +22,21 @@ use std::alloc::Global;
 const FIRST_WORD: usize = 4;
 
 /// The text of a line that is no entry.
-fn text_of_line(alloc: Global, line: Line) -> Result<Journal, Memory>
-    ensures { IfOk result (λ journal. journal.text ≡ text_of false (line ∷ [])) }
+fn text_of_line(alloc: Global, line: Line) -> Result<Vec<u8>, Memory>
+    ensures { IfOk result (λ text. text.items ≡ line_text line) }
 {
-    let mut journal = Journal::new(alloc, false);
-    journal.push_line(line)?;
-    journal.flush()?;
-    Ok(journal)
+    let mut text = Vec::new(alloc);
+    push_line(alloc, &mut text, &line)?;
+    Ok(text)
 }
 
 /// Appends a first word, and what stands behind its own in the text of a line.
-fn push_renamed(out: &mut Vec<u8>, word: &[u8], line: &Journal) -> Result<(), Memory>
-    requires { 4 ≤ length line.now.text }
-    ensures { OnOk result (out.new.items ≡ out.old.items ++ (word.now ++ drop 4 line.now.text)) }
+fn push_renamed(out: &mut Vec<u8>, word: &[u8], line: &[u8]) -> Result<(), Memory>
+    requires { 4 ≤ length line.now }
+    ensures { OnOk result (out.new.items ≡ out.old.items ++ (word.now ++ drop 4 line.now)) }
 {
     out.extend_from_slice(word)?;
-    out.extend_from_slice(&line.text()[FIRST_WORD..])?;
+    out.extend_from_slice(&line[FIRST_WORD..])?;
     Ok(())
 }
 
@@ -47,7 +46,7 @@ fn push_turns(alloc: Global, out: &mut Vec<u8>, turns: u128) -> Result<(), Memor
     ensures { OnOk result (out.new.items ≡ out.old.items ++ turns_line turns) }
 {
     let line = text_of_line(alloc, Line::Work(turns))?;
-    let pushed = push_renamed(out, b"total turns", &line);
+    let pushed = push_renamed(out, b"total turns", line.as_slice());
     drop(line);
     pushed
 }
@@ -58,7 +57,7 @@ fn push_count(alloc: Global, out: &mut Vec<u8>, link: Link, rows: u128) -> Resul
     ensures { OnOk result (out.new.items ≡ out.old.items ++ rows_line link rows) }
 {
     let line = text_of_line(alloc, Line::Rows(link, rows))?;
-    let pushed = push_renamed(out, b"total", &line);
+    let pushed = push_renamed(out, b"total", line.as_slice());
     drop(line);
     pushed
 }

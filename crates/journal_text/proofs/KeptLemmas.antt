@@ -1,0 +1,67 @@
+-- Text that is kept with octets in it, and grows.
+use Rattle.std.proofs.Common.{◌≡◌, ◌≤◌, ◌+◌, ℕ, List, [], ◌∷◌, ◌++◌, length, take, drop, refl, sym, ap, ◌∙◌, subst, arith, append_assoc, length-append, length-drop}
+use Rattle.std.proofs.lemmas.List.{append-nil, take_all, drop_all, take-append-le, drop-append-le}
+use Rattle.std.proofs.Math.Seq.{take-append_seam, drop-append_seam}
+use Rattle.hex.specs.Hex.{encode_lower}
+use Rattle.journal_text.specs.declared.kept.Span.{Span}
+use Rattle.journal_text.specs.declared.kept.Text.{Text}
+use Rattle.journal_text.specs.Texts.{words_line}
+use Rattle.journal_text.specs.Kept.{kept_text, covered, chars, IsWhole, IsAppended}
+
+-- octets behind a content leave its spans where they are
+span_stays : (s : Span) (spans : List Span) (content more : List ℕ) → s.before + s.count ≤ length content
+    → kept_text (s ∷ spans) (content ++ more) ≡ take s.before content ++ (encode_lower (take s.count (drop s.before content)) ++ kept_text spans (drop s.count (drop s.before content) ++ more))
+span_stays s spans content more fits =
+    let inner : s.count ≤ length (drop s.before content) = omega (arith, length-drop {A = ℕ}, fits) in
+    rw (take-append-le s.before content more (omega (arith, fits)), drop-append-le s.before content more (omega (arith, fits)), take-append-le s.count (drop s.before content) more inner, drop-append-le s.count (drop s.before content) more inner) refl
+
+-- characters that are appended come last
+pub chars_more : (spans : List Span) (content more : List ℕ) → covered spans ≤ length content → kept_text spans (content ++ more) ≡ kept_text spans content ++ more
+chars_more [] content more fits = refl
+chars_more (s ∷ spans) content more fits =
+    let rest = drop s.count (drop s.before content) in
+    let here = take s.before content in
+    let digits = encode_lower (take s.count (drop s.before content)) in
+    span_stays s spans content more (omega (arith, fits))
+    ∙ (ap (λ t. here ++ (digits ++ t)) (chars_more spans rest more (omega (arith, length-drop {A = ℕ}, fits)))
+    ∙ (ap (λ t. here ++ t) (sym (append_assoc digits (kept_text spans rest) more)) ∙ sym (append_assoc here (digits ++ kept_text spans rest) more)))
+
+-- octets that are appended, and their span
+pub octets_more : (spans : List Span) (s : Span) (content octets : List ℕ) → covered spans + s.before ≡ length content → s.count ≡ length octets → kept_text (spans ++ s ∷ []) (content ++ octets) ≡ kept_text spans content ++ encode_lower octets
+octets_more [] s content octets before count =
+    let all : s.before ≡ length content = omega (arith, before) in
+    rw (all, count, take-append_seam content octets, drop-append_seam content octets, take_all (length octets) octets (omega arith), drop_all (length octets) octets (omega arith)) (ap (λ t. content ++ t) (append-nil (encode_lower octets)))
+octets_more (t ∷ spans) s content octets before count =
+    let rest = drop t.count (drop t.before content) in
+    let here = take t.before content in
+    let digits = encode_lower (take t.count (drop t.before content)) in
+    span_stays t (spans ++ s ∷ []) content octets (omega (arith, before))
+    ∙ (ap (λ x. here ++ (digits ++ x)) (octets_more spans s rest octets (omega (arith, length-drop {A = ℕ}, before)) count)
+    ∙ (ap (λ x. here ++ x) (sym (append_assoc digits (kept_text spans rest) (encode_lower octets))) ∙ sym (append_assoc here (digits ++ kept_text spans rest) (encode_lower octets))))
+
+pub covered_more : (spans : List Span) (s : Span) → covered (spans ++ s ∷ []) ≡ covered spans + (s.before + s.count)
+covered_more [] s = omega arith
+covered_more (t ∷ spans) s = let m = covered_more spans s in omega (arith, m)
+
+-- characters alone were appended
+pub chars_appended : (more : List ℕ) (old new : Text) → IsWhole old → new.content.items ≡ old.content.items ++ more → new.spans ≡ old.spans → new.end ≡ old.end → IsAppended more old new
+chars_appended more old new whole content spans end =
+    let grown : length new.content.items ≡ length old.content.items + length more = ap length content ∙ length-append old.content.items more in
+    record {
+      whole = record { ends = rw (spans, end) whole.ends; within = omega (arith, whole.within, grown, end) };
+      chars = rw (spans, content) (chars_more old.spans.items old.content.items more (omega (arith, whole.ends, whole.within)));
+    }
+
+-- what is appended after something else
+pub appended_then : (more most : List ℕ) (a b c : Text) → IsAppended more a b → IsAppended most b c → IsAppended (more ++ most) a c
+appended_then more most a b c first second = record {
+  whole = second.whole;
+  chars = second.chars ∙ (ap (λ t. t ++ most) first.chars ∙ append_assoc (chars a) more most);
+}
+
+message_text : (word number digits : List ℕ) → ((word ++ 32 ∷ number ++ 32 ∷ []) ++ digits) ++ 10 ∷ [] ≡ words_line (word ∷ number ∷ digits ∷ [])
+message_text word number digits = simp append_assoc
+
+-- a word and a peer's number, the digits of octets, and LF
+pub message_appended : (word number digits : List ℕ) (a b : Text) → IsAppended (((word ++ 32 ∷ number ++ 32 ∷ []) ++ digits) ++ 10 ∷ []) a b → IsAppended (words_line (word ∷ number ∷ digits ∷ [])) a b
+message_appended word number digits a b h = subst (λ (t : List ℕ). IsAppended t a b) (message_text word number digits) h

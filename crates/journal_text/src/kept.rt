@@ -1,0 +1,130 @@
+//! Text that is kept with octets among its characters: of these octets the hex digits are made when the text is read.
+
+ghost use Rattle.std.specs.Prelude.{◌≡◌, ◌++◌, ◌∷◌, ◌-◌, [], OnOk, IfSome, length};
+ghost use Rattle.std.specs.Fmt.{decimal};
+ghost use Rattle.hex.specs.Hex.{encode_lower};
+ghost use Rattle.journal_text.specs.Kept.{IsAppended, IsWhole, chars};
+ghost use Rattle.journal_text.specs.Texts.{line_text, text_of, words_line};
+
+use crate::line::Line;
+use crate::lines::{is_entry, push_line, push_peer};
+use crate::texts::push_hex;
+use addr4::Memory;
+use std::alloc::Global;
+
+/// Characters, and octets behind them.
+#[derive(Clone, Copy)]
+pub(crate) struct Span {
+    pub(crate) before: u32,
+    pub(crate) count: u32,
+}
+
+/// Text, with octets among its characters whose hex digits aren't made yet: they take half of the room.
+#[derive(Drop)]
+pub(crate) struct Text {
+    /// Characters and octets, one behind the other.
+    pub(crate) content: Vec<u8>,
+    /// Where the octets stand. Behind the last span there are characters alone.
+    pub(crate) spans: Vec<Span>,
+    /// How much of the content the spans take.
+    end: usize,
+}
+
+/// None where one of the numbers is 2^32 or more.
+fn span_of(before: usize, count: usize) -> Option<Span>
+    ensures { IfSome result (λ span. (span.before ≡ before) × (span.count ≡ count)) }
+{
+    let before = u32::try_from(before).ok()?;
+    let count = u32::try_from(count).ok()?;
+    Some(Span { before, count })
+}
+
+impl Text {
+    /// No text; takes no memory.
+    pub(crate) fn new(alloc: Global) -> Text
+        ensures whole { IsWhole result }
+        ensures none { chars result ≡ [] }
+    {
+        Text {
+            content: Vec::new(alloc),
+            spans: Vec::new(alloc),
+            end: 0,
+        }
+    }
+
+    /// Drops the text, and keeps its memory for the next one.
+    pub(crate) fn clear(&mut self)
+        ensures whole { IsWhole self.new }
+        ensures none { chars self.new ≡ [] }
+    {
+        self.content.clear();
+        self.spans.clear();
+        self.end = 0;
+    }
+
+    /// Appends the octets of a span.
+    fn push_span(&mut self, span: Span, octets: &[u8]) -> Result<(), Memory>
+        requires whole { IsWhole self.old }
+        requires before { span.before ≡ length self.old.content.items - self.old.end }
+        requires count { span.count ≡ length octets.now }
+        ensures { OnOk result (IsAppended (encode_lower octets.now) self.old self.new) }
+    {
+        self.spans.push(span)?;
+        self.content.extend_from_slice(octets)?;
+        self.end = self.content.len();
+        Ok(())
+    }
+
+    /// Appends the hex digits of octets.
+    fn push_octets(&mut self, octets: &[u8]) -> Result<(), Memory>
+        requires { IsWhole self.old }
+        ensures { OnOk result (IsAppended (encode_lower octets.now) self.old self.new) }
+    {
+        match span_of(self.content.len() - self.end, octets.len()) {
+            Some(span) => self.push_span(span, octets),
+            None => push_hex(&mut self.content, octets),
+        }
+    }
+
+    /// Appends a word, a peer's number and octets: `out K HEX`, `note K HEX`.
+    fn push_message(&mut self, word: &[u8], peer: u32, octets: &[u8]) -> Result<(), Memory>
+        requires { IsWhole self.old }
+        ensures { OnOk result (IsAppended (words_line (word.now ∷ decimal peer ∷ encode_lower octets.now ∷ [])) self.old self.new) }
+    {
+        push_peer(&mut self.content, word, peer)?;
+        self.push_octets(octets)?;
+        self.content.push(b'\n')?;
+        Ok(())
+    }
+
+    /// Appends the words of a line, and LF.
+    #[tactic(auto, unfolding(crate::specs::Texts::line_text))]
+    fn push_line(&mut self, alloc: Global, line: &Line) -> Result<(), Memory>
+        requires { IsWhole self.old }
+        ensures { OnOk result (IsAppended (line_text line.now) self.old self.new) }
+    {
+        match line {
+            Line::Out(peer, octets) => self.push_message(b"out", *peer, octets.as_slice()),
+            Line::Note(peer, octets) => self.push_message(b"note", *peer, octets.as_slice()),
+            line => push_line(alloc, &mut self.content, line),
+        }
+    }
+
+    /// Appends the texts of lines, one after another; where it is quiet none of the journal's own.
+    pub(crate) fn push_lines(
+        &mut self,
+        alloc: Global,
+        quiet: bool,
+        lines: &[Line],
+    ) -> Result<(), Memory>
+        requires { IsWhole self.old }
+        ensures { OnOk result (IsAppended (text_of quiet lines.now) self.old self.new) }
+    {
+        for line in lines {
+            if !(quiet && is_entry(line)) {
+                self.push_line(alloc, line)?;
+            }
+        }
+        Ok(())
+    }
+}

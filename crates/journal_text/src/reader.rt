@@ -1,0 +1,141 @@
+//! Reading a text whose hex digits aren't made yet.
+
+ghost use Rattle.std.specs.Prelude.{◌≡◌, ◌++◌, ◌+◌, ◌*◌, ◌<◌, ◌≤◌, [], length, take};
+ghost use Rattle.hex.specs.Hex.{encode_lower};
+ghost use Rattle.journal_text.specs.Kept.{covered, kept_text};
+ghost use Rattle.journal_text.specs.Reading.{left};
+
+use crate::kept::Span;
+use std::cmp::min;
+use std::marker::Model;
+
+/// What is left to be read of a text. Its hex digits are made as they are read; that takes no memory.
+#[derive(Drop)]
+pub struct TextReader<'a> {
+    /// What is left: first so many characters, then so many octets, and behind them what the spans say.
+    content: &'a [u8],
+    before: usize,
+    count: usize,
+    spans: &'a [Span],
+}
+
+impl<'a> Model for TextReader<'a> {
+    ghost use Rattle.std.specs.Prelude.{ℕ, List};
+    ghost use Rattle.journal_text.specs.Reading.{left, IsReading};
+
+    ghost Value = { List ℕ };
+
+    ghost view = { λ r. left r.before r.count r.spans.now r.content.now };
+
+    ghost invariant = { λ r. IsReading r.before r.count r.spans.now r.content.now };
+}
+
+/// Copies a front of a text, and answers how much: as much as there is room for.
+fn copy_front(room: &mut [u8], text: &[u8]) -> usize
+    ensures within { result ≤ length text.now }
+    ensures room { result ≤ length room.old }
+    ensures same_room { length room.new ≡ length room.old }
+    ensures front { take result room.new ≡ take result text.now }
+    ensures some { 0 < length text.now → 0 < length room.old → 0 < result }
+{
+    let count = min(text.len(), room.len());
+    room[..count].copy_from_slice(&text[..count]);
+    count
+}
+
+/// Writes the hex digits of a front of octets, and answers of how many: of as many as there is room for.
+fn write_digits(room: &mut [u8], octets: &[u8]) -> usize
+    ensures within { result ≤ length octets.now }
+    ensures room { 2 * result ≤ length room.old }
+    ensures same_room { length room.new ≡ length room.old }
+    ensures front { take (2 * result) room.new ≡ encode_lower (take result octets.now) }
+    ensures some { 0 < length octets.now → 2 ≤ length room.old → 0 < result }
+{
+    let count = min(octets.len(), room.len() / 2);
+    match hex::encode_to_slice(&octets[..count], &mut room[..2 * count]) {
+        Ok(()) => count,
+        Err(_) => 0,
+    }
+}
+
+/// A reader of what spans say of a content.
+pub(crate) fn read_spans<'a>(content: &'a [u8], spans: &'a [Span]) -> TextReader<'a>
+    requires { covered spans.now ≤ length content.now }
+    ensures { result ≡ kept_text spans.now content.now }
+{
+    let mut rest = spans;
+    while !rest.is_empty() {
+        let span = rest[0];
+        rest = &rest[1..];
+        if span.before > 0 || span.count > 0 {
+            return TextReader {
+                content,
+                before: span.before as usize,
+                count: span.count as usize,
+                spans: rest,
+            };
+        }
+    }
+    TextReader {
+        content,
+        before: content.len(),
+        count: 0,
+        spans: rest,
+    }
+}
+
+/// A reader of so many characters, then so many octets, and what spans say behind them.
+fn read_on<'a>(content: &'a [u8], before: usize, count: usize, spans: &'a [Span]) -> TextReader<'a>
+    requires { before + count + covered spans.now ≤ length content.now }
+    ensures { result ≡ left before count spans.now content.now }
+{
+    if before == 0 && count == 0 {
+        return read_spans(content, spans);
+    }
+    TextReader {
+        content,
+        before,
+        count,
+        spans,
+    }
+}
+
+impl<'a> TextReader<'a> {
+    /// Reads characters, or the digits of octets.
+    fn read_part(&mut self, room: &mut [u8]) -> usize
+        ensures within { result ≤ length room.old }
+        ensures same_room { length room.new ≡ length room.old }
+        ensures text { self.old ≡ take result room.new ++ self.new }
+        ensures some { 2 ≤ length room.old → result ≡ 0 → self.old ≡ [] }
+    {
+        if self.before > 0 {
+            let read = copy_front(room, &self.content[..self.before]);
+            let rest = &self.content[read..];
+            *self = read_on(rest, self.before - read, self.count, self.spans);
+            read
+        } else {
+            let read = write_digits(room, &self.content[..self.count]);
+            let rest = &self.content[read..];
+            *self = read_on(rest, 0, self.count - read, self.spans);
+            2 * read
+        }
+    }
+
+    /// Reads a front of what is left, and answers how much. It fills the room but for an octet.
+    pub fn read(&mut self, room: &mut [u8]) -> usize
+        ensures within { result ≤ length room.old }
+        ensures same_room { length room.new ≡ length room.old }
+        ensures text { self.old ≡ take result room.new ++ self.new }
+        ensures some { 2 ≤ length room.old → result ≡ 0 → self.old ≡ [] }
+    {
+        let mut filled = 0;
+        while room.len() - filled >= 2 {
+            let read = self.read_part(&mut room[filled..]);
+            if read == 0 {
+                return filled;
+            }
+            filled += read;
+        }
+        filled
+    }
+}
