@@ -9,7 +9,7 @@ ghost use Rattle.bgp_attr.specs.declared.path.Segment.{Segment};
 ghost use Rattle.bgp_attr.specs.Paths.{takes_one_more, in_front, times_in_front};
 ghost use Rattle.bgp_attr.specs.Fronts.{path_led_by};
 
-use crate::path::{AsPath, SegmentKind, SegmentView, Segments};
+use crate::path::{AsPath, Segment, SegmentKind, Segments};
 use addr4::Row;
 
 impl AsPath {
@@ -58,7 +58,7 @@ impl<'a> Behind<'a> {
         let segments = path.segments();
         match segments.split_first() {
             Some((leading, others)) if takes_one_more(&leading) => Behind {
-                numbers: leading.numbers(),
+                numbers: leading.numbers.as_slice(),
                 segments: others,
             },
             _ => Behind {
@@ -74,10 +74,10 @@ impl<'a> Behind<'a> {
         ensures none { IfNone result ((ns : List ℕ) → (ss : List Segment) → segments.now ≢ path_led_by asn ns ss) }
     {
         let (segment, others) = segments.split_first()?;
-        if segment.kind() == SegmentKind::Set {
+        if segment.kind == SegmentKind::Set {
             return None;
         }
-        match segment.numbers() {
+        match segment.numbers.as_slice() {
             [first, numbers @ ..] if *first == asn => Some(Behind {
                 numbers,
                 segments: others,
@@ -129,8 +129,8 @@ impl<'a> Behind<'a> {
     }
 }
 
-fn takes_one_more(segment: &SegmentView<'_>) -> bool
+fn takes_one_more(segment: &Segment<'_>) -> bool
     ensures { result ≡ takes_one_more segment.now.kind segment.now.numbers }
 {
-    segment.kind() == SegmentKind::Sequence && segment.numbers().len() < 255
+    segment.kind == SegmentKind::Sequence && segment.numbers.as_slice().len() < 255
 }
