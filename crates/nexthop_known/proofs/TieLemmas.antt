@@ -304,5 +304,4 @@ module _ {A : Type 0} where
     | inl e ↦ e ∙ kept s (tree.get nat_cmp first q) (ap (λ x. is_with s (came_at x)) (sym e) ∙ sym (tied.held_is (record { subnet = s; hop = q })) ∙ none q)
     | inr e ↦ e
   ]
-
   -- ---- one put in force

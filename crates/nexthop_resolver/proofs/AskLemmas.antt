@@ -27,7 +27,6 @@ none_of (Some x) e = absurd (let clash : true ≡ false = e in cc)
 
 -- ---- the register
 module _ {R : Type 0} where
-
   pub keeps_all : (client : ℕ) (r : Registry R) → KeepsOthers client r r
   keeps_all client r = record { rows = refl; interests = λ k ne. refl }
 

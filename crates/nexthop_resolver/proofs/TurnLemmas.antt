@@ -110,7 +110,6 @@ module _ {A R L : Type 0} (hop : R → ℕ) (made : R → A → Option L) (candi
   step_taken old new (Some change) s = s
 
   module _ (kept : Option (Network × Interior) → A) (was is : Registry Interior) where
-
     pub asks_turn : (client : ℕ) (counts : Counts) (known known' : Hops A) (walk : Option (Option Network)) (a : ℕ) → walk ≡ None → IsLeastStale (get known) (Some a)
         → Renews kept was known known' a
         → Turned hop made candidates upper kept was is (record { client = client; counts = counts; known = known; walk = walk }) (record { client = client; counts = counts; known = known'; walk = walk }) None

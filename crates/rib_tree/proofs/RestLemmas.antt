@@ -62,7 +62,6 @@ no_link live n (d ∷ ds) none = by_test (d.number == n) none (λ e. no_link liv
 
 -- ---- the links of these protocols
 module _ (t : Treed) where
-
   -- no stage of a protocol has work, and of none of these protocols
   abbrev pub Rests : Proto → Type 0
   Rests proto = (n : ℕ) → is_some (table_of n (branch_of proto t).tables.deletions) ≡ false
