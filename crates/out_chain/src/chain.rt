@@ -9,13 +9,12 @@ ghost use Rattle.link_change.specs.Rows.{Rows, IsNextCandidate, CoversRows};
 ghost use Rattle.peer_out.specs.Changes.{IsSender, IsSentOf, MayBeHeard};
 ghost use Rattle.fanout_queue.specs.Queues.{Queued};
 ghost use Rattle.fanout_queue.specs.Readers.{unread_by, read_rows, read_candidates, KeepsOtherReaders};
-ghost use Rattle.journal_text.specs.declared.link.Link.TheVariants as names;
 ghost use Rattle.journal_text.specs.declared.value.Value.{Value};
 ghost use Rattle.journal_text.specs.Walk.{HasRow, no_links};
 ghost use Rattle.journal_text.specs.Journals.{with_entries, with_lines};
-ghost use Rattle.journal_text.specs.Values.{route_value, attrs_value, valued_change};
+ghost use Rattle.journal_text.specs.Values.{route_value, attrs_value};
 ghost use Rattle.out_chain.specs.Chains.{out_links, out_candidates, IsOutChain, RowsMayBeHeard, OutStands, has_out_work, out_lags};
-ghost use Rattle.out_chain.specs.Steps.{exit_to, new_out, start_entries, stop_entries, LeadsOut, LeadsFromBest, with_rules, with_sent, said_of, message_lines, IsTold, PassesOut, IsWalkedOut, IsOutTurn};
+ghost use Rattle.out_chain.specs.Steps.{exit_to, new_out, start_entries, stop_entries, LeadsOut, LeadsFromBest, with_rules, with_sent, said_of, IsTold, PassesOut, IsWalkedOut, IsOutTurn};
 
 use crate::refresh::still_on;
 use crate::to_peer::ToPeer;

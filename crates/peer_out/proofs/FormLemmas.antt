@@ -1,7 +1,6 @@
 -- The forms that are remembered.
-use Rattle.std.proofs.Common.{◌≡◌, Bool, Option, Some, refl, sym, ap, subst, ◌∙◌}
+use Rattle.std.proofs.Common.{◌≡◌, Bool, Option, Some, sym, subst}
 use Rattle.bgp_attr.specs.declared.attrs.Attrs.{Attrs}
-use Rattle.bgp_wire.specs.Lengths.{attributes_length}
 use Rattle.peer_out.specs.declared.form.Formed.{Formed}
 use Rattle.peer_out.specs.Remembered.{IsFormOf, IsFormed}
 

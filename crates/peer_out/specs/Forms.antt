@@ -1,5 +1,5 @@
 -- The form in which a route is sent to a peer (RFC 4271, sections 5.1 and 9.1.3).
-use Rattle.std.specs.Prelude.{◌≡◌, ◌+◌, nat_le, Bool, if◌then◌else◌, Option, Some, None}
+use Rattle.std.specs.Prelude.{◌+◌, nat_le, Bool, if◌then◌else◌, Option, Some, None}
 use Rattle.addr4.specs.Prefixes.{Network}
 use Rattle.bgp_attr.specs.declared.attrs.Attrs.{Attrs}
 use Rattle.bgp_attr.specs.declared.route.Route.{Route}
