@@ -232,29 +232,6 @@ any_push (x ∷ xs) y kind = ap (λ b. eqb x kind || b) (any_push xs y kind) ∙
     by_test true = refl
     by_test false = refl
 
--- a type that comes again
-pub came_again : (as4 : Bool) (seen : List ℕ) (kept : Kept) (g : Gathered) (kind : ℕ) → has_type g.seen kind ≡ true → IsGathered as4 seen kept g → IsGathered as4 (seen ++ kind ∷ []) kept g
-came_again as4 seen kept g kind came is = record {
-  types = λ k. is.types k ∙ by_test k (eqb kind k) refl ∙ sym (any_push seen kind k);
-  new = λ k e. is.new k (or_false_left (list_any (λ j. eqb j k) seen) _ (sym (any_push seen kind k) ∙ e));
-  found = is.found;
-  withdraw = is.withdraw;
-}
-  where
-    or_no : (a : Bool) → a ≡ (a || false)
-    or_no true = refl
-    or_no false = refl
-
-    or_yes : (a : Bool) → a ≡ true → a ≡ (a || true)
-    or_yes true e = refl
-    or_yes false e = absurd (cc)
-
-    by_test : (k : ℕ) (b : Bool) → eqb kind k ≡ b → list_any (λ j. eqb j k) seen ≡ (list_any (λ j. eqb j k) seen || eqb kind k)
-    by_test k true at =
-        let has : list_any (λ j. eqb j k) seen ≡ true = ap (λ n. list_any (λ j. eqb j n) seen) (sym (eqb-true _ _ at)) ∙ sym (is.types kind) ∙ came in
-        or_yes (list_any (λ j. eqb j k) seen) has ∙ ap (λ b. list_any (λ j. eqb j k) seen || b) (sym at)
-    by_test k false at = or_no (list_any (λ j. eqb j k) seen) ∙ ap (λ b. list_any (λ j. eqb j k) seen || b) (sym at)
-
 kept_new : (p : Profile) (verdict : Verdict) (a : Attribute) (kept : Kept) (found : Found) → kept_of a.kind kept.0 ≡ None → Gathers p.as4 kept.0 found → Gathers p.as4 (added verdict a kept).0 (after verdict (found_with p.as4 a found) found)
 kept_new p Keep a kept found new g = gathers_next p.as4 a kept.0 found new g
 kept_new p Discard a kept found new g = g
@@ -301,15 +278,6 @@ gathered_one p external seen kept a old new verdict is fresh judged found types 
         withdraw = withdraw ∙ ap (λ b. b || is_withdraw verdict) is.withdraw ∙ withdraw_new verdict a kept;
       },
     )
-
--- what another judgement than of a new type is
-pub judged_again : (p : Profile) (external : Bool) (seen : List ℕ) (kept : Kept) (a : Attribute) (old : Gathered) → IsGathered p.as4 seen kept old → has_type old.seen a.kind ≡ true → judgement p external seen a ≡ milder p Discard (notice 3 1 [])
-unfolding judgement
-judged_again p external seen kept a old is came = ap (λ b. cond b (milder p Discard (notice 3 1 [])) (judge_by p external a (rule_of p.as4 a.kind))) (sym (is.types a.kind) ∙ came)
-
-pub judged_new : (p : Profile) (external : Bool) (seen : List ℕ) (kept : Kept) (a : Attribute) (old : Gathered) → IsGathered p.as4 seen kept old → has_type old.seen a.kind ≡ false → judgement p external seen a ≡ judge_by p external a (rule_of p.as4 a.kind)
-unfolding judgement
-judged_new p external seen kept a old is fresh = ap (λ b. cond b (milder p Discard (notice 3 1 [])) (judge_by p external a (rule_of p.as4 a.kind))) (sym (is.types a.kind) ∙ fresh)
 
 -- ---- what a rule tells
 above : (kind k : ℕ) → 8 ≤ kind → k ≤ 7 → kind ≡ k → ⊥

@@ -232,9 +232,6 @@ refresh_again bytes r is =
 header_frame : (bytes : List ℕ) (kind : ℕ) (h : IsHeader bytes kind) → IsFrame bytes kind (drop 19 bytes)
 header_frame bytes kind h = subst (IsFrame bytes kind) (sym (ap (drop 19) h.frame.parts)) h.frame
 
-same_kind : (b : Bool) (n m : ℕ) → eqb n m ≡ b → b ≡ true → n ≡ m
-same_kind b n m e t = eqb-true n m (e ∙ t)
-
 short_of : (kind k len : ℕ) → kind ≡ k → has_wrong_length kind len ≡ false → has_wrong_length k len ≡ false
 short_of kind k len e s = subst (λ n. has_wrong_length n len ≡ false) e s
 

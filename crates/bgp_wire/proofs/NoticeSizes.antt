@@ -7,10 +7,7 @@ use Rattle.std.proofs.lemmas.Bool.Decides.{nat_tests}
 use Rattle.addr4.specs.Prefixes.{Network}
 use Rattle.bgp_attr.specs.declared.speaker.Profile.{Profile}
 use Rattle.bgp_wire.specs.declared.notice.Notice.{Notice}
-use Rattle.bgp_wire.specs.declared.message.Message.{Message}
-use Rattle.bgp_wire.specs.declared.message.Message.TheVariants as messages
-use Rattle.bgp_wire.specs.Grammar.{Answers}
-use Rattle.bgp_wire.specs.Notices.{FitsMessage, HasShortNotice}
+use Rattle.bgp_wire.specs.Notices.{FitsMessage}
 use Rattle.bgp_wire.specs.Faults.{notice, ◌>>=◌, err_of}
 use Rattle.bgp_wire.specs.Items.{items_within}
 use Rattle.bgp_wire.specs.Prefixes.{prefix_at, octets_for, masked}
@@ -262,11 +259,3 @@ fault_low p bytes =
 
 pub notice_fits : (p : Profile) (bytes : List ℕ) (n : Notice) → fault p bytes ≡ Some n → FitsMessage n
 notice_fits p bytes n e = let low : length n.octets ≤ 4073 = subst (LowFault 4073) e (fault_low p bytes) in omega arith
-
-pub message_fits : (p : Profile) (external : Bool) (bytes : List ℕ) (m : Message) → Answers p external bytes m → HasShortNotice m
-message_fits p external bytes (messages.Notify n) answers = notice_fits p bytes n answers
-message_fits p external bytes (messages.Update u) answers = tt
-message_fits p external bytes messages.Keepalive answers = tt
-message_fits p external bytes messages.Skip answers = tt
-message_fits p external bytes (messages.Refresh r) answers = tt
-message_fits p external bytes messages.Notification answers = tt

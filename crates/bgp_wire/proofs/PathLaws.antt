@@ -1,5 +1,5 @@
 -- Paths: what is read is in the grammar, and what is in the grammar is read.
-use Rattle.std.proofs.Common.{◌≡◌, ℕ, zero, suc, ◌+◌, ◌-◌, ◌*◌, ◌≤◌, ◌<◌, true, false, cond, eqb, ltb, ◌||◌, List, [], ◌∷◌, ◌++◌, length, take, drop, Option, Some, None, Result, Ok, Err, refl, sym, ap, subst, ◌∙◌, arith}
+use Rattle.std.proofs.Common.{◌≡◌, ℕ, zero, suc, ◌+◌, ◌*◌, ◌≤◌, ◌<◌, true, false, cond, eqb, ltb, ◌||◌, List, [], ◌∷◌, ◌++◌, length, take, drop, Option, Some, None, Result, Ok, Err, refl, sym, ap, subst, ◌∙◌, arith}
 use Rattle.std.proofs.lemmas.List.{length-take, length-drop, drop-drop, length-append, take-append-drop, drop_at, drop-append-le}
 use Rattle.std.proofs.lemmas.Bool.{ltb-false, le-ltb, eqb-true}
 use Rattle.byteorder.specs.Endian.{big_number}
@@ -55,12 +55,6 @@ read_more width done octets rest old here new is more =
           ∙ ap (λ ns. front ++ record { kind = kind; numbers = ns } ∷ []) (ap (λ os. numbers_at width done octets ++ big_number width os ∷ []) is.after ∙ sym (numbers_more width done octets));
       after = ap (drop width) is.after ∙ drop-drop width (done * width) octets ∙ ap (λ n. drop n octets) whole;
     }
-
-pub room_for : (width count done : ℕ) (octets rest : List ℕ) (old new : List Segment) → done < count → count * width ≤ length octets → AreRead width done octets rest old new → width ≤ length rest
-room_for width count done octets rest old new lt enough is =
-    let left : suc (count - suc done + done) * width ≡ (count - suc done) * width + done * width + width = omega arith in
-    let all : count ≡ suc (count - suc done + done) = omega arith in
-    omega (arith, left, ap (λ n. n * width) all, length-drop (done * width) octets, ap length is.after)
 
 -- ---- a segment behind those that were read
 pub behind_ok : (front : List Segment) (read : Result (Segment × List ℕ) Notice) (new : List Segment) (after : List ℕ) → behind front read ≡ Ok (new, after) → (x : Segment × List ℕ) × (read ≡ Ok x) × (front ++ x.0 ∷ [] ≡ new) × (x.1 ≡ after)

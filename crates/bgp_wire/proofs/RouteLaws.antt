@@ -70,10 +70,6 @@ one_order n m (u ∷ us) (v ∷ vs) a b same = elim (cases_lt u.kind v.kind) [
       | false ↦ λ is. sym (past_first kind u us is) ∙ same kind ∙ past_first kind v vs (ap (λ k. eqb k kind) (sym kinds) ∙ is)
     ] refl
 
-insert_end : (us : List Unrecognized) (u : Unrecognized) → insert us (length us) u ≡ us ++ u ∷ []
-insert_end [] u = refl
-insert_end (v ∷ us) u = ap (λ ws. v ∷ ws) (insert_end us u)
-
 -- the place of the first above it, or the end
 placed_above : (u : Unrecognized) (us : List Unrecognized) → insert us (position_or_len (λ v. ltb u.kind v.kind) us) u ≡ placed u us
 placed_above u [] = refl

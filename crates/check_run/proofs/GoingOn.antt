@@ -7,9 +7,6 @@ use Rattle.journal_check.specs.declared.checked.Checked.TheVariants.{Lawful, Bro
 use Rattle.check_run.specs.Lines.{lines_of}
 use Rattle.check_run.specs.Walking.{Stage, HasWalked, IsReady, GoesOn, IsNearer, HasTaken}
 
-goes_on_nothing : (a : Stage) → GoesOn Lawful a [] a
-goes_on_nothing a = λ read was. subst (λ (r : List ℕ). HasWalked r a) (sym (append-nil read)) was
-
 stopped_then : (checked : Checked) (a b : Stage) (xs ys : List ℕ) → GoesOn Lawful a xs b → ((read : List ℕ) → HasWalked read b → (more : List ℕ) → IsChecked (lines_of ((read ++ ys) ++ more)) checked) → (read : List ℕ) → HasWalked read a → (more : List ℕ) → IsChecked (lines_of ((read ++ (xs ++ ys)) ++ more)) checked
 stopped_then checked a b xs ys f g read was more = subst (λ (t : List ℕ). IsChecked (lines_of (t ++ more)) checked) (append_assoc read xs ys) (g (read ++ xs) (f read was) more)
 
@@ -33,10 +30,6 @@ nearer_then : (j k : ℕ) (a b c : Stage) → IsNearer j a b → IsNearer k b c 
 nearer_then j k a b c p q =
     ⊎_elim (λ x. inl (⊎_elim (λ y. omega (arith, x, y)) (λ y. omega (arith, x, y.0)) q))
     (λ x. ⊎_elim (λ y. inl (omega (arith, x.0, y))) (λ y. inr (omega (arith, x.0, y.0), omega (arith, x.1, y.1))) q) p
-
--- nothing of the piece was taken
-pub taken_nothing : (a : Stage) (piece : List ℕ) → HasTaken a piece piece a
-taken_nothing a piece = record { front = []; split = refl; goes_on = goes_on_nothing a; nearer = inr (omega arith, omega arith) }
 
 -- some more of the piece was taken
 taken_more : (a b c : Stage) (piece left part rest : List ℕ) → left ≡ part ++ rest → HasTaken a piece left b → GoesOn Lawful b part c → IsNearer (length part) b c → HasTaken a piece rest c

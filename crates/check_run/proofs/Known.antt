@@ -1,5 +1,5 @@
 -- Known bytes of sources and sinks, and answers that failed.
-use Rattle.std.proofs.Common.{◌≡◌, ℕ, true, List, [], ◌++◌, Option, Some, None, Result, Ok, Err, OnErr, refl, sym, ap, ◌∙◌, append_assoc}
+use Rattle.std.proofs.Common.{◌≡◌, ℕ, true, List, [], ◌++◌, Option, Some, None, Result, Ok, Err, OnErr, sym, ap, ◌∙◌, append_assoc}
 use Rattle.std.proofs.lemmas.List.{append-nil}
 use Rattle.std.specs.Result.{is_err}
 use Rattle.std.specs.Io.KnownBytes.{Appends, Consumes, Keeps}
@@ -31,10 +31,6 @@ consumes_kept None b c xs p q = tt
 consumes_kept (Some a) None c xs p q = absurd p
 consumes_kept (Some a) (Some b) None xs p q = absurd q
 consumes_kept (Some a) (Some b) (Some c) xs p q = p ∙ ap (λ t. xs ++ t) (sym q)
-
-pub consumes_nothing : (a : Option (List ℕ)) → Consumes a a []
-consumes_nothing None = tt
-consumes_nothing (Some a) = refl
 
 -- what holds after an answer that failed
 pub on_failed : {T E : Type 0} (r : Result T E) (P : Type 0) → P → OnErr r P

@@ -1,5 +1,5 @@
 -- The text of a source, read in pieces.
-use Rattle.std.proofs.Common.{◌≡◌, ⊎_elim, IfSome, ℕ, ◌+◌, ◌-◌, ◌*◌, ◌<◌, ◌^◌, List, [], ◌++◌, Option, Some, None, refl, sym, ap, ◌∙◌, subst, take, length, arith}
+use Rattle.std.proofs.Common.{◌≡◌, ⊎_elim, ℕ, ◌+◌, ◌-◌, ◌*◌, ◌<◌, ◌^◌, List, [], ◌++◌, Option, Some, None, refl, sym, ap, ◌∙◌, subst, take, length, arith}
 use Rattle.std.proofs.lemmas.List.{append-nil}
 use Rattle.std.specs.Io.KnownBytes.{Consumes, IsAtEnd}
 use Rattle.journal_check.specs.Judged.{IsChecked}
@@ -8,11 +8,8 @@ use Rattle.journal_check.specs.declared.checked.Checked.TheVariants.{Lawful, Bro
 use Rattle.check_run.specs.Lines.{lines_of}
 use Rattle.check_run.specs.Runs.{OfText}
 use Rattle.check_run.specs.Walking.{Stage, HasWalked, GoesOn, IsNearer, Progress}
-use Rattle.check_run.proofs.Known.{consumes_nothing, consumes_then}
+use Rattle.check_run.proofs.Known.{consumes_then}
 use Rattle.check_run.proofs.Walks.{few_lines}
-
-pub no_progress : (left : Option (List ℕ)) (now : Stage) → HasWalked [] now → Progress left left now
-no_progress left now walked = record { read = []; consumed = consumes_nothing left; walked = walked }
 
 -- the next piece was walked
 pub progress_more : (checked : Checked) (left0 left next : Option (List ℕ)) (old new : Stage) (piece : List ℕ) → checked ≡ Lawful → Progress left0 left old → Consumes left next piece → GoesOn checked old piece new → Progress left0 next new
@@ -40,11 +37,6 @@ pub of_read : (left0 left : Option (List ℕ)) (read : List ℕ) (P : List ℕ �
 of_read None left read P c h = (read ++ [], tt, h [])
 of_read (Some text) None read P c h = absurd c
 of_read (Some text) (Some more) read P c h = (read ++ more, sym c, h more)
-
--- what holds of a text that is told
-pub of_told : (left : Option (List ℕ)) (P : List ℕ → Type 0) → OfText left P → IfSome left P
-of_told None P h = tt
-of_told (Some text) P h = subst P h.1 h.2
 
 -- the read that met the end of the input
 pub read_nothing : (a b c : Option (List ℕ)) (read buf : List ℕ) (count : ℕ) → count ≡ 0 → Consumes a b read → Consumes b c (take count buf) → Consumes a c read

@@ -9,9 +9,6 @@ join_more : (c : ℕ) (x : List ℕ) (xs : List (List ℕ)) (y : List ℕ) → j
 join_more c x [] y = refl
 join_more c x (z ∷ zs) y = ap (λ t. x ++ (c ∷ t)) (join_more c z zs y) ∙ sym (append_assoc x (c ∷ join_with_byte c (z ∷ zs)) (c ∷ y))
 
-pub dotted_first : (n : ℕ) → dotted (n ∷ []) ≡ decimal n
-dotted_first n = refl
-
 dotted_push : (ns : List ℕ) (n : ℕ) → 0 < length ns → dotted (ns ++ n ∷ []) ≡ dotted ns ++ 46 ∷ decimal n
 dotted_push [] n some = absurd (omega arith)
 dotted_push (m ∷ ms) n some = ap (join_with_byte 46) (ap (λ t. decimal m ∷ t) (map_push ms n)) ∙ join_more 46 (decimal m) (map decimal ms) (decimal n)

@@ -1,5 +1,5 @@
 -- Journals that grow, and the text and the entries of what they hold.
-use Rattle.std.proofs.Common.{◌≡◌, ℕ, Bool, true, List, [], ◌∷◌, ◌++◌, map, refl, sym, ap, ◌∙◌, append_assoc}
+use Rattle.std.proofs.Common.{◌≡◌, ℕ, Bool, List, [], ◌∷◌, ◌++◌, map, refl, sym, ap, ◌∙◌, append_assoc}
 use Rattle.std.proofs.lemmas.List.{append-nil}
 use Rattle.journal_text.specs.declared.entry.Entry.{Entry}
 use Rattle.journal_text.specs.declared.line.Line.{Line}
@@ -19,11 +19,6 @@ pub text_of_append : (quiet : Bool) (a b : List Line) → text_of quiet (a ++ b)
 text_of_append quiet [] b = refl
 text_of_append quiet (line ∷ a) b = ap (λ (t : List ℕ). shown quiet line ++ t) (text_of_append quiet a b) ∙ sym (append_assoc (shown quiet line) (text_of quiet a) (text_of quiet b))
 
--- a quiet journal prints nothing of its entries
-pub quiet_entries : (entries : List (Entry Value)) → text_of true (as_lines entries) ≡ []
-quiet_entries [] = refl
-quiet_entries (e ∷ entries) = quiet_entries entries
-
 abbrev with_pending : Journaled → List ℕ → Journaled
 with_pending j pending = record { text = j.text; pending = pending; quiet = j.quiet }
 
@@ -40,9 +35,6 @@ with_entries_append j a b = with_lines_append j (as_lines a) (as_lines b) ∙ ap
 
 pub with_entries_none : (j : Journaled) → with_entries j [] ≡ j
 with_entries_none j = with_unprinted j [] refl
-
-pub quiet_stays : (j : Journaled) (entries : List (Entry Value)) → j.quiet ≡ true → j ≡ with_entries j entries
-quiet_stays j entries quiet = sym (with_unprinted j (as_lines entries) (ap (λ (q : Bool). text_of q (as_lines entries)) quiet ∙ quiet_entries entries))
 
 pub entries_of_append : (a b : List Line) → entries_of (a ++ b) ≡ entries_of a ++ entries_of b
 entries_of_append [] b = refl

@@ -9,7 +9,7 @@ use Rattle.link_change.specs.declared.change.Change.{Change}
 use Rattle.link_change.proofs.RowLemmas.{same_function}
 use Rattle.journal_text.specs.declared.link.Link.{Link}
 use Rattle.journal_text.specs.declared.entry.Entry.{Entry}
-use Rattle.journal_text.specs.declared.entry.Entry.TheVariants.{Begin, Inherit, Asked, Weld, End}
+use Rattle.journal_text.specs.declared.entry.Entry.TheVariants.{Begin, Inherit}
 use Rattle.journal_text.specs.declared.value.Value.{Value}
 use Rattle.journal_text.specs.Links.{same_link}
 use Rattle.journal_text.specs.Walk.{Links, with_link, after, IsLawful, fold_links, Leads, change_entries}
@@ -93,16 +93,6 @@ module _ {V : Type 0} where
     lawful = ((free, subst (λ (o : Option (Rows V)). IsSome o) (sym live) refl), tt);
     ends = ap (with_link links link) live;
   }
-
-  -- a lookup changes nothing
-  pub leads_asked : (links : Links V) (link : Link) (rows : Rows V) (p : Network) (row : Option V) → links link ≡ Some rows → rows p ≡ row → Leads links (Asked link p row ∷ []) links
-  leads_asked links link rows p row live at = record { lawful = ((rows, live, at), tt); ends = refl }
-
-  pub leads_weld : (links : Links V) (upper lower : Link) (rows : Rows V) → (upper ≡ lower → ⊥) → links upper ≡ Some rows → links lower ≡ Some rows → Leads links (Weld upper lower ∷ []) (with_link links upper None)
-  leads_weld links upper lower rows apart above below = record { lawful = ((apart, (rows, above, below)), tt); ends = refl }
-
-  pub leads_end : (links : Links V) (link : Link) (rows : Rows V) → links link ≡ Some rows → Leads links (End link ∷ []) (with_link links link None)
-  leads_end links link rows live = record { lawful = (subst (λ (o : Option (Rows V)). IsSome o) (sym live) refl, tt); ends = refl }
 
 -- rows of one type as values, where no two rows have one value
 module _ {R : Type 0} (value : R → Value) (one : (a b : R) → value a ≡ value b → a ≡ b) where

@@ -5,7 +5,7 @@ use Rattle.std.proofs.lemmas.Bool.{leb-true, leb-false}
 use Rattle.std.proofs.lemmas.List.Concat.{flat_map-append}
 use Rattle.std.proofs.KnownBytes.{Consumes-trans}
 use Rattle.std.specs.List.{AllByRecursion}
-use Rattle.std.specs.Io.KnownBytes.{Consumes, IsAtEnd, prepend_known}
+use Rattle.std.specs.Io.KnownBytes.{Consumes, IsAtEnd}
 use Rattle.mrt_reader.specs.Records.{Record, octets_of, length_in, HoldNone}
 use Rattle.mrt_reader.specs.Fields.{is_used}
 use Rattle.mrt_reader.specs.Kept.{kept_size, IsKeptOf}
@@ -54,9 +54,6 @@ read_more as4 read text octets lines n old new r sound few is said behind was =
 
 -- ---- no whole record
 
-pub short_head : (octets : List ℕ) → length octets < 12 → HoldNone octets
-short_head octets short = λ r more is e. omega (arith, short, is.head, ap length e, length-append (octets_of r) more, length-append r.head r.body)
-
 pub short_body : (head part : List ℕ) → length head ≡ 12 → length part < length_in head → HoldNone (head ++ part)
 short_body head part twelve short = λ r more is e.
     let back : head ++ part ≡ r.head ++ (r.body ++ more) = e ∙ append_assoc r.head r.body more in
@@ -77,14 +74,6 @@ may_go_on None b octets c = ([], tt)
 may_go_on (Some a) None octets c = absurd c
 may_go_on (Some a) (Some b) octets c = (b, sym c)
 
-no_more : (xs ys : List ℕ) → xs ++ ys ≡ [] → ys ≡ []
-no_more [] ys e = e
-no_more (x ∷ xs) ys e = absurd (cc)
-
-pub ends_behind : (unread : List ℕ) (a : Option (List ℕ)) → IsAtEnd (prepend_known unread a) → IsAtEnd a
-ends_behind unread None e = tt
-ends_behind unread (Some a) e = no_more unread a e
-
 -- ---- a body in two parts
 
 pub kept_front : (front rest : List ℕ) (n : ℕ) → length front ≡ min n 4120 → length rest ≡ n - min n 4120 → front ≡ take 4120 (front ++ rest)
@@ -104,13 +93,6 @@ both_taken a b c n k front rest (Ok true) few f r = (Consumes-trans a b c front 
 both_taken a b c n k front rest (Ok false) few f r = (Consumes-trans a b c front rest f.0 r.0, omega (arith, few, f.1, r.1, length-append front rest), r.2)
 both_taken a b c n k front rest (Err ReadFault) few f r = (Consumes-trans a b c front rest f.0 r.0, omega (arith, few, f.1, r.1, length-append front rest))
 both_taken a b c n k front rest (Err Memory) few f r = tt
-
--- not even so many were there
-pub fewer_taken : (a b : Option (List ℕ)) (n k : ℕ) (octets : List ℕ) (result : Result Bool Stop) → k ≤ n → (result ≡ Ok true → ⊥) → AreTaken a b k result octets → AreTaken a b n result octets
-fewer_taken a b n k octets (Ok true) few other t = absurd (other refl)
-fewer_taken a b n k octets (Ok false) few other t = (t.0, omega (arith, few, t.1), t.2)
-fewer_taken a b n k octets (Err ReadFault) few other t = (t.0, omega (arith, few, t.1))
-fewer_taken a b n k octets (Err Memory) few other t = tt
 
 pub is_kept : (as4 : Bool) (h : Header) (kept front rest : List ℕ) (result : Result Bool Stop) (a b : Option (List ℕ)) → result ≡ Ok true → kept ≡ front → length front ≡ kept_size as4 h → AreTaken a b (h.length - kept_size as4 h) result rest → IsKeptOf as4 h kept (front ++ rest)
 is_kept as4 h kept front rest (Ok false) a b all same some others = absurd (cc)

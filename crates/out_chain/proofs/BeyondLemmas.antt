@@ -74,13 +74,6 @@ module _ (m : FinMap prefix_cmp Attrs) where
   pub no_next : (place : Option Network) → IsNextCandidate (with_rows (tables.get m)) place None → beyond_in m place ≡ 0
   no_next place next = none_beyond place next
 
-  -- a row beyond a place is one of those
-  pub row_is_beyond : (place : Option Network) (q : Network) (a : Attrs) → tables.get m q ≡ Some a → is_beyond place q ≡ true → 0 < beyond_in m place
-  row_is_beyond place q a at beyond = elim (sides place q) as (λ _. 0 < beyond_in m place) [
-    | inl h ↦ let less = moved_fewer place q h (ap is_some at) in omega (arith, less)
-    | inr not_so ↦ absurd (let clash : true ≡ false = sym beyond ∙ not_so in cc)
-  ]
-
   -- where none lies beyond a place, no row stands there
   pub nothing_beyond : (place : Option Network) (q : Network) → beyond_in m place ≡ 0 → IsBeyond place q → tables.get m q ≡ None
   nothing_beyond place q none h = by (tables.get m q) refl

@@ -1,5 +1,5 @@
 -- The walk of a refresh.
-use Rattle.std.proofs.Common.{◌≡◌, ◌⊎◌, inl, inr, ◌==◌, ◌<◌, ◌≤◌, ℕ, Bool, true, false, cond, List, [], ◌∷◌, Option, Some, None, is_some, refl, sym, ap, subst, ◌∙◌, arith}
+use Rattle.std.proofs.Common.{◌≡◌, ◌==◌, ◌<◌, ◌≤◌, ℕ, Bool, true, false, cond, List, [], ◌∷◌, Option, Some, None, is_some, refl, sym, ap, subst, ◌∙◌, arith}
 use Rattle.std.specs.Prelude.{option_map}
 use Rattle.std.specs.Option.{ForSome}
 use Rattle.std.proofs.lemmas.Bool.Decides.{nat_tests}
@@ -15,7 +15,7 @@ use Rattle.link_change.specs.Rows.{Rows, IsNextCandidate, with_row, with_rows as
 use Rattle.link_change.specs.declared.change.Change.{Change}
 use Rattle.link_change.specs.InOrder.{rows_before}
 use Rattle.link_change.proofs.RowLemmas.{rows_inserted, rows_removed, empty_rows, not_first}
-use Rattle.pass_core.specs.Passed.{function_at, is_beyond}
+use Rattle.pass_core.specs.Passed.{function_at}
 use Rattle.peer_out.specs.Changes.{saying, message_octets, IsReadAs, IsSentOf}
 use Rattle.cache_stage.specs.Caches.{kept_after}
 use Rattle.fanout_queue.specs.Queues.{Queued}
@@ -25,7 +25,7 @@ use Rattle.journal_text.specs.Journals.{Journaled, with_lines}
 use Rattle.out_chain.specs.Chains.{OutChained, made_by, beyond_in, walk_on, still_on, left_on, IsOutChain, OutStands, is_unread, has_out_work}
 use Rattle.out_chain.specs.Steps.{sent_after, refresh_after, message_lines, IsTold, announcing, Resends, AddsLines}
 use Rattle.out_chain.specs.Laws.{IsSameButRefresh, RefreshKeeps, ResendKeeps, NoneLeftWithoutRefresh, OverWithoutRowsBeyond, RefreshIsBounded}
-use Rattle.out_chain.proofs.BeyondLemmas.{row_is_beyond, most_beyond, moved_fewer, next_is_beyond, no_next, nothing_beyond, rows_counted}
+use Rattle.out_chain.proofs.BeyondLemmas.{most_beyond, moved_fewer, next_is_beyond, no_next, nothing_beyond, rows_counted}
 
 -- ---- a walk is on where a row lies beyond its place
 by_test : (n : ℕ) (P : Bool → Type 0) → (n ≡ 0 → P true) → (0 < n → P false) → P (n == 0)
@@ -41,14 +41,6 @@ none_where_over : (m : FinMap prefix_cmp Attrs) (place : Option Network) → wal
 none_where_over m place =
     by_test (beyond_in m place) (λ b. cond b None (Some place) ≡ None → beyond_in m place ≡ 0) (λ none _. none)
     (λ _ over. absurd (let clash : ◌≡◌ {A = Option (Option Network)} (Some place) None = over in cc))
-
--- a walk goes on where a row lies beyond its place; and it goes on as it was, or is over
-pub walk_goes : (m : FinMap prefix_cmp Attrs) (place : Option Network) (q : Network) (a : Attrs) → tables.get m q ≡ Some a → is_beyond place q ≡ true → still_on m (Some place) ≡ Some place
-walk_goes m place q a at beyond = is_on m place (row_is_beyond m place q a at beyond)
-
-pub goes_or_ends : (m : FinMap prefix_cmp Attrs) (walk : Option (Option Network)) → (still_on m walk ≡ walk) ⊎ (still_on m walk ≡ None)
-goes_or_ends m None = inl refl
-goes_or_ends m (Some place) = by_test (beyond_in m place) (λ b. (cond b None (Some place) ≡ Some place) ⊎ (cond b None (Some place) ≡ None)) (λ _. inr refl) (λ _. inl refl)
 
 -- the walk as the code has it
 pub walk_is_on : (m : FinMap prefix_cmp Attrs) (place : Place) (p : Network) → IsNextCandidate (rows_of (tables.get m)) (key_of place) (Some p) → option_map key_of (Some place) ≡ walk_on m (key_of place)

@@ -10,12 +10,12 @@ use Rattle.link_change.specs.declared.change.Change.{Change}
 use Rattle.link_change.proofs.RowLemmas.{same_function}
 use Rattle.journal_text.specs.declared.link.Link.TheVariants.{Best, Read, Outf, Adv}
 use Rattle.journal_text.specs.declared.value.Value.{Value}
-use Rattle.journal_text.specs.declared.entry.Entry.TheVariants.{Inherit, Begin, End}
+use Rattle.journal_text.specs.declared.entry.Entry.TheVariants.{Inherit, Begin}
 use Rattle.journal_text.specs.Walk.{Links, Leads, no_links, with_link}
 use Rattle.journal_text.specs.Values.{route_rows, attrs_rows, route_value, attrs_value, sent_entries}
-use Rattle.journal_text.proofs.WalkLemmas.{leads_append, leads_inherit, leads_begin, leads_end, leads_sent}
+use Rattle.journal_text.proofs.WalkLemmas.{leads_append, leads_inherit, leads_begin, leads_sent}
 use Rattle.out_chain.specs.Chains.{session_links, beside_out}
-use Rattle.out_chain.specs.Steps.{start_entries, stop_entries}
+use Rattle.out_chain.specs.Steps.{start_entries}
 
 itself : (n : ℕ) → (n == n) ≡ true
 itself n = eq-eqb n n refl
@@ -39,11 +39,6 @@ begun : {A : Type 0} (a b : Bool) (new y z : A) → cond (a && b) new (cond a y 
 begun true true new y z = refl
 begun true false new y z = refl
 begun false b new y z = refl
-
-over : {A : Type 0} (a b : Bool) (x y z : A) → cond (a && b) y (cond a (cond (a && b) x y) z) ≡ cond a y z
-over true true x y z = refl
-over true false x y z = refl
-over false b x y z = refl
 
 module _ (others : Links Value) (j s : ℕ) where
   at_read : (r o a : Rows Value) → beside_out j others (session_links j s r o a) (Read j s) ≡ Some r
@@ -142,36 +137,7 @@ module _ (others : Links Value) (j s : ℕ) where
       (leads_append (first r) (second r) (with_link (second r) (Adv j s) (Some no_rows)) (Begin (Outf j s) ∷ []) (Begin (Adv j s) ∷ [])
       (leads_begin (first r) (Outf j s) (free_here (j == j) None (others (Outf j s)) (itself j)))
       (leads_begin (second r) (Adv j s) (free_here (j == j) None (others (Adv j s)) (itself j)))))
-
   -- ---- and ends
-  module _ (r o a : Rows Value) where
-    abbrev whole : Links Value
-    whole = beside_out j others (session_links j s r o a)
-
-    abbrev less : Links Value
-    less = with_link whole (Read j s) None
-
-    abbrev least : Links Value
-    least = with_link less (Outf j s) None
-
-    all_over : with_link least (Adv j s) None ≡ without
-    all_over = same_function _ _ (λ link.
-        elim link as (λ l. with_link least (Adv j s) None l ≡ without l) [
-          | Read k t ↦ over (k == j) (t == s) (Some r) None (others (Read k t))
-          | Outf k t ↦ over (k == j) (t == s) (Some o) None (others (Outf k t))
-          | Adv k t ↦ over (k == j) (t == s) (Some a) None (others (Adv k t))
-          | _ ↦ refl
-        ])
-
-    pub ends : Leads whole (stop_entries j s) without
-    ends =
-        let P : Links Value → Type 0 = λ l. Leads whole (stop_entries j s) l in
-        subst P all_over
-        (leads_append whole less (with_link least (Adv j s) None) (End (Read j s) ∷ []) (End (Outf j s) ∷ End (Adv j s) ∷ [])
-        (leads_end whole (Read j s) r (at_read r o a))
-        (leads_append less least (with_link least (Adv j s) None) (End (Outf j s) ∷ []) (End (Adv j s) ∷ [])
-        (leads_end less (Outf j s) o (at_outf r o a))
-        (leads_end least (Adv j s) a (at_adv r o a))))
 
 -- ---- a link's row
 pub has_row : (b : Bool) (rows : Rows Value) (p : Network) (row : Option Value) → IsSome (cond b (Some rows) None) → row ≡ rows p

@@ -45,8 +45,8 @@ use Rattle.journal_text.specs.Values.{attrs_value, route_value, route_rows, attr
 use Rattle.journal_text.specs.declared.link.Link.TheVariants.{Read, Outf, Adv}
 use Rattle.journal_text.proofs.JournalLemmas.{as_lines, with_lines_append, as_lines_append}
 use Rattle.out_chain.specs.Chains.{OutChained, form_of, made_by, outf_rows, session_links, out_links, beside_out, HasSent, RowsMayBeHeard, ChangesMayBeHeard, OutStands}
-use Rattle.out_chain.specs.Steps.{exit_to, new_out, start_entries, stop_entries, LeadsOut, LeadsFromBest, with_rules, sent_after, with_sent, with_filter, read_entries, sending_entries, message_lines, said_of, IsTold, GoesOut, PassesOut, WalksOut, IsWalkedOut, ReadsFirst, WalksNext, TurnsOut, AddsLines, IsOutTurn}
-use Rattle.out_chain.proofs.SessionLinks.{goes_down, begins, ends}
+use Rattle.out_chain.specs.Steps.{exit_to, new_out, start_entries, LeadsFromBest, with_rules, sent_after, with_sent, with_filter, read_entries, sending_entries, message_lines, said_of, IsTold, GoesOut, PassesOut, WalksOut, IsWalkedOut, ReadsFirst, WalksNext, TurnsOut, AddsLines, IsOutTurn}
+use Rattle.out_chain.proofs.SessionLinks.{goes_down, begins}
 use Rattle.out_chain.proofs.SaidLemmas.{row_sayable_after, walked_sayable}
 use Rattle.out_chain.proofs.RefreshLemmas.{MayBeSent, after_sayable, after_with_rows, nothing_sent, no_walk_yet}
 
@@ -345,16 +345,9 @@ starts_leading exit peer session reader rules best others at =
     let P : Rows Value → Rows Value → Type 0 = λ o a. Leads (beside_out peer.number others no_links) (start_entries peer.number session) (beside_out peer.number others (session_links peer.number session (route_rows best) o a)) in
     subst (λ o. P o (attrs_rows (tables.get c.sent))) (sym outf) (subst (P no_rows) (sym adv) (begins others peer.number session (route_rows best) at))
 
-pub stops_leading : (c : OutChained) (read : Rows Route) → LeadsOut c.peer.number (out_links c read) (stop_entries c.peer.number c.session) no_links
-stops_leading c read others = ends others c.peer.number c.session (route_rows read) (attrs_rows (outf_rows c read)) (attrs_rows (tables.get c.sent))
-
 -- ---- new rules
 pub same_rows : (c : OutChained) (rules : List Rule) (read : Rows Route) → outf_rows (with_rules rules c) read ≡ outf_rows c read
 same_rows c rules read = an_edit_keeps_the_rows (made_by c) c.filter (Some rules) read
-
-pub edit_keeps_links : (c : OutChained) (rules : List Rule) (read : Rows Route) → out_links (with_rules rules c) read ≡ out_links c read
-edit_keeps_links c rules read =
-    ap (λ (o : Rows Attrs). session_links c.peer.number c.session (route_rows read) (attrs_rows o) (attrs_rows (tables.get c.sent))) (same_rows c rules read)
 
 pub edit_stands : (c : OutChained) (rules : List Rule) (queued : Queued Route) (best : Rows Route) → OutStands c queued best → OutStands (with_rules rules c) queued best
 edit_stands c rules queued best was = record {

@@ -1,5 +1,5 @@
 -- How a run ends.
-use Rattle.std.proofs.Common.{◌≡◌, ◌≢◌, ◌⊎◌, ⊎_elim, IfSome, ℕ, ◌<◌, Bool, true, false, List, [], ◌++◌, Option, Some, None, refl, sym, ap, ◌∙◌, inl, inr, subst, take, length, append_assoc}
+use Rattle.std.proofs.Common.{◌≡◌, ◌⊎◌, ⊎_elim, IfSome, ℕ, ◌<◌, Bool, true, false, List, [], ◌++◌, Option, Some, None, refl, sym, ap, ◌∙◌, inl, inr, subst, take, length, append_assoc}
 use Rattle.std.proofs.lemmas.List.{append-nil}
 use Rattle.std.proofs.Math.Seq.{take-append_seam, take-length}
 use Rattle.std.specs.Io.KnownBytes.{Appends, Consumes, IsAtEnd, Keeps}
@@ -25,7 +25,7 @@ use Rattle.check_run.specs.Runs.{Took, ReadsAndWrites}
 use Rattle.replay.specs.Headline.{Progress}
 use Rattle.replay.proofs.Runs.{verdict_accepted}
 use Rattle.check_run.proofs.Pieces.{lines_behind}
-use Rattle.check_run.proofs.Known.{appends_nothing, consumes_nothing, consumes_then, consumes_kept}
+use Rattle.check_run.proofs.Known.{appends_nothing, consumes_then, consumes_kept}
 
 -- however the text goes on behind what was read
 pub took_read : (left0 left taken0 taken : Option (List ℕ)) (read bytes : List ℕ) (P : List ℕ → List ℕ → Type 0) → Consumes left0 left read → Appends taken0 taken bytes → ((more : List ℕ) → P (read ++ more) bytes) → Took left0 taken0 taken P
@@ -110,9 +110,6 @@ pub ended_front : (quiet accepted : Bool) (text taken more rest out : List ℕ) 
 ended_front quiet true text taken more rest out f g e = front_output quiet text taken more rest out (f refl) e
 ended_front quiet false text taken more rest out f g e = front_refused quiet text taken more rest out (g refl) e
 
-pub no_progress : (quiet : Bool) (left taken : Option (List ℕ)) (number : ℕ) (m : Moment) (turns : ℕ) (pending : List ℕ) → HasStepped quiet [] number m turns pending [] → Progress quiet left left taken taken number m turns pending
-no_progress quiet left taken number m turns pending s = record { read = []; written = []; consumed = consumes_nothing left; appended = appends_nothing taken; stepped = s }
-
 -- what holds of the whole text that was read
 pub of_all : (left0 left : Option (List ℕ)) (read : List ℕ) (P : List ℕ → Type 0) → Consumes left0 left read → IsAtEnd left → P read → IfSome left0 P
 of_all None left read P c e h = tt
@@ -134,20 +131,6 @@ refused_status quiet text bytes o = ap status_of (sym o.refused)
 -- the end of the text, by its last line
 pub ended_status : (quiet : Bool) (status : Status) (text written : List ℕ) → (status ≡ statuses.Ok → (more : List ℕ) × IsOutput quiet (lines_of text) (written ++ more)) → (status ≡ statuses.Refused → (more : List ℕ) × IsRefusedOutput quiet text (written ++ more)) → (status ≡ statuses.Ok) ⊎ (status ≡ statuses.Refused) → status ≡ status_of (verdict text)
 ended_status quiet status text written f g = ⊎_elim (λ is. is ∙ accepted_status quiet text _ (f is).1) (λ is. is ∙ refused_status quiet text _ (g is).1)
-
-by_cases : (status asked : Status) → status ≢ statuses.Broken → status ≢ statuses.Usage → status ≢ statuses.ReadFault → status ≢ statuses.WriteFault → ((status ≡ statuses.Ok) ⊎ (status ≡ statuses.Refused) → status ≡ asked) → (status ≡ asked) ⊎ (status ≡ statuses.Memory)
-by_cases statuses.Ok asked b u r w d = inl (d (inl refl))
-by_cases statuses.Refused asked b u r w d = inl (d (inr refl))
-by_cases statuses.Memory asked b u r w d = inr refl
-by_cases statuses.Broken asked b u r w d = absurd (b refl)
-by_cases statuses.Usage asked b u r w d = absurd (u refl)
-by_cases statuses.ReadFault asked b u r w d = absurd (r refl)
-by_cases statuses.WriteFault asked b u r w d = absurd (w refl)
-
--- no other status is possible where nothing failed
-pub text_decides : (status : Status) (left : Option (List ℕ)) → status ≢ statuses.Broken → status ≢ statuses.Usage → status ≢ statuses.ReadFault → status ≢ statuses.WriteFault → ((status ≡ statuses.Ok) ⊎ (status ≡ statuses.Refused) → IfSome left (λ text. status ≡ status_of (verdict text))) → IfSome left (λ text. (status ≡ status_of (verdict text)) ⊎ (status ≡ statuses.Memory))
-text_decides status None b u r w d = tt
-text_decides status (Some text) b u r w d = by_cases status (status_of (verdict text)) b u r w d
 
 -- the same, by what is known of the journal
 pub stepped_as : (quiet other : Bool) (read : List ℕ) (number : ℕ) (m : Moment) (turns : ℕ) (pending output : List ℕ) → other ≡ quiet → HasStepped quiet read number m turns pending output → HasStepped other read number m turns pending output

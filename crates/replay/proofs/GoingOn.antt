@@ -1,12 +1,8 @@
 -- One piece after another.
-use Rattle.std.proofs.Common.{◌≡◌, ℕ, ◌+◌, Bool, true, false, List, [], ◌++◌, length, refl, sym, ap, ◌∙◌, inl, inr, ⊎_elim, arith, subst, append_assoc, length-append}
-use Rattle.std.proofs.lemmas.List.{append-nil}
+use Rattle.std.proofs.Common.{◌≡◌, ℕ, ◌+◌, Bool, true, false, List, [], ◌++◌, length, sym, ap, ◌∙◌, inl, inr, ⊎_elim, arith, subst, append_assoc, length-append}
 use Rattle.router_core.specs.Moments.{Moment}
 use Rattle.replay.specs.Output.{IsRefusedOutput}
 use Rattle.replay.specs.Stream.{HasStepped, IsRefusedAt, GoesOn, IsNearer, HasTaken}
-
-pub goes_on_nothing : (quiet : Bool) (a : ℕ × Moment × ℕ × List ℕ) (out : List ℕ) → GoesOn quiet true a [] out out a
-goes_on_nothing quiet a out = λ read taken was. subst (λ (r : List ℕ). HasStepped quiet r a.0 a.1 a.2 a.3 (taken ++ out)) (sym (append-nil read)) was
 
 pub goes_on_then : (quiet accepted : Bool) (a b c : ℕ × Moment × ℕ × List ℕ) (xs ys before middle now : List ℕ) → GoesOn quiet true a xs before middle b → GoesOn quiet accepted b ys middle now c → GoesOn quiet accepted a (xs ++ ys) before now c
 goes_on_then quiet true a b c xs ys before middle now f g = λ read taken was. subst (λ (r : List ℕ). HasStepped quiet r c.0 c.1 c.2 c.3 (taken ++ now)) (append_assoc read xs ys) (g (read ++ xs) taken (f read taken was))
@@ -23,10 +19,6 @@ nearer_then j k a b c p q =
     ⊎_elim (λ x. inl (⊎_elim (λ y. omega (arith, x, y)) (λ y. omega (arith, x, y.0)) q))
     (λ x. ⊎_elim (λ y. inl (omega (arith, x.0, y))) (λ y. inr (omega (arith, x.0, y.0), omega (arith, x.1, y.1))) q) p
 
--- nothing of the piece was taken
-pub taken_nothing : (quiet : Bool) (a : ℕ × Moment × ℕ × List ℕ) (piece out : List ℕ) → HasTaken quiet a piece piece out out a
-taken_nothing quiet a piece out = record { front = []; split = refl; goes_on = goes_on_nothing quiet a out; nearer = inr (omega arith, omega arith) }
-
 -- some more of the piece was taken
 pub taken_more : (quiet : Bool) (a b c : ℕ × Moment × ℕ × List ℕ) (piece left part rest before middle now : List ℕ) → left ≡ part ++ rest → HasTaken quiet a piece left before middle b → GoesOn quiet true b part middle now c → IsNearer (length part) b c → HasTaken quiet a piece rest before now c
 taken_more quiet a b c piece left part rest before middle now e h g n = record {
@@ -41,13 +33,6 @@ pub taken_refused : (quiet : Bool) (a b c : ℕ × Moment × ℕ × List ℕ) (p
 taken_refused quiet a b c piece left part rest before middle now e h g =
     subst (λ (xs : List ℕ). GoesOn quiet false a xs before now c) (append_assoc h.front part rest ∙ (ap (λ t. h.front ++ t) (sym e) ∙ sym h.split))
     (refused_early quiet a c (h.front ++ part) rest before now (goes_on_then quiet false a b c h.front part before middle now h.goes_on g))
-
--- the whole piece was taken
-pub taken_all : (quiet : Bool) (a b : ℕ × Moment × ℕ × List ℕ) (piece before now : List ℕ) → HasTaken quiet a piece [] before now b → GoesOn quiet true a piece before now b
-taken_all quiet a b piece before now h = subst (λ (xs : List ℕ). GoesOn quiet true a xs before now b) (sym (h.split ∙ append-nil h.front)) h.goes_on
-
-pub nearer_all : (quiet : Bool) (a b : ℕ × Moment × ℕ × List ℕ) (piece before now : List ℕ) → HasTaken quiet a piece [] before now b → IsNearer (length piece) a b
-nearer_all quiet a b piece before now h = subst (λ (xs : List ℕ). IsNearer (length xs) a b) (sym (h.split ∙ append-nil h.front)) h.nearer
 
 -- the same, by what the journal and the answer are known to be
 pub as_known : (quiet other answer known : Bool) (a : ℕ × Moment × ℕ × List ℕ) (piece before now : List ℕ) (b : ℕ × Moment × ℕ × List ℕ) → quiet ≡ other → answer ≡ known → GoesOn quiet answer a piece before now b → GoesOn other known a piece before now b

@@ -1,13 +1,10 @@
 -- The texts of totals.
-use Rattle.std.proofs.Common.{◌≡◌, ℕ, suc, ◌+◌, ◌-◌, ◌^◌, ◌<◌, ◌≤◌, List, [], ◌∷◌, ◌++◌, length, take, drop, get_or, codes, refl, sym, ap, ◌∙◌, arith, subst, append_assoc, Option, Some, None}
+use Rattle.std.proofs.Common.{◌≡◌, ℕ, suc, ◌+◌, ◌-◌, ◌^◌, ◌<◌, ◌≤◌, List, [], ◌∷◌, ◌++◌, length, take, drop, get_or, codes, refl, sym, ap, ◌∙◌, arith, subst, append_assoc}
 use Rattle.std.proofs.lemmas.List.{append-nil, length-drop}
 use Rattle.std.proofs.Math.Seq.{take-length, take-suc}
 use Rattle.journal_text.specs.declared.line.Line.TheVariants.{Rows, Work}
 use Rattle.journal_text.specs.declared.link.Link.{Link}
 use Rattle.journal_text.specs.Texts.{line_text}
-use Rattle.link_change.specs.Rows.{Rows as LinkRows}
-use Rattle.journal_text.specs.declared.value.Value.{Value}
-use Rattle.router_core.specs.Lookups.{IsCountOf}
 use Rattle.router_core.specs.Moments.{Moment, router_links}
 use Rattle.replay.specs.Totals.{Adds, AreTotals, AreTotalsOf, IsTotal, rows_line, total_links, turns_line}
 
@@ -35,19 +32,10 @@ slice_rest n t = ap (λ k. take k (drop n t)) (sym (length-drop n t)) ∙ take-l
 
 -- ---- links, one after the other
 
--- the rows of a link that is live
-pub total_some : (link : Link) (rows : Option (LinkRows Value)) (count : ℕ) (before now : List ℕ) → IsCountOf rows (Some count) → count < 2 ^ 128 → now ≡ before ++ rows_line link count → Adds (IsTotal link rows) before now
-total_some link None count before now is small e = absurd is
-total_some link (Some rows) count before now is small e =
-    (rows_line link count, (is.0, is.1, subst (λ (n : ℕ). n < 2 ^ 128) is.2 small, ap (rows_line link) is.2), e)
-
 -- the totals of some links, and of one more
 totals_more : (m : Moment) (done : List Link) (link : Link) (a b : List ℕ) → AreTotalsOf m done a → IsTotal link (router_links m link) b → AreTotalsOf m (done ++ link ∷ []) (a ++ b)
 totals_more m [] link a b e is = (b, [], is, refl, ap (λ t. t ++ b) e ∙ sym (append-nil b))
 totals_more m (d ∷ done) link a b h is = (h.0, h.1 ++ b, h.2, totals_more m done link h.1 b h.3 is, ap (λ t. t ++ b) h.4 ∙ append_assoc h.0 h.1 b)
-
-pub each_none : (m : Moment) (out : List ℕ) → Adds (AreTotalsOf m []) out out
-each_none m out = ([], refl, sym (append-nil out))
 
 pub each_then : (m : Moment) (done : List Link) (link : Link) (before middle now : List ℕ) → Adds (AreTotalsOf m done) before middle → Adds (IsTotal link (router_links m link)) middle now → Adds (AreTotalsOf m (done ++ link ∷ [])) before now
 each_then m done link before middle now f g = (f.0 ++ g.0, totals_more m done link f.0 g.0 f.1 g.1, g.2 ∙ (ap (λ t. t ++ g.0) f.2 ∙ append_assoc before f.0 g.0))
