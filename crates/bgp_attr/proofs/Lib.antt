@@ -2,3 +2,4 @@ pub mod FrontLemmas
 pub mod WordLaws
 pub mod FrontLaws
 pub mod HasLaws
+pub mod MarkLaws

@@ -1,5 +1,6 @@
 -- Paths as they are kept: one word after the other, for each segment one that tells its kind and how many numbers follow, and these.
-use Rattle.std.specs.Prelude.{ℕ, zero, suc, ◌+◌, ◌*◌, ◌/◌, ◌%◌, ◌==◌, if◌then◌else◌, List, [], ◌∷◌, take}
+use Rattle.std.specs.Prelude.{ℕ, zero, suc, ◌+◌, ◌*◌, ◌/◌, ◌%◌, ◌^◌, ◌==◌, ◌≡◌, if◌then◌else◌, List, [], ◌∷◌, take, fold, bit_or}
+use Rattle.std.specs.Int.{bit_at}
 use Rattle.bgp_attr.specs.declared.path.SegmentKind.{SegmentKind}
 use Rattle.bgp_attr.specs.declared.path.SegmentKind.TheVariants.{Set, Sequence}
 use Rattle.bgp_attr.specs.declared.path.Segment.{Segment}
@@ -31,3 +32,13 @@ missing_after (suc n) (word ∷ words) = missing_after n words
 pub record Unfinished : Type 0 where
   pub segments : List Segment
   pub missing : ℕ
+
+-- the marks of words: bit i tells whether some word leaves the rest i by 64
+abbrev pub with_mark : ℕ → ℕ → ℕ
+with_mark marks word = bit_or marks (2 ^ (word % 64))
+
+abbrev pub marks_of : List ℕ → ℕ
+marks_of words = fold with_mark 0 words
+
+abbrev pub IsMarked : ℕ → ℕ → Type 0
+IsMarked marks word = bit_at marks (word % 64) ≡ 1

@@ -17,6 +17,7 @@
 mod attrs;
 mod fronted;
 mod hosts;
+mod marks;
 mod octets;
 mod path;
 mod route;

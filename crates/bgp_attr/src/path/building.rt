@@ -64,6 +64,6 @@ impl PathBuilder {
         requires { self.missing ≡ 0 }
         ensures { result ≡ self.segments }
     {
-        AsPath { words: self.words }
+        AsPath::from_words(self.words)
     }
 }

@@ -46,6 +46,15 @@ impl AsPath {
     pub fn prepended(&self, asn: u32, prepend: u8) -> Result<AsPath, Memory>
         ensures { IfOk result (λ path. path ≡ times_in_front (1 + prepend) asn self.now) }
     {
+        let words = self.prepended_words(asn, prepend)?;
+        Ok(AsPath::from_words(words))
+    }
+
+    /// The words of [`AsPath::prepended`].
+    fn prepended_words(&self, asn: u32, prepend: u8) -> Result<Vec<u32>, Memory>
+        ensures path { IfOk result (λ words. segments_after 0 words.items ≡ times_in_front (1 + prepend) asn self.now) }
+        ensures complete { IfOk result (λ words. missing_after 0 words.items ≡ 0) }
+    {
         let (kept, behind) = leading(self.words.as_slice());
         let times = u16::from(prepend) + 1;
         let joining = times.min(u16::from(MOST - kept));
@@ -58,6 +67,6 @@ impl AsPath {
         }
         push_repeated(&mut words, kept + joining as u8, joining as u8, asn)?;
         words.extend_from_slice(behind)?;
-        Ok(AsPath { words })
+        Ok(words)
     }
 }

@@ -2,8 +2,8 @@ use Rattle.std.proofs.Common.{◌≡◌, ◌+◌, ◌-◌, ◌≤◌, ◌<◌, s
 use Rattle.bgp_attr.specs.Paths.{in_front, times_in_front}
 use Rattle.bgp_attr.specs.Words.{segments_after, missing_after}
 use Rattle.bgp_attr.proofs.FrontLaws.{IsLeading, all_join, some_begin}
-use Rattle.bgp_attr.proofs.path.AsPath.prepended.Goals as goal
-use Rattle.bgp_attr.proofs.path.AsPath.prepended.Goals.{then-others-gt0-2+in_ok-push_repeated, else-others-gt0-2}
+use Rattle.bgp_attr.proofs.path.AsPath.prepended_words.Goals as goal
+use Rattle.bgp_attr.proofs.path.AsPath.prepended_words.Goals.{then-others-gt0-2+in_ok-push_repeated, else-others-gt0-2}
 
 leads : (c : goal.In_ok-extend_from_slice) → IsLeading c.leading-kept.result.0 c.args.asn c.args.self.now c.leading-kept.result.1.now
 leads c = record {
@@ -38,8 +38,8 @@ both c =
           (all.0 ∙ ap (λ n. times_in_front n c.args.asn c.args.self.now) times, all.1)
     ]
 
-pub invariant_of-result : goal.invariant_of-result
-invariant_of-result c = (both c).1
+pub returns-clause-path : goal.returns-clause-path
+returns-clause-path c = (both c).0
 
-pub returns : goal.returns
-returns c = (both c).0
+pub returns-clause-complete : goal.returns-clause-complete
+returns-clause-complete c = (both c).1
