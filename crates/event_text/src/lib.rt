@@ -6,7 +6,6 @@
 #![tactic(auto)]
 
 mod declared;
-mod digits;
 mod event;
 mod grammar;
 mod words;

@@ -6,9 +6,9 @@ ghost use Rattle.journal_text.specs.Names.{proto_of};
 ghost use Rattle.policy_rules.specs.Words.{words};
 ghost use Rattle.event_text.specs.Words.{is_clean, from_one, speaker_of, octets_of, way_out, way_over, interior_of, switch_of};
 
-use crate::digits::{are_digits, decode};
 use addr4::{Addr, Memory, read_addr, read_number, read_number_below};
 use bgp_attr::{Octets, Profile, Speaker, is_host};
+use hex::FromHexError;
 use policy_rules::first_word;
 use rib_route::{Iface, Interior, Proto};
 use std::alloc::Global;
@@ -70,19 +70,20 @@ pub fn speaker(profile: Profile, text: &[u8]) -> Option<Speaker>
 }
 
 /// The octets that hex digits spell, at least one.
-#[tactic(auto, using(crate::proofs::OctetLemmas::octets_empty, crate::proofs::OctetLemmas::octets_odd, crate::proofs::OctetLemmas::octets_other))]
+#[tactic(auto, unfolding(crate::specs::Words::octets_of))]
 pub fn octets(alloc: Global, digits: &[u8]) -> Result<Option<Octets>, Memory>
     ensures { IfOk result (λ octets. octets ≡ octets_of digits.now) }
 {
-    if digits.is_empty() {
-        return Ok(None);
+    match hex::decode(alloc, digits) {
+        Ok(octets) => {
+            if octets.is_empty() {
+                return Ok(None);
+            }
+            Ok(Some(Octets::from_vec(octets)))
+        }
+        Err(FromHexError::OutOfMemory) => Err(Memory),
+        Err(_) => Ok(None),
     }
-    if digits.len() % 2 != 0 || !are_digits(digits) {
-        return Ok(None);
-    }
-    let mut octets = vec![in alloc; 0u8; digits.len() / 2]?;
-    decode(digits, octets.as_mut_slice());
-    Ok(Some(Octets::from_vec(octets)))
 }
 
 /// The protocol of a word.
