@@ -6,13 +6,14 @@
 //! family.
 //!
 //! Here too: [`Memory`], the one answer for want of memory of the whole product, [`Row`], what a table asks of its rows,
-//! and the reading and writing of decimal numbers. Every other crate stands on this one.
+//! the reading and writing of decimal numbers, and the writing of octets as hex digits. Every other crate stands on this one.
 #![tactic(auto)]
 
 mod addr;
 mod family;
 mod memory;
 mod numbers;
+mod octets;
 mod parts;
 mod place;
 mod prefix;
@@ -23,6 +24,7 @@ pub use addr::Addr;
 pub use family::{Family, V4};
 pub use memory::Memory;
 pub use numbers::{push_number, read_number, read_number_below};
+pub use octets::{all_printable, push_hex};
 pub use parts::first_part;
 pub use place::Place;
 pub use prefix::Prefix;

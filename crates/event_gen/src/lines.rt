@@ -8,7 +8,7 @@ ghost use Rattle.addr4.specs.Texts.{prefix_text};
 ghost use Rattle.event_gen.specs.Lines.{block, peer_addr, path_as, announced, announce_octets, withdraw_octets, host, work_text, event_words, event_line};
 
 use crate::drawn::{Drawn, Work};
-use addr4::{Addr, Memory, Prefix, push_number, push_prefix};
+use addr4::{Addr, Memory, Prefix, push_hex, push_number, push_prefix};
 use bgp_attr::{AsPath, Attrs, Origin, Profile, UnrecognizedAttrs};
 use bgp_wire::{write_announcement, write_withdrawal};
 use std::alloc::Global;
@@ -114,24 +114,6 @@ fn push_numbered(out: &mut Vec<u8>, text: &[u8], number: u8) -> Result<(), Memor
 {
     push_text(out, text)?;
     push_number(out, u64::from(number))
-}
-
-/// The hex digits of octets, written where they stay.
-fn push_hex(out: &mut Vec<u8>, octets: &[u8]) -> Result<(), Memory>
-    ensures { OnOk result (out.new.items ≡ out.old.items ++ encode_lower octets.now) }
-{
-    let start = out.len();
-    let Some(room) = octets.len().checked_mul(2) else {
-        return Err(Memory);
-    };
-    let Some(end) = start.checked_add(room) else {
-        return Err(Memory);
-    };
-    out.resize(end, 0)?;
-    match hex::encode_to_slice(octets, &mut out[start..]) {
-        Ok(()) => Ok(()),
-        Err(_) => unreachable!(),
-    }
 }
 
 /// `bgp K HEX`

@@ -1,12 +1,11 @@
 //! What single words of a line say.
 
-ghost use Rattle.std.specs.Prelude.{◌≡◌, ◌&&◌, ◌==◌, nat_le, length, IfOk};
-ghost use Rattle.std.specs.List.{list_all};
+ghost use Rattle.std.specs.Prelude.{◌≡◌, ◌==◌, length, IfOk};
 ghost use Rattle.journal_text.specs.Names.{proto_of};
 ghost use Rattle.policy_rules.specs.Words.{words};
 ghost use Rattle.event_text.specs.Words.{is_clean, from_one, speaker_of, octets_of, way_out, way_over, interior_of, switch_of};
 
-use addr4::{Addr, Memory, read_addr, read_number, read_number_below};
+use addr4::{Addr, Memory, all_printable, read_addr, read_number, read_number_below};
 use bgp_attr::{Octets, Profile, Speaker, is_host};
 use hex::FromHexError;
 use policy_rules::first_word;
@@ -19,18 +18,6 @@ pub fn is_clean(line: &[u8]) -> bool
     ensures { result ≡ is_clean line.now }
 {
     line.len() <= 16384 && all_printable(line)
-}
-
-// It looks at every byte, so that many are looked at at once.
-#[tactic(auto, using(std::proofs::lemmas::List::Folds::list_all_more))]
-fn all_printable(line: &[u8]) -> bool
-    ensures { result ≡ list_all (λ b. nat_le 32 b && nat_le b 126) line.now }
-{
-    let mut all = true;
-    for byte in line {
-        all &= 32 <= *byte && *byte <= 126;
-    }
-    all
 }
 
 /// Whether there is no word.

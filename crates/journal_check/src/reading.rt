@@ -1,13 +1,12 @@
 //! Reading a line of a journal.
 
-ghost use Rattle.std.specs.Prelude.{◌≡◌, ◌∷◌, ◌&&◌, nat_le, IfOk, option_map};
-ghost use Rattle.std.specs.List.{list_all};
+ghost use Rattle.std.specs.Prelude.{◌≡◌, ◌∷◌, IfOk, option_map};
 ghost use Rattle.addr4.specs.Texts.{parts, parts_after};
 ghost use Rattle.journal_text.specs.declared.entry.Entry.TheVariants as entries;
 ghost use Rattle.journal_check.specs.Readings.{answer_of, entry_from, entry_of_five, entry_of_four, entry_of_three, entry_of_two, entry_on_both, entry_on_row, entry_on_two, is_clean, is_skipped, printed_prefix, reading_of, value_of};
 
 use crate::text::Text;
-use addr4::{Memory, Prefix, first_part, read_addr, read_number_below};
+use addr4::{Memory, Prefix, all_printable, first_part, read_addr, read_number_below};
 use journal_text::{Entry, Link};
 use memchr::memchr;
 use std::alloc::Global;
@@ -28,18 +27,6 @@ fn is_clean(line: &[u8]) -> bool
     ensures { result ≡ is_clean line.now }
 {
     line.len() <= 65536 && all_printable(line)
-}
-
-// It looks at every byte, so that many are looked at at once.
-#[tactic(auto, using(std::proofs::lemmas::List::Folds::list_all_more))]
-fn all_printable(line: &[u8]) -> bool
-    ensures { result ≡ list_all (λ b. nat_le 32 b && nat_le b 126) line.now }
-{
-    let mut all = true;
-    for byte in line {
-        all &= 32 <= *byte && *byte <= 126;
-    }
-    all
 }
 
 // Whether a line with this first word is no entry.

@@ -8,8 +8,7 @@ ghost use Rattle.journal_text.specs.Texts.{line_text, text_of, words_line};
 
 use crate::line::Line;
 use crate::lines::{is_entry, push_line, push_peer};
-use crate::texts::push_hex;
-use addr4::Memory;
+use addr4::{Memory, push_hex};
 use std::alloc::Global;
 
 /// Characters, and octets behind them.

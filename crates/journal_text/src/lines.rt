@@ -10,9 +10,9 @@ use crate::entry::Entry;
 use crate::line::{Code, Line};
 use crate::link::{Link, Task};
 use crate::names::{push_link, push_task};
-use crate::texts::{push_answer, push_hex, push_text, push_value, push_wide};
+use crate::texts::{push_answer, push_text, push_value, push_wide};
 use crate::value::Value;
-use addr4::{Addr, Memory, Prefix, push_addr, push_number, push_prefix};
+use addr4::{Addr, Memory, Prefix, push_addr, push_hex, push_number, push_prefix};
 use std::alloc::Global;
 
 /// A word, a space, and a link.

@@ -3,13 +3,12 @@
 ghost use Rattle.std.specs.Prelude.{◌≡◌, ◌++◌, ◌∷◌, [], List, OnOk, Option, Some, None, codes, map, cond, length};
 ghost use Rattle.std.specs.List.{flat_map};
 ghost use Rattle.std.specs.Fmt.{decimal};
-ghost use Rattle.hex.specs.Hex.{encode_lower};
 ghost use Rattle.addr4.specs.Texts.{dotted};
 ghost use Rattle.journal_text.specs.Texts.{origin_number, segment_text, path_text, lettered, aggregator_text, unrecognized_text, required_text, optional_text, attrs_text, sender_number, field_text, known_text, route_text, fib_proto_text, gateway_text, with_colons, interior_text, external_text, fib_text, value_text, answer_text};
 
 use crate::names::fib_proto_word;
 use crate::value::Value;
-use addr4::{Addr, Memory, push_addr, push_number};
+use addr4::{Addr, Memory, push_addr, push_hex, push_number};
 use bgp_attr::{
     Aggregator, AsPath, Attrs, Neighbour, Origin, Route, Segment, SegmentKind, Unrecognized,
 };
@@ -31,21 +30,6 @@ pub(crate) fn push_wide(alloc: Global, out: &mut Vec<u8>, number: u128) -> Resul
     let text = number.to_string(alloc)?;
     out.extend_from_slice(text.as_bytes())?;
     Ok(())
-}
-
-/// The hex digits of octets.
-pub(crate) fn push_hex(out: &mut Vec<u8>, octets: &[u8]) -> Result<(), Memory>
-    ensures { OnOk result (out.new.items ≡ out.old.items ++ encode_lower octets.now) }
-{
-    let at = out.len();
-    let Some(end) = at.checked_add(2 * octets.len()) else {
-        return Err(Memory);
-    };
-    out.resize(end, 0)?;
-    match hex::encode_to_slice(octets, &mut out[at..]) {
-        Ok(()) => Ok(()),
-        Err(_) => Err(Memory),
-    }
 }
 
 fn origin_number(origin: Origin) -> u64

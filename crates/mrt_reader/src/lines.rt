@@ -2,13 +2,12 @@
 
 ghost use Rattle.std.specs.Prelude.{◌≡◌, ◌++◌, ◌∷◌, [], OnOk, codes};
 ghost use Rattle.std.specs.Fmt.{decimal};
-ghost use Rattle.hex.specs.Hex.{encode_lower};
 ghost use Rattle.addr4.specs.Texts.{addr_text};
 ghost use Rattle.mrt_reader.specs.Lines.{line_text, refused_text, code_text};
 ghost use Rattle.mrt_reader.specs.Lines as lines;
 
 use crate::answer::Code;
-use addr4::{Addr, Memory, push_addr, push_number};
+use addr4::{Addr, Memory, push_addr, push_hex, push_number};
 
 fn push_text(out: &mut Vec<u8>, text: &[u8]) -> Result<(), Memory>
     ensures { OnOk result (out.new.items ≡ out.old.items ++ text.now) }
@@ -80,24 +79,6 @@ pub(crate) fn push_down(out: &mut Vec<u8>, number: u32) -> Result<(), Memory>
 {
     push_numbered(out, b"down ", number)?;
     push_text(out, b"\n")
-}
-
-/// The hex digits of octets, written where they stay.
-fn push_hex(out: &mut Vec<u8>, octets: &[u8]) -> Result<(), Memory>
-    ensures { OnOk result (out.new.items ≡ out.old.items ++ encode_lower octets.now) }
-{
-    let start = out.len();
-    let Some(room) = octets.len().checked_mul(2) else {
-        return Err(Memory);
-    };
-    let Some(end) = start.checked_add(room) else {
-        return Err(Memory);
-    };
-    out.resize(end, 0)?;
-    match hex::encode_to_slice(octets, &mut out[start..]) {
-        Ok(()) => Ok(()),
-        Err(_) => unreachable!(),
-    }
 }
 
 /// `bgp K HEX`
