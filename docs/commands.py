@@ -31,6 +31,7 @@ NOT_RUN = [
     (r'wrong-bodies/run\.py', 'it tries wrong bodies: minutes to hours'),
     (r'bench/(all|alike|captures|daemons|everywhere|mrt_files|refused|settled)\.py', 'it measures or compares: minutes'),
     (r'--sshlogin(file)? [^:]|\bssh\b|\bsbatch\b|\bsrun\b', 'it needs other machines'),
+    (r'\bxdg-open\b', 'it needs a desktop'),
 ]
 NEEDS_PROGRAM = re.compile(r'(^|[\s(|;])replay (run|mrt|check|gen)\b|' + re.escape(BUILT))
 SAMPLES = {
