@@ -137,7 +137,7 @@ Each is a *story* of `examples/` (a link to %s):
 
 The gate runs all of them (crates/story_tests): each event file at once and byte by byte, with the
 journal and with `--quiet`, and gives its journal to `check`. The outputs come from a program of
-another hand. With the built program (README.md, "Run it"):
+another hand. With the built program (README.md, "What it takes"):
 
 ```sh
 crates/replay_main/out/replay_main run < examples/two_peers.events
