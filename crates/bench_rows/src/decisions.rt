@@ -7,7 +7,9 @@ mod branches;
 
 use crate::measured::{Measured, mixed};
 use addr4::{Addr, Memory, Prefix, Row};
-use bgp_attr::{AsPath, Attrs, Neighbour, Origin, Route, SharedAttrs, UnrecognizedAttrs};
+use bgp_attr::{
+    AsPath, Attrs, Neighbour, Origin, Reflection, Route, SharedAttrs, UnrecognizedAttrs,
+};
 use branches::TrieBranches;
 use decision::take_in;
 use link_change::Change;
@@ -31,7 +33,8 @@ fn attrs_of(alloc: Global, kind: u64) -> Result<SharedAttrs, Memory> {
         local_pref: None,
         atomic: false,
         aggregator: None,
-        unrecognized: UnrecognizedAttrs::new(alloc),
+        reflection: Reflection::none(),
+        unrecognized: UnrecognizedAttrs::none(),
     };
     SharedAttrs::new(alloc, attrs)
 }
@@ -45,6 +48,7 @@ fn peer(branch: u8) -> Neighbour {
         id: Addr::new(0xc000_0200 + number),
         addr: Addr::new(0xc000_0200 + number),
         internal: branch % 8 == 7,
+        client: false,
     }
 }
 

@@ -14,6 +14,7 @@ use std::io::{BufRead, BufReader};
 const PROFILE: Profile = Profile {
     as4: false,
     revised: false,
+    reflect: false,
 };
 
 /// The octets of a line `bgp K HEX`; none of another line.

@@ -6,12 +6,12 @@ use Rattle.std.proofs.lemmas.List.Kept.{AllPairs-filter}
 use Rattle.std.proofs.lemmas.List.Sorted.{Contains-permutation, IsPermutation-sym}
 use Rattle.bgp_attr.specs.declared.route.Route.{Route}
 use Rattle.best_path.specs.declared.step.Step.{Step}
-use Rattle.best_path.specs.declared.step.Step.TheVariants.{Preference, PathLength, Origin, Med, External, InteriorMetric, Identifier, Address}
+use Rattle.best_path.specs.declared.step.Step.TheVariants.{Address}
 use Rattle.best_path.specs.Keys.{is_local, peer_address, candidate_of}
 use Rattle.best_path.specs.Marks.{first_of}
-use Rattle.best_path.specs.Steps.{beats_by, kept_by, highest_preference, shortest_path, lowest_origin, lowest_med_within_neighbour_as, external_over_internal, lowest_interior_metric, lowest_identifier, left_by_all, local_or, pick, IsPlaceOfBest}
+use Rattle.best_path.specs.Steps.{beats_by, kept_by, left_by_all, local_or, pick, IsPlaceOfBest}
 use Rattle.best_path.specs.Laws.{PickIsOneOfThem, NoneOnlyOfNothing, OneIsItsOwnBest, AtMostOneIsLeft, OrderDoesNotMatter}
-use Rattle.best_path.proofs.StepLemmas.{Has, passed, passes}
+use Rattle.best_path.proofs.StepLemmas.{Has, passed, passes, left_by, steps_before_last, all_steps}
 use Rattle.best_path.proofs.PickLemmas.{leaves_one}
 
 -- ---- elements
@@ -34,17 +34,9 @@ first_has (x ∷ xs) u e = grind (arith, e)
 step_of : (step : Step) (list : List Route) (u : Route) → Has (kept_by step list) u → Has list u
 step_of step list u h = (passed (λ other. not (list_any (λ one. beats_by step (candidate_of one) (candidate_of other)) list)) list u h).0
 
-left_of : (list : List Route) (u : Route) → Has (left_by_all list) u → Has list u
-left_of list u h =
-    let a = highest_preference list in
-    let b = shortest_path a in
-    let c = lowest_origin b in
-    let d = lowest_med_within_neighbour_as c in
-    let e = external_over_internal d in
-    let f = lowest_interior_metric e in
-    let g = lowest_identifier f in
-    step_of Preference list u (step_of PathLength a u (step_of Origin b u (step_of Med c u (step_of External d u
-    (step_of InteriorMetric e u (step_of Identifier f u (step_of Address g u h)))))))
+pub left_of : (steps : List Step) (list : List Route) (u : Route) → Has (left_by steps list) u → Has list u
+left_of [] list u h = h
+left_of (step ∷ steps) list u h = step_of step list u (left_of steps (kept_by step list) u h)
 
 one_of_both : (locals others : List Route) (u : Route) → local_or locals others ≡ Some u → Has locals u ⊎ Has others u
 one_of_both [] others u e = inr (first_has others u e)
@@ -55,7 +47,7 @@ pick_is_one_of_them list best e =
     has_contains list best
     (elim (one_of_both (filter is_local list) (left_by_all list) best e) [
       | inl h ↦ (passed is_local list best h).0
-      | inr h ↦ left_of list best h
+      | inr h ↦ left_of all_steps list best h
     ])
 
 -- ---- one candidate
@@ -127,17 +119,9 @@ Apart one other = is_local one ≡ false → is_local other ≡ false → peer_a
 step_apart : (step : Step) (list : List Route) → AllPairs Apart list → AllPairs Apart (kept_by step list)
 step_apart step list h = AllPairs-filter Apart (λ other. not (list_any (λ one. beats_by step (candidate_of one) (candidate_of other)) list)) list h
 
-left_apart : (list : List Route) → AllPairs Apart list → AllPairs Apart (left_by_all list)
-left_apart list h =
-    let a = highest_preference list in
-    let b = shortest_path a in
-    let c = lowest_origin b in
-    let d = lowest_med_within_neighbour_as c in
-    let e = external_over_internal d in
-    let f = lowest_interior_metric e in
-    let g = lowest_identifier f in
-    step_apart Address g (step_apart Identifier f (step_apart InteriorMetric e (step_apart External d (step_apart Med c
-    (step_apart Origin b (step_apart PathLength a (step_apart Preference list h)))))))
+left_apart : (steps : List Step) (list : List Route) → AllPairs Apart list → AllPairs Apart (left_by steps list)
+left_apart [] list h = h
+left_apart (step ∷ steps) list h = left_apart steps (kept_by step list) (step_apart step list h)
 
 two_left : (left : List Route) → AllPairs Apart left → ((u : Route) → Has left u → is_local u ≡ false) →
     ((u v : Route) → Has left u → Has left v → (peer_address u) ≡ (peer_address v)) → length left ≤ 1
@@ -146,10 +130,6 @@ two_left (x ∷ []) h n same = omega arith
 two_left (x ∷ y ∷ zs) h n same =
     absurd (h 0 1 x (omega arith) (omega arith) (n x (inl refl)) (n y (inr (inl refl))) (same x y (inl refl) (inr (inl refl))))
 
-abbrev before_last : List Route → List Route
-before_last list =
-    lowest_identifier (lowest_interior_metric (external_over_internal (lowest_med_within_neighbour_as (lowest_origin (shortest_path (highest_preference list))))))
-
 same_address : (list : List Route) (u v : Route) → Has (kept_by Address list) u → Has (kept_by Address list) v → (peer_address u) ≡ (peer_address v)
 same_address list u v h k =
     neither_below (peer_address u) (peer_address v) (none_beats Address list v u k (step_of Address list u h))
@@ -157,8 +137,8 @@ same_address list u v h k =
 
 pub at_most_one_is_left : AtMostOneIsLeft
 at_most_one_is_left list n apart =
-    two_left (left_by_all list) (left_apart list apart) (λ u h. none_local list u n (left_of list u h))
-    (same_address (before_last list))
+    two_left (left_by_all list) (left_apart all_steps list apart) (λ u h. none_local list u n (left_of all_steps list u h))
+    (same_address (left_by steps_before_last list))
 
 -- ---- order
 pub record HaveTheSame {X : Type 0} (xs ys : List X) : Type 0 where
@@ -197,16 +177,9 @@ same_step step xs ys s =
     (λ u. ap not (any_stays (λ one. beats_by step (candidate_of one) (candidate_of u)) xs ys s (list_any (λ one. beats_by step (candidate_of one) (candidate_of u)) xs) refl
     (list_any (λ one. beats_by step (candidate_of one) (candidate_of u)) ys) refl))
 
-same_left : (xs ys : List Route) → HaveTheSame xs ys → HaveTheSame (left_by_all xs) (left_by_all ys)
-same_left xs ys s =
-    let s1 = same_step Preference xs ys s in
-    let s2 = same_step PathLength (highest_preference xs) (highest_preference ys) s1 in
-    let s3 = same_step Origin (shortest_path (highest_preference xs)) (shortest_path (highest_preference ys)) s2 in
-    let s4 = same_step Med _ _ s3 in
-    let s5 = same_step External _ _ s4 in
-    let s6 = same_step InteriorMetric _ _ s5 in
-    let s7 = same_step Identifier _ _ s6 in
-    same_step Address (before_last xs) (before_last ys) s7
+same_left : (steps : List Step) (xs ys : List Route) → HaveTheSame xs ys → HaveTheSame (left_by steps xs) (left_by steps ys)
+same_left [] xs ys s = s
+same_left (step ∷ steps) xs ys s = same_left steps (kept_by step xs) (kept_by step ys) (same_step step xs ys s)
 
 same_first : (xs ys : List Route) → HaveTheSame xs ys → length xs ≤ 1 → first_of xs ≡ first_of ys
 same_first [] [] s h = refl
@@ -231,5 +204,5 @@ order_does_not_matter list other one apart p =
     let s : HaveTheSame list other =
     record { there = permuted list other p; back = permuted other list (IsPermutation-sym list other p) } in
     same_pick (filter is_local list) (filter is_local other) (left_by_all list) (left_by_all other)
-    (same_filter is_local is_local list other s (λ u. refl)) one (same_left list other s)
+    (same_filter is_local is_local list other s (λ u. refl)) one (same_left all_steps list other s)
     (λ n. at_most_one_is_left list n apart)

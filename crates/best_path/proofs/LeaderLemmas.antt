@@ -7,7 +7,7 @@ use Rattle.std.proofs.lemmas.List.Folds.{list_any-append}
 use Rattle.bgp_attr.specs.declared.route.Route.{Route}
 use Rattle.best_path.specs.declared.candidate.Candidate.{Candidate}
 use Rattle.best_path.specs.declared.step.Step.{Step}
-use Rattle.best_path.specs.declared.step.Step.TheVariants.{Preference, PathLength, Origin, Med, External, InteriorMetric, Identifier, Address}
+use Rattle.best_path.specs.declared.step.Step.TheVariants.{Preference, PathLength, Origin, Med, External, InteriorMetric, Identifier, ClusterCount, Address}
 use Rattle.best_path.specs.Keys.{origin_rank, candidate_of}
 use Rattle.best_path.specs.Marks.{marked}
 use Rattle.best_path.specs.Steps.{beats_by, kept_by, unbeaten_by, is_level}
@@ -81,9 +81,10 @@ level Med l x y z h k = grind (arith, l)
 level External l x y z h k = external_level x.internal y.internal z.internal h k
 level InteriorMetric l x y z h k = not_lt_along x.igp y.igp z.igp h k
 level Identifier l x y z h k = not_lt_along x.id y.id z.id h k
+level ClusterCount l x y z h k = not_lt_along x.clusters y.clusters z.clusters h k
 level Address l x y z h k = not_lt_along x.addr y.addr z.addr h k
 
-none_of : (p : Candidate → Bool) (xs : List Candidate) → ((u : Candidate) → Has xs u → p u ≡ false) → list_any p xs ≡ false
+pub none_of : {X : Type 0} → (p : X → Bool) (xs : List X) → ((u : X) → Has xs u → p u ≡ false) → list_any p xs ≡ false
 none_of p [] h = refl
 none_of p (x ∷ xs) h = or_false (p x) (list_any p xs) (h x (inl refl)) (none_of p xs (λ u k. h u (inr k)))
 
@@ -99,9 +100,9 @@ by_the_leader step l list best u h false e =
     sym (none_of (λ one. beats_by step one u) list
     (λ one k. level step l one best u (fails_all (λ v. beats_by step v best) list one h.1 k) e))
 
-same_test : (p q : Route → Bool) (xs : List Route) → ((u : Route) → p u ≡ q u) → filter p xs ≡ filter q xs
+pub same_test : {X : Type 0} → (p q : X → Bool) (xs : List X) → ((u : X) → Has xs u → p u ≡ q u) → filter p xs ≡ filter q xs
 same_test p q [] h = refl
-same_test p q (x ∷ xs) h = rw (h x) (rw (same_test p q xs h) refl)
+same_test p q (x ∷ xs) h = rw (h x (inl refl)) (rw (same_test p q xs (λ u k. h u (inr k))) refl)
 
 -- the marked candidates are those of the marked routes
 pub marked_of : (routes : List Route) (candidates : List Candidate) → map candidate_of routes ≡ candidates → (marks : List Bool) →
@@ -114,7 +115,7 @@ pub level_kept : (step : Step) → is_level step ≡ true → (list : List Route
 level_kept step l list best h =
     same_test (λ other. not (beats_by step best (candidate_of other)))
     (λ other. not (list_any (λ one. beats_by step (candidate_of one) (candidate_of other)) list)) list
-    (λ u. ap not
+    (λ u k. ap not
     (by_the_leader step l (map candidate_of list) best (candidate_of u) h (beats_by step best (candidate_of u)) refl
     ∙ list_any-map (λ one. beats_by step one (candidate_of u)) candidate_of list))
 
@@ -125,7 +126,7 @@ pub pairwise_kept : (step : Step) (routes : List Route) (candidates : List Candi
 pairwise_kept step routes candidates is marks =
     same_test (λ other. not (list_any (λ one. beats_by step one (candidate_of other)) (marked candidates marks)))
     (λ other. not (list_any (λ one. beats_by step (candidate_of one) (candidate_of other)) (marked routes marks))) (marked routes marks)
-    (λ u. ap not
+    (λ u k. ap not
     (ap (list_any (λ one. beats_by step one (candidate_of u))) (marked_of routes candidates is marks)
     ∙ list_any-map (λ one. beats_by step one (candidate_of u)) candidate_of (marked routes marks)))
 

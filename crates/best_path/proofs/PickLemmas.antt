@@ -2,11 +2,12 @@
 use Rattle.std.proofs.Common.{◌≡◌, ℕ, zero, suc, ◌<◌, List, [], ◌∷◌, length, slice_get, Option, Some, None, map, sym, ◌∙◌, ap, arith}
 use Rattle.std.specs.Prelude.{filter}
 use Rattle.bgp_attr.specs.declared.route.Route.{Route}
-use Rattle.best_path.specs.declared.step.Step.TheVariants.{Preference, PathLength, Origin, Med, External, InteriorMetric, Identifier, Address}
+use Rattle.best_path.specs.declared.step.Step.{Step}
+use Rattle.best_path.specs.declared.step.Step.TheVariants.{Preference, PathLength}
 use Rattle.best_path.specs.Keys.{is_local}
 use Rattle.best_path.specs.Marks.{first_of, IsPlaceOfFirst, IsPlaceOfOnly}
-use Rattle.best_path.specs.Steps.{highest_preference, shortest_path, lowest_origin, lowest_med_within_neighbour_as, external_over_internal, lowest_interior_metric, lowest_identifier, left_by_all, local_or, kept_by, IsPlaceOfBest}
-use Rattle.best_path.proofs.StepLemmas.{keeps_one, keeps_alone}
+use Rattle.best_path.specs.Steps.{left_by_all, local_or, kept_by, IsPlaceOfBest}
+use Rattle.best_path.proofs.StepLemmas.{left_by, later_steps, all_steps, leave_one, leave_alone}
 
 first_not_past : (list : List Route) (i : ℕ) → i < length list → slice_get list i ≡ None → ⊥
 first_not_past [] i h e = omega (arith, h)
@@ -23,16 +24,7 @@ pub picked_local : (list : List Route) (place : ℕ) → IsPlaceOfFirst list (fi
 picked_local list place h = (h.0, first_is_it (filter is_local list) (left_by_all list) list place h.0 h.1)
 
 pub leaves_one : (list : List Route) → left_by_all list ≡ [] → list ≡ []
-leaves_one list h =
-    let a = highest_preference list in
-    let b = shortest_path a in
-    let c = lowest_origin b in
-    let d = lowest_med_within_neighbour_as c in
-    let e = external_over_internal d in
-    let f = lowest_interior_metric e in
-    let g = lowest_identifier f in
-    keeps_one Preference list (keeps_one PathLength a (keeps_one Origin b (keeps_one Med c (keeps_one External d
-    (keeps_one InteriorMetric e (keeps_one Identifier f (keeps_one Address g h)))))))
+leaves_one list h = leave_one all_steps list h
 
 -- where none is local, the place of the first that the steps leave is
 pub picked_left : (list : List Route) (result : Option ℕ) → filter is_local list ≡ [] → IsPlaceOfFirst list (left_by_all list) result
@@ -44,24 +36,15 @@ picked_left list (Some i) n h = (h.0, ap (λ l. local_or l (left_by_all list)) n
 first_is : (r : Route) (o : Option Route) → Some r ∷ [] ≡ o ∷ [] → Some r ≡ o
 first_is r o e = cc
 
-one_stays : (list : List Route) (o : Option Route) → map Some list ≡ o ∷ [] →
-    first_of (kept_by Address (kept_by Identifier (kept_by InteriorMetric (kept_by External (kept_by Med (kept_by Origin list)))))) ≡ o
-one_stays [] o e = absurd (let f : [] ≡ o ∷ [] = e in cc)
-one_stays (r ∷ []) o e =
-    ap first_of
-    (ap (λ l. kept_by Address (kept_by Identifier (kept_by InteriorMetric (kept_by External (kept_by Med l))))) (keeps_alone Origin r)
-    ∙ ap (λ l. kept_by Address (kept_by Identifier (kept_by InteriorMetric (kept_by External l)))) (keeps_alone Med r)
-    ∙ ap (λ l. kept_by Address (kept_by Identifier (kept_by InteriorMetric l))) (keeps_alone External r)
-    ∙ ap (λ l. kept_by Address (kept_by Identifier l)) (keeps_alone InteriorMetric r)
-    ∙ ap (kept_by Address) (keeps_alone Identifier r)
-    ∙ keeps_alone Address r)
-    ∙ first_is r o e
-one_stays (r ∷ s ∷ rs) o e = absurd (let f : Some r ∷ Some s ∷ map Some rs ≡ o ∷ [] = e in cc)
+one_stays : (steps : List Step) (list : List Route) (o : Option Route) → map Some list ≡ o ∷ [] → first_of (left_by steps list) ≡ o
+one_stays steps [] o e = absurd (let f : [] ≡ o ∷ [] = e in cc)
+one_stays steps (r ∷ []) o e = ap first_of (leave_alone steps r) ∙ first_is r o e
+one_stays steps (r ∷ s ∷ rs) o e = absurd (let f : Some r ∷ Some s ∷ map Some rs ≡ o ∷ [] = e in cc)
 
 -- where none is local, and the first two steps leave one, its place is that of the best
 pub picked_early : (list : List Route) (place : ℕ) → filter is_local list ≡ []
     → IsPlaceOfOnly list (kept_by PathLength (kept_by Preference list)) place → IsPlaceOfBest list (Some place)
 picked_early list place n h = (
   h.0,
-  ap (λ l. local_or l (left_by_all list)) n ∙ one_stays (kept_by PathLength (kept_by Preference list)) (slice_get list place) h.1,
+  ap (λ l. local_or l (left_by_all list)) n ∙ one_stays later_steps (kept_by PathLength (kept_by Preference list)) (slice_get list place) h.1,
 )

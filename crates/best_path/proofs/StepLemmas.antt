@@ -1,10 +1,10 @@
 -- What a step keeps.
-use Rattle.std.proofs.Common.{◌≡◌, ℕ, ◌⊎◌, Bool, true, false, cond, not, ◌&&◌, ◌||◌, nat_lt, nat_eq, List, [], ◌∷◌, refl, sym, ◌∙◌, ap, subst, arith, inl, inr}
+use Rattle.std.proofs.Common.{◌≡◌, ℕ, ◌⊎◌, Bool, true, false, cond, not, ◌&&◌, ◌||◌, nat_lt, nat_eq, List, [], ◌∷◌, ◌++◌, refl, sym, ◌∙◌, ap, subst, arith, inl, inr}
 use Rattle.std.specs.Prelude.{filter}
 use Rattle.std.specs.List.{list_any}
 use Rattle.bgp_attr.specs.declared.route.Route.{Route}
 use Rattle.best_path.specs.declared.step.Step.{Step}
-use Rattle.best_path.specs.declared.step.Step.TheVariants.{Preference, PathLength, Origin, Med, External, InteriorMetric, Identifier, Address}
+use Rattle.best_path.specs.declared.step.Step.TheVariants.{Preference, PathLength, Origin, Med, External, InteriorMetric, Identifier, ClusterCount, Address}
 use Rattle.best_path.specs.Keys.{origin_rank, candidate_of}
 use Rattle.best_path.specs.Steps.{beats_by, kept_by}
 
@@ -145,6 +145,7 @@ strict External = record {
 }
 strict InteriorMetric = lt_strict (λ c. c.igp)
 strict Identifier = lt_strict (λ c. c.id)
+strict ClusterCount = lt_strict (λ c. c.clusters)
 strict Address = lt_strict (λ c. c.addr)
 
 -- a step takes out no last one
@@ -168,3 +169,31 @@ keeps_one step list h =
 -- a step keeps one alone
 pub keeps_alone : (step : Step) (r : Route) → kept_by step (r ∷ []) ≡ r ∷ []
 keeps_alone step r = rw ((strict step).never_itself (candidate_of r)) refl
+
+-- ---- steps one after the other
+abbrev pub left_by : List Step → List Route → List Route
+left_by [] list = list
+left_by (step ∷ steps) list = left_by steps (kept_by step list)
+
+-- the steps of the decision: the first two, after which one may be left, those between, and the last one
+abbrev pub steps_between : List Step
+steps_between = Origin ∷ Med ∷ External ∷ InteriorMetric ∷ Identifier ∷ ClusterCount ∷ []
+
+abbrev pub later_steps : List Step
+later_steps = steps_between ++ Address ∷ []
+
+abbrev pub steps_before_last : List Step
+steps_before_last = Preference ∷ PathLength ∷ steps_between
+
+abbrev pub all_steps : List Step
+all_steps = Preference ∷ PathLength ∷ later_steps
+
+-- they take out no last one
+pub leave_one : (steps : List Step) (list : List Route) → left_by steps list ≡ [] → list ≡ []
+leave_one [] list h = h
+leave_one (step ∷ steps) list h = keeps_one step list (leave_one steps (kept_by step list) h)
+
+-- they keep one alone
+pub leave_alone : (steps : List Step) (r : Route) → left_by steps (r ∷ []) ≡ r ∷ []
+leave_alone [] r = refl
+leave_alone (step ∷ steps) r = ap (left_by steps) (keeps_alone step r) ∙ leave_alone steps r

@@ -1,5 +1,5 @@
--- What the decision asks of a route (RFC 4271, section 9.1.2.2).
-use Rattle.std.specs.Prelude.{ℕ, Bool, false, is_none, unwrap_or, if◌then◌else◌, Option, Some, None, List}
+-- What the decision asks of a route (RFC 4271, section 9.1.2.2; RFC 4456, section 9).
+use Rattle.std.specs.Prelude.{ℕ, Bool, false, is_none, unwrap_or, if◌then◌else◌, Option, Some, None, List, length}
 use Rattle.std.specs.Option.{option_map_or}
 use Rattle.bgp_attr.specs.Paths.{hops, first_as}
 use Rattle.bgp_attr.specs.declared.attrs.Origin.{Origin}
@@ -46,8 +46,16 @@ abbrev pub interior_metric : Route → ℕ
 interior_metric r = unwrap_or r.igp 0
 
 -- the BGP identifier of the peer that it came from (section 9.1.2.2 f)
+abbrev pub peer_identifier : Route → ℕ
+peer_identifier r = option_map_or (λ peer. peer.id) r.from 0
+
+-- the same, or the ORIGINATOR_ID in its place where there is one (RFC 4456, section 9)
 abbrev pub identifier : Route → ℕ
-identifier r = option_map_or (λ peer. peer.id) r.from 0
+identifier r = option_map_or (λ peer. unwrap_or r.attrs.reflection.originator peer.id) r.from 0
+
+-- how many clusters it went through: the length of the CLUSTER_LIST, 0 where there is none (RFC 4456, section 9)
+abbrev pub cluster_count : Route → ℕ
+cluster_count r = length r.attrs.reflection.clusters
 
 -- the address of the peer that it came from (section 9.1.2.2 g)
 abbrev pub peer_address : Route → ℕ
@@ -65,5 +73,6 @@ candidate_of r = record {
   internal = is_internal r;
   igp = interior_metric r;
   id = identifier r;
+  clusters = cluster_count r;
   addr = peer_address r;
 }

@@ -1,8 +1,9 @@
 -- Laws of the decision.
-use Rattle.std.specs.Prelude.{◌≡◌, ◌≢◌, ◌≤◌, false, List, [], ◌∷◌, length, filter, Contains, AllPairs, IsPermutation, Some, None}
+use Rattle.std.specs.Prelude.{◌≡◌, ◌≢◌, ◌≤◌, false, List, [], ◌∷◌, length, filter, Contains, All, AllPairs, IsPermutation, Some, None}
+use Rattle.bgp_attr.specs.Reflections.{not_reflected}
 use Rattle.bgp_attr.specs.declared.route.Route.{Route}
 use Rattle.best_path.specs.Keys.{is_local, peer_address}
-use Rattle.best_path.specs.Steps.{left_by_all, pick}
+use Rattle.best_path.specs.Steps.{left_by_all, pick, left_by_eight, pick_by_eight}
 
 -- at most one is local
 abbrev pub OneLocal : List Route → Type 0
@@ -25,7 +26,7 @@ NoneOnlyOfNothing = (list : List Route) → pick list ≡ None → list ≡ []
 abbrev pub OneIsItsOwnBest : Type 0
 OneIsItsOwnBest = (one : Route) → pick (one ∷ []) ≡ Some one
 
--- of peers' routes the eight steps leave at most one
+-- of peers' routes the nine steps leave at most one
 abbrev pub AtMostOneIsLeft : Type 0
 AtMostOneIsLeft = (list : List Route) → filter is_local list ≡ [] → PeersDiffer list → length (left_by_all list) ≤ 1
 
@@ -33,3 +34,15 @@ AtMostOneIsLeft = (list : List Route) → filter is_local list ≡ [] → PeersD
 abbrev pub OrderDoesNotMatter : Type 0
 OrderDoesNotMatter =
     (list other : List Route) → OneLocal list → PeersDiffer list → IsPermutation list other → pick list ≡ pick other
+
+-- no route has an ORIGINATOR_ID or a CLUSTER_LIST
+abbrev pub NoneIsReflected : List Route → Type 0
+NoneIsReflected list = All (λ r. r.attrs.reflection ≡ not_reflected) list
+
+-- there the nine steps leave what the eight of RFC 4271 leave
+abbrev pub EightStepsLeaveTheSame : Type 0
+EightStepsLeaveTheSame = (list : List Route) → NoneIsReflected list → left_by_all list ≡ left_by_eight list
+
+-- and so the best is the one that RFC 4271 alone picks
+abbrev pub EightStepsPickTheSame : Type 0
+EightStepsPickTheSame = (list : List Route) → NoneIsReflected list → pick list ≡ pick_by_eight list

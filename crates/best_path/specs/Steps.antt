@@ -1,11 +1,12 @@
--- The decision process of RFC 4271, section 9.1.2.2: eight filters, each over the whole list that the one before left.
+-- The decision process of RFC 4271, section 9.1.2.2, with the step that RFC 4456, section 9, adds to it: nine filters, each over the whole
+-- list that the one before left.
 use Rattle.std.specs.Prelude.{◌≡◌, ◌<◌, ℕ, length, slice_get, Bool, not, ◌&&◌, nat_lt, nat_eq, List, [], ◌∷◌, filter, Option, Some, None, true, false}
 use Rattle.std.specs.List.{list_any}
 use Rattle.bgp_attr.specs.declared.route.Route.{Route}
 use Rattle.best_path.specs.declared.candidate.Candidate.{Candidate}
 use Rattle.best_path.specs.declared.step.Step.{Step}
-use Rattle.best_path.specs.declared.step.Step.TheVariants.{Preference, PathLength, Origin, Med, External, InteriorMetric, Identifier, Address}
-use Rattle.best_path.specs.Keys.{is_local, path_length, origin_rank, neighbour_as, med, is_internal, interior_metric, identifier, peer_address, candidate_of}
+use Rattle.best_path.specs.declared.step.Step.TheVariants.{Preference, PathLength, Origin, Med, External, InteriorMetric, Identifier, ClusterCount, Address}
+use Rattle.best_path.specs.Keys.{is_local, path_length, origin_rank, neighbour_as, med, is_internal, interior_metric, peer_identifier, identifier, cluster_count, peer_address, candidate_of}
 use Rattle.best_path.specs.Marks.{first_of}
 
 -- those that no one in the list beats
@@ -45,28 +46,46 @@ external_over_internal list = unbeaten (λ one other. not (is_internal one) && i
 abbrev pub lowest_interior_metric : List Route → List Route
 lowest_interior_metric list = keep_least interior_metric list
 
--- step 7: those from the peer of the lowest BGP identifier (section 9.1.2.2 f)
+-- step 7: those of the lowest ORIGINATOR_ID, or BGP identifier of the peer where there is none (section 9.1.2.2 f; RFC 4456, section 9)
 abbrev pub lowest_identifier : List Route → List Route
 lowest_identifier list = keep_least identifier list
 
--- step 8: that from the peer of the lowest address (section 9.1.2.2 g)
+-- step 8: those of the shortest CLUSTER_LIST (RFC 4456, section 9)
+abbrev pub fewest_clusters : List Route → List Route
+fewest_clusters list = keep_least cluster_count list
+
+-- step 9: that from the peer of the lowest address (section 9.1.2.2 g)
 abbrev pub lowest_address : List Route → List Route
 lowest_address list = keep_least peer_address list
 
--- what the eight steps leave
+-- what the nine steps leave
 abbrev pub left_by_all : List Route → List Route
 left_by_all list =
-    lowest_address (lowest_identifier (lowest_interior_metric (external_over_internal (lowest_med_within_neighbour_as
-    (lowest_origin (shortest_path (highest_preference list)))))))
+    lowest_address (fewest_clusters (lowest_identifier (lowest_interior_metric (external_over_internal (lowest_med_within_neighbour_as
+    (lowest_origin (shortest_path (highest_preference list))))))))
 
 -- the first of the local ones, or of the others where none is local
 abbrev pub local_or : List Route → List Route → Option Route
 local_or [] others = first_of others
 local_or (r ∷ rs) others = Some r
 
--- the best: a local one if there is one, else what the eight steps leave
+-- the best: a local one if there is one, else what the nine steps leave
 abbrev pub pick : List Route → Option Route
 pick list = local_or (filter is_local list) (left_by_all list)
+
+-- what step 7 is without route reflectors: those from the peer of the lowest BGP identifier (section 9.1.2.2 f)
+abbrev pub lowest_peer_identifier : List Route → List Route
+lowest_peer_identifier list = keep_least peer_identifier list
+
+-- what the eight steps of RFC 4271 leave
+abbrev pub left_by_eight : List Route → List Route
+left_by_eight list =
+    lowest_address (lowest_peer_identifier (lowest_interior_metric (external_over_internal (lowest_med_within_neighbour_as
+    (lowest_origin (shortest_path (highest_preference list)))))))
+
+-- the best by these eight
+abbrev pub pick_by_eight : List Route → Option Route
+pick_by_eight list = local_or (filter is_local list) (left_by_eight list)
 
 -- the place is that of the best, and there is none exactly where there is no route
 abbrev pub IsPlaceOfBest : List Route → Option ℕ → Type 0
@@ -82,6 +101,7 @@ beats_by Med one other = nat_eq one.neighbour_as other.neighbour_as && nat_lt on
 beats_by External one other = not one.internal && other.internal
 beats_by InteriorMetric one other = nat_lt one.igp other.igp
 beats_by Identifier one other = nat_lt one.id other.id
+beats_by ClusterCount one other = nat_lt one.clusters other.clusters
 beats_by Address one other = nat_lt one.addr other.addr
 
 -- the routes whose candidates this one does not beat

@@ -25,8 +25,10 @@ pub struct Candidate {
     pub(crate) internal: bool,
     /// The interior metric of the next hop, 0 where it isn't known.
     pub(crate) igp: u32,
-    /// The peer's BGP identifier.
+    /// ORIGINATOR_ID, or the peer's BGP identifier where there is none (RFC 4456, section 9).
     pub(crate) id: Addr,
+    /// How many clusters the route went through (RFC 4456, section 9).
+    pub(crate) clusters: u64,
     /// The peer's address.
     pub(crate) addr: Addr,
 }
@@ -47,12 +49,13 @@ impl Candidate {
             internal: false,
             igp: route.igp.unwrap_or(0),
             id: Addr::new(0),
+            clusters: attrs.reflection.clusters().len() as u64,
             addr: Addr::new(0),
         };
         if let Some(peer) = route.from {
             candidate.local = false;
             candidate.internal = peer.internal;
-            candidate.id = peer.id;
+            candidate.id = attrs.reflection.originator().unwrap_or(peer.id);
             candidate.addr = peer.addr;
         }
         candidate

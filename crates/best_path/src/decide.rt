@@ -153,7 +153,8 @@ fn best_by_steps(candidates: &[Candidate]) -> Option<usize>
     let external = keep_level(Step::External, candidates, &discriminated);
     let nearest = keep_level(Step::InteriorMetric, candidates, &external);
     let identified = keep_level(Step::Identifier, candidates, &nearest);
-    let left = keep_level(Step::Address, candidates, &identified);
+    let reflected = keep_level(Step::ClusterCount, candidates, &identified);
+    let left = keep_level(Step::Address, candidates, &reflected);
     first_marked(candidates, &left)
 }
 

@@ -1,11 +1,12 @@
-//! The eight steps.
+//! The nine steps.
 
 ghost use Rattle.std.specs.Prelude.{◌≡◌};
 ghost use Rattle.best_path.specs.Steps.{beats_by};
 
 use crate::candidate::Candidate;
 
-/// A step of RFC 4271, section 9.1.2.2; the first one is phase 2's own (section 9.1.2).
+/// A step of RFC 4271, section 9.1.2.2; the first one is phase 2's own (section 9.1.2), and the last but one that of RFC 4456,
+/// section 9.
 #[derive(Clone, Copy, PartialEq, Eq)]
 pub(crate) enum Step {
     Preference,
@@ -15,6 +16,7 @@ pub(crate) enum Step {
     External,
     InteriorMetric,
     Identifier,
+    ClusterCount,
     Address,
 }
 
@@ -30,6 +32,7 @@ pub(crate) fn beats(step: Step, one: &Candidate, other: &Candidate) -> bool
         Step::External => !one.internal && other.internal,
         Step::InteriorMetric => one.igp < other.igp,
         Step::Identifier => one.id < other.id,
+        Step::ClusterCount => one.clusters < other.clusters,
         Step::Address => one.addr < other.addr,
     }
 }

@@ -3,3 +3,4 @@ pub mod Fronts
 pub mod Words
 pub mod Hosts
 pub mod Speakers
+pub mod Reflections

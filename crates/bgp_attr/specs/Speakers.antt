@@ -1,7 +1,8 @@
--- What a speaker and its neighbours must be (RFC 4271, section 4.2; RFC 6793, section 3).
+-- What a speaker and its neighbours must be (RFC 4271, section 4.2; RFC 6793, section 3; RFC 4456, section 6).
 use Rattle.std.specs.Prelude.{◌≡◌, ℕ, ◌^◌, ◌<◌, ◌≤◌, ◌==◌, Bool, true, false, if◌then◌else◌}
 use Rattle.bgp_attr.specs.declared.speaker.Speaker.{Speaker}
 use Rattle.bgp_attr.specs.declared.speaker.Neighbour.{Neighbour}
+use Rattle.bgp_attr.specs.declared.speaker.Profile.{Profile}
 use Rattle.bgp_attr.specs.Hosts.{is_host}
 
 -- AS numbers are below it: those of four octets, or of two
@@ -23,8 +24,14 @@ pub record IsNeighbour (as4 : Bool) (w : Neighbour) : Type 0 where
   pub most : w.number ≤ 64
   pub speaker : IsSpeaker as4 (record { asn = w.asn; id = w.id; addr = w.addr })
 
--- one of this speaker's: internal where both have the same AS, and with another address
-pub record IsNeighbourOf (as4 : Bool) (local : Speaker) (w : Neighbour) : Type 0 where
-  pub neighbour : IsNeighbour as4 w
+-- there are clients only of a route reflector
+abbrev pub MayBeClient : Profile → Bool → Type 0
+MayBeClient p client = client ≡ true → p.reflect ≡ true
+
+-- one of this speaker's: internal where both have the same AS, a client only where it is internal, and with another address
+pub record IsNeighbourOf (p : Profile) (local : Speaker) (w : Neighbour) : Type 0 where
+  pub neighbour : IsNeighbour p.as4 w
   pub internal : w.internal ≡ (local.asn == w.asn)
+  pub client : w.client ≡ true → w.internal ≡ true
+  pub reflected : MayBeClient p w.client
   pub foreign : (local.addr == w.addr) ≡ false

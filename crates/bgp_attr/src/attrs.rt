@@ -3,6 +3,7 @@
 ghost use Rattle.std.specs.Prelude.{◌≡◌, IfOk};
 
 use crate::path::AsPath;
+use crate::reflection::Reflection;
 use crate::unrecognized::UnrecognizedAttrs;
 use addr4::{Addr, Memory, Row};
 use std::alloc::Global;
@@ -26,26 +27,32 @@ pub struct Aggregator {
     pub partial: bool,
 }
 
-/// What is kept of a route's attributes.
+/// What is kept of a route's attributes. A table has one for each UPDATE that announced a route of it: the fields stand by their
+/// size, so that there is no room between them.
 #[derive(Drop)]
 pub struct Attrs {
-    pub origin: Origin,
     pub path: AsPath,
-    pub next_hop: Addr,
+    /// The unrecognized optional transitive attributes, by ascending type.
+    pub unrecognized: UnrecognizedAttrs,
+    /// ORIGINATOR_ID and CLUSTER_LIST; of an internal peer's route alone.
+    pub reflection: Reflection,
+    pub aggregator: Option<Aggregator>,
     /// MULTI_EXIT_DISC.
     pub med: Option<u32>,
     /// LOCAL_PREF; of an internal peer's route alone.
     pub local_pref: Option<u32>,
+    pub next_hop: Addr,
+    pub origin: Origin,
     /// Whether ATOMIC_AGGREGATE is there.
     pub atomic: bool,
-    pub aggregator: Option<Aggregator>,
-    /// The unrecognized optional transitive attributes, by ascending type.
-    pub unrecognized: UnrecognizedAttrs,
 }
+
+const _: () = prove!(size_of::<Attrs>() <= 104);
 
 impl Row for Attrs {
     fn copy(&self) -> Result<Attrs, Memory> {
         let path = self.path.copy()?;
+        let reflection = self.reflection.copy()?;
         let unrecognized = self.unrecognized.copy()?;
         Ok(Attrs {
             origin: self.origin,
@@ -55,6 +62,7 @@ impl Row for Attrs {
             local_pref: self.local_pref,
             atomic: self.atomic,
             aggregator: self.aggregator,
+            reflection,
             unrecognized,
         })
     }
@@ -67,6 +75,7 @@ impl Row for Attrs {
             && self.atomic == other.atomic
             && self.aggregator == other.aggregator
             && self.path.same(&other.path)
+            && self.reflection.same(&other.reflection)
             && self.unrecognized.same(&other.unrecognized)
     }
 }

@@ -4,8 +4,11 @@
 //! optional non-transitive attributes are gone by then. [`SharedAttrs`] lends the same attributes to all routes of one
 //! UPDATE. [`Route`] is a row behind the incoming filter. [`Speaker`], [`Neighbour`] and [`Profile`] are the words of the
 //! configuration; what those must be (`IsSpeaker`, `IsNeighbourOf`) is said here for all who take them. [`is_host`] and
-//! [`is_host_prefix`] tell the addresses and prefixes of hosts. Contracts see a path as its list of segments and octets as a list of numbers, so that two values are
-//! equal exactly where everything in them is.
+//! [`is_host_prefix`] tell the addresses and prefixes of hosts. Contracts see a path as its list of segments and octets as a list of
+//! numbers, so that two values are equal exactly where everything in them is.
+//!
+//! What few routes have, unrecognized attributes and what route reflectors added ([`Reflection`], RFC 4456), stands in boxes of its
+//! own: a route without them has two pointers of nothing.
 //!
 //! An [`AsPath`] answers what the decision and the filters ask of it (its hops, its first AS, whether it has an AS), and
 //! gives the path that is sent to an external peer, or says whether two such paths are the same. It is one block of words,
@@ -15,20 +18,24 @@
 #![tactic(auto)]
 
 mod attrs;
+mod cluster_list;
 mod fronted;
 mod hosts;
 mod marks;
 mod octets;
 mod path;
+mod reflection;
 mod route;
 mod speaker;
 mod unrecognized;
 mod words;
 
 pub use attrs::{Aggregator, Attrs, Origin, SharedAttrs};
+pub use cluster_list::ClusterList;
 pub use hosts::{is_host, is_host_prefix};
 pub use octets::Octets;
 pub use path::{AsPath, Numbers, PathBuilder, Segment, SegmentKind, Segments};
+pub use reflection::Reflection;
 pub use route::Route;
 pub use speaker::{Neighbour, Profile, Speaker};
 pub use unrecognized::{Unrecognized, UnrecognizedAttrs};

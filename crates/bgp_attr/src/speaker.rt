@@ -28,6 +28,8 @@ pub struct Neighbour {
     pub addr: Addr,
     /// Whether the peer's AS is the local one.
     pub internal: bool,
+    /// Whether the peer is a client of this speaker as a route reflector (RFC 4456, section 6); only an internal one may be.
+    pub client: bool,
 }
 
 /// How messages are read.
@@ -38,6 +40,9 @@ pub struct Profile {
     /// Errors in attributes are handled by a table in the manner of RFC 7606, in place of RFC 4271, section 6.3. It differs in
     /// substance: a faulty UPDATE that announces nothing withdraws nothing more, where RFC 7606, section 5.2, resets the session.
     pub revised: bool,
+    /// This speaker is a route reflector, whose cluster has its identifier (RFC 4456): what reflectors added to routes of internal
+    /// peers is read, and peers may be clients.
+    pub reflect: bool,
 }
 
 impl Profile {

@@ -1,6 +1,6 @@
 //! Attributes that this speaker doesn't recognize, and passes on.
 
-ghost use Rattle.std.specs.Prelude.{◌≡◌, ◌↔◌, [], IsTrue};
+ghost use Rattle.std.specs.Prelude.{◌≡◌, ◌↔◌, [], IsTrue, IfOk};
 
 use crate::octets::Octets;
 use addr4::{Memory, Row};
@@ -29,57 +29,74 @@ impl Row for Unrecognized {
     }
 }
 
-/// Unrecognized attributes in a row; a route has them by ascending type.
+/// Unrecognized attributes in a row; a route has them by ascending type. Few routes have any: they stand in a box of their own.
 #[derive(Drop)]
 pub struct UnrecognizedAttrs {
-    items: Vec<Unrecognized>,
+    items: Option<Box<Vec<Unrecognized>>>,
 }
 
 impl Model for UnrecognizedAttrs {
-    ghost use Rattle.std.specs.Prelude.{List};
+    ghost use Rattle.std.specs.Prelude.{List, [], option_map, unwrap_or};
     ghost use Rattle.bgp_attr.specs.declared.unrecognized.Unrecognized.{Unrecognized};
 
     ghost Value = { List Unrecognized };
 
-    ghost view = { λ u. u.items.items };
+    ghost view = { λ u. unwrap_or (option_map (λ items. items.value.items) u.items) [] };
 }
 
 impl UnrecognizedAttrs {
     /// No attribute; takes no memory.
-    pub fn new(alloc: Global) -> UnrecognizedAttrs
+    pub fn none() -> UnrecognizedAttrs
         ensures { result ≡ [] }
     {
-        UnrecognizedAttrs {
-            items: Vec::new(alloc),
-        }
+        UnrecognizedAttrs { items: None }
     }
 
-    /// Takes no memory.
-    pub fn from_vec(items: Vec<Unrecognized>) -> UnrecognizedAttrs
-        ensures { result ≡ items.items }
+    /// Takes no memory where there is none.
+    pub fn from_vec(alloc: Global, items: Vec<Unrecognized>) -> Result<UnrecognizedAttrs, Memory>
+        ensures { IfOk result (λ u. u ≡ items.items) }
     {
-        UnrecognizedAttrs { items }
+        if items.is_empty() {
+            return Ok(UnrecognizedAttrs::none());
+        }
+        let items = Box::new(alloc, items)?;
+        Ok(UnrecognizedAttrs { items: Some(items) })
     }
 
     pub fn as_slice(&self) -> &[Unrecognized]
         ensures { result.now ≡ self.now }
     {
-        self.items.as_slice()
+        match &self.items {
+            None => &[],
+            Some(items) => items.as_slice(),
+        }
     }
 }
 
 impl Row for UnrecognizedAttrs {
     fn copy(&self) -> Result<UnrecognizedAttrs, Memory> {
-        let mut items = Vec::with_capacity(*self.items.allocator(), self.items.len())?;
-        for item in &self.items {
-            items.push(item.copy()?)?;
+        match &self.items {
+            None => Ok(UnrecognizedAttrs::none()),
+            Some(items) => {
+                let alloc = *items.allocator();
+                UnrecognizedAttrs::from_vec(alloc, copy_of(alloc, items.as_slice())?)
+            }
         }
-        Ok(UnrecognizedAttrs { items })
     }
 
     fn same(&self, other: &UnrecognizedAttrs) -> bool {
-        same_items(self.items.as_slice(), other.items.as_slice())
+        same_items(self.as_slice(), other.as_slice())
     }
+}
+
+fn copy_of(alloc: Global, items: &[Unrecognized]) -> Result<Vec<Unrecognized>, Memory>
+    ensures { IfOk result (λ copies. copies.items ≡ items.now) }
+{
+    let mut copies = Vec::with_capacity(alloc, items.len())?;
+    for item in items {
+        copies.push(item.copy()?)?;
+    }
+    Ok(copies)
 }
 
 fn same_items(left: &[Unrecognized], right: &[Unrecognized]) -> bool

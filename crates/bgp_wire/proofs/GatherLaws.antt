@@ -13,15 +13,15 @@ use Rattle.bgp_wire.proofs.AttributeLoops.{with_kept, goes_on, refuses, runs_out
 pub record IsGatheredSo (p : Profile) (external : Bool) (bytes rest : List ℕ) (g : Gathered) : Type 0 where
   pub seen : List ℕ
   pub kept : Kept
-  pub is : IsGathered p.as4 seen kept g
+  pub is : IsGathered p seen kept g
   pub so_far : with_kept kept (attributes_at p external seen rest) ≡ attributes_at p external [] bytes
 
 begins : (read : Result Kept Notice) → with_kept ([], false) read ≡ read
 begins (Ok k) = refl
 begins (Err n) = refl
 
-pub starts : (p : Profile) (external : Bool) (bytes : List ℕ) (g : Gathered) → ((as4 : Bool) → IsGathered as4 [] ([], false) g) → IsGatheredSo p external bytes bytes g
-starts p external bytes g is = record { seen = []; kept = ([], false); is = is p.as4; so_far = begins (attributes_at p external [] bytes) }
+pub starts : (p : Profile) (external : Bool) (bytes : List ℕ) (g : Gathered) → ((p : Profile) → IsGathered p [] ([], false) g) → IsGatheredSo p external bytes bytes g
+starts p external bytes g is = record { seen = []; kept = ([], false); is = is p; so_far = begins (attributes_at p external [] bytes) }
 
 -- an attribute that runs beyond the end
 pub stops_refused : (p : Profile) (external : Bool) (bytes rest : List ℕ) (g : Gathered) (e : Refusal) → 0 < length rest → None ≡ attribute_at rest → p.revised ≡ false → Refuses e (notice 3 1 []) → IsGatheredSo p external bytes rest g → Fails e (attributes_at p external [] bytes)

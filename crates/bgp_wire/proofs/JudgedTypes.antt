@@ -1,7 +1,12 @@
--- The types by which attributes are judged, under names that laws of crates above can use.
+-- The types by which attributes are judged and placed, under names that laws of crates above can use.
+use Rattle.std.proofs.Common.{ℕ}
+use Rattle.bgp_wire.specs.declared.attributes.Size.{Size as Sized}
+use Rattle.bgp_wire.specs.declared.attributes.Size.TheVariants as sizes
 use Rattle.bgp_wire.specs.declared.attributes.TypeRule.{TypeRule as Rule}
 use Rattle.bgp_wire.specs.declared.attributes.Verdict.{Verdict as Judgement}
 use Rattle.bgp_wire.specs.declared.attributes.Verdict.TheVariants as verdicts
+use Rattle.bgp_wire.specs.declared.writing.attributes.Place.{Place as Stand}
+use Rattle.bgp_wire.specs.declared.writing.attributes.Place.TheVariants as places
 
 abbrev pub TypeRule : Type 0
 TypeRule = Rule
@@ -23,3 +28,28 @@ pub each_verdict : (P : Verdict → Type 0) → P keep → P discard → P withd
 each_verdict P k d w verdicts.Keep = k
 each_verdict P k d w verdicts.Discard = d
 each_verdict P k d w verdicts.Withdraw = w
+
+abbrev pub Size : Type 0
+Size = Sized
+
+abbrev pub any : Size
+any = sizes.Any
+
+abbrev pub fixed : ℕ → Size
+fixed n = sizes.Fixed n
+
+abbrev pub fours : Size
+fours = sizes.Fours
+
+-- where unrecognized attributes stand
+abbrev pub Place : Type 0
+Place = Stand
+
+abbrev pub first : Place
+first = places.First
+
+abbrev pub middle : Place
+middle = places.Middle
+
+abbrev pub last : Place
+last = places.Last

@@ -17,7 +17,6 @@ use Rattle.bgp_wire.proofs.TestLemmas.{or_false_right}
 use Rattle.bgp_wire.proofs.ResultLemmas.{same_ok, not_both}
 use Rattle.bgp_wire.proofs.RouteLaws.{HasAll, attrs_made, one_attrs}
 use Rattle.bgp_wire.proofs.FrameLaws.{content_takes, content_again}
-use Rattle.bgp_wire.proofs.External.{one_fault}
 
 never : (p : Profile) (kind : ℕ) → lack p (Some kind) ≡ Ok false → ⊥
 never p kind e = by_test p.revised e
@@ -36,34 +35,34 @@ has_all p kept e = by_tests (has_kind 1 kept) (has_kind 2 kept) (has_kind 3 kept
     by_tests true false c f g h e = absurd (never p 2 e)
     by_tests true true false f g h e = absurd (never p 3 e)
 
-made_for : (p : Profile) (external : Bool) (bytes : List ℕ) (r : Reading) (is : IsReading p external bytes r) → is.lacking ≡ false → (ps : List Network) → lacks p ps r.kept ≡ Ok is.lacking → (attrs : Option Attrs) × AreAttrsFor p.as4 external r.kept ps attrs
+made_for : (p : Profile) (external : Bool) (bytes : List ℕ) (r : Reading) (is : IsReading p external bytes r) → is.lacking ≡ false → (ps : List Network) → lacks p ps r.kept ≡ Ok is.lacking → (attrs : Option Attrs) × AreAttrsFor p external r.kept ps attrs
 made_for p external bytes r is none [] complete = (None, refl)
 made_for p external bytes r is none (n ∷ ps) complete =
     let has : HasAll (kept_by is.steps is.runs).0 = subst HasAll is.kept (has_all p r.kept (complete ∙ ap (λ b. Ok b) none)) in
     let made = attrs_made p external is.attributes is.steps is.runs is.are has in
-    (Some made.0, subst (λ kept. AreAttrs p.as4 external kept made.0) (sym is.kept) made.1)
+    (Some made.0, subst (λ kept. AreAttrs p external kept made.0) (sym is.kept) made.1)
 
 -- an UPDATE is there
-update_made : (p : Profile) (external : Bool) (bytes : List ℕ) (r : Reading) → IsReading p external bytes r → (u : Update) × IsUpdateBy p.as4 external r r.withdraw u
+update_made : (p : Profile) (external : Bool) (bytes : List ℕ) (r : Reading) → IsReading p external bytes r → (u : Update) × IsUpdateBy p external r r.withdraw u
 update_made p external bytes r is = by_test r.withdraw refl
   where
-    by_test : (b : Bool) → r.withdraw ≡ b → (u : Update) × IsUpdateBy p.as4 external r b u
+    by_test : (b : Bool) → r.withdraw ≡ b → (u : Update) × IsUpdateBy p external r b u
     by_test true e = (record { withdrawn = without r.announced r.withdrawn ++ r.announced; announced = []; attrs = None }, record { withdrawn = refl; announced = refl; attrs = refl })
     by_test false e =
         let made = made_for p external bytes r is (or_false_right (kept_by is.steps is.runs).1 is.lacking (sym is.withdraw ∙ e)) r.announced is.complete in
         (record { withdrawn = r.withdrawn; announced = r.announced; attrs = made.0 }, record { withdrawn = refl; announced = refl; attrs = made.1 })
 
-one_attrs_for : (as4 external : Bool) (kept : List Attribute) (ps : List Network) (a b : Option Attrs) → AreAttrsFor as4 external kept ps a → AreAttrsFor as4 external kept ps b → a ≡ b
-one_attrs_for as4 external kept [] a b f g = f ∙ sym g
-one_attrs_for as4 external kept (n ∷ ps) None b f g = absurd f
-one_attrs_for as4 external kept (n ∷ ps) (Some a) None f g = absurd g
-one_attrs_for as4 external kept (n ∷ ps) (Some a) (Some b) f g = ap (λ x. Some x) (one_attrs as4 external kept a b f g)
+one_attrs_for : (p : Profile) (external : Bool) (kept : List Attribute) (ns : List Network) (a b : Option Attrs) → AreAttrsFor p external kept ns a → AreAttrsFor p external kept ns b → a ≡ b
+one_attrs_for p external kept [] a b f g = f ∙ sym g
+one_attrs_for p external kept (n ∷ ns) None b f g = absurd f
+one_attrs_for p external kept (n ∷ ns) (Some a) None f g = absurd g
+one_attrs_for p external kept (n ∷ ns) (Some a) (Some b) f g = ap (λ x. Some x) (one_attrs p external kept a b f g)
 
 -- and it is one alone
-pub one_update : (as4 external : Bool) (r : Reading) (withdraw : Bool) (u v : Update) → IsUpdateBy as4 external r withdraw u → IsUpdateBy as4 external r withdraw v → u ≡ v
-one_update as4 external r true u v f g = λ i. record { withdrawn = (f.withdrawn ∙ sym g.withdrawn) i; announced = (f.announced ∙ sym g.announced) i; attrs = (f.attrs ∙ sym g.attrs) i }
-one_update as4 external r false u v f g =
-    let attrs = one_attrs_for as4 external r.kept r.announced u.attrs v.attrs f.attrs g.attrs in
+pub one_update : (p : Profile) (external : Bool) (r : Reading) (withdraw : Bool) (u v : Update) → IsUpdateBy p external r withdraw u → IsUpdateBy p external r withdraw v → u ≡ v
+one_update p external r true u v f g = λ i. record { withdrawn = (f.withdrawn ∙ sym g.withdrawn) i; announced = (f.announced ∙ sym g.announced) i; attrs = (f.attrs ∙ sym g.attrs) i }
+one_update p external r false u v f g =
+    let attrs = one_attrs_for p external r.kept r.announced u.attrs v.attrs f.attrs g.attrs in
     λ i. record { withdrawn = (f.withdrawn ∙ sym g.withdrawn) i; announced = (f.announced ∙ sym g.announced) i; attrs = attrs i }
 
 -- ---- messages
@@ -92,7 +91,7 @@ message_made p external bytes opening holds = (messages.Skip, tt)
 message_made p external bytes (refresh r) holds = (messages.Refresh r, refl)
 
 pub one_message_by : (p : Profile) (external : Bool) (c : Content) (m n : Message) → IsMessageBy p external c m → IsMessageBy p external c n → m ≡ n
-one_message_by p external (update r) (messages.Update u) (messages.Update v) f g = ap (λ u. messages.Update u) (one_update p.as4 external r r.withdraw u v f g)
+one_message_by p external (update r) (messages.Update u) (messages.Update v) f g = ap (λ u. messages.Update u) (one_update p external r r.withdraw u v f g)
 one_message_by p external (update r) (messages.Update u) other f g = absurd g
 one_message_by p external (update r) other n f g = absurd f
 one_message_by p external keepalive m n f g = keepalive_is m f ∙ sym (keepalive_is n g)
@@ -125,10 +124,10 @@ one_message p external bytes m n f g =
     one_message_by p external c.0 m n c.2 (subst (λ c. IsMessageBy p external c n) same d.2)
 
 -- octets with a fault are no message
-pub no_message : (p : Profile) (external : Bool) (bytes : List ℕ) (n : Notice) (m : Message) → fault p bytes ≡ Some n → Reads p external bytes m → ⊥
+pub no_message : (p : Profile) (external : Bool) (bytes : List ℕ) (n : Notice) (m : Message) → fault p external bytes ≡ Some n → Reads p external bytes m → ⊥
 no_message p external bytes n m e reads =
     let c = by_content p external bytes m reads in
-    differ (sym (sym (one_fault p external bytes) ∙ ap err_of (content_again p external bytes c.0 c.1)) ∙ e)
+    differ (sym (ap err_of (content_again p external bytes c.0 c.1)) ∙ e)
   where
     differ : ◌≡◌ {A = Option Notice} None (Some n) → ⊥
     differ e = absurd (cc)
@@ -142,9 +141,9 @@ one_answer p external bytes = by_answer (content_at p external bytes) refl
         let holds = content_takes p external bytes c e in
         let m = message_made p external bytes c holds in
         let reads = from_content p external bytes c m.0 holds m.1 in
-        inl (sym (one_fault p external bytes) ∙ ap err_of e, (m.0, reads, λ other also. one_message p external bytes m.0 other reads also))
+        inl (ap err_of e, (m.0, reads, λ other also. one_message p external bytes m.0 other reads also))
     by_answer (Err n) e =
-        let f = sym (one_fault p external bytes) ∙ ap err_of e in
+        let f = ap err_of e in
         inr (n, f, λ m reads. no_message p external bytes n m f reads)
 
 -- ---- what the code answers
@@ -177,10 +176,10 @@ only_message p external bytes m given other answers = by_other other answers
     by_other messages.Notification answers = one_message p external bytes m messages.Notification reads answers
     by_other messages.Skip answers = one_message p external bytes m messages.Skip reads answers
     by_other (messages.Refresh r) answers = one_message p external bytes m (messages.Refresh r) reads answers
-    by_other (messages.Notify n) answers = absurd (no_fault_is given.0 n (sym (ap err_of given.1) ∙ one_fault p external bytes ∙ answers))
+    by_other (messages.Notify n) answers = absurd (no_fault_is given.0 n (sym (ap err_of given.1) ∙ answers))
 
-pub answers_fault : (p : Profile) (external : Bool) (bytes : List ℕ) (n : Notice) → content_at p external bytes ≡ Err n → fault p bytes ≡ Some n
-answers_fault p external bytes n e = sym (one_fault p external bytes) ∙ ap err_of e
+pub answers_fault : (p : Profile) (external : Bool) (bytes : List ℕ) (n : Notice) → content_at p external bytes ≡ Err n → fault p external bytes ≡ Some n
+answers_fault p external bytes n e = ap err_of e
 
 pub only_fault : (p : Profile) (external : Bool) (bytes : List ℕ) (n : Notice) → content_at p external bytes ≡ Err n → (other : Message) → Answers p external bytes other → messages.Notify n ≡ other
 only_fault p external bytes n e (messages.Notify m) answers = ap (λ n. messages.Notify n) (same_notice n m (sym (answers_fault p external bytes n e) ∙ answers))

@@ -110,7 +110,7 @@ module _ (k : ℕ) (p : Profile) (external : Bool) (a : Attribute) (short : leng
 
   judgement_low : (seen : List ℕ) → IsLow k (judgement p external seen a)
   unfolding judgement
-  judgement_low seen = low_cond k (list_any (λ kind. nat_eq kind a.kind) seen) _ _ (low_cond k p.revised _ _ low_ok (low_none {code = 3} {subcode = 1})) (by_rule (rule_of p.as4 a.kind))
+  judgement_low seen = low_cond k (list_any (λ kind. nat_eq kind a.kind) seen) _ _ (low_cond k p.revised _ _ low_ok (low_none {code = 3} {subcode = 1})) (by_rule (rule_of p external a.kind))
 
 -- an attribute and what follows it are parts of the octets
 abbrev ArePartsOf : ℕ → Option (Attribute × List ℕ) → Type 0
@@ -251,11 +251,11 @@ header_low k bytes two =
     (nat_eq (get_or bytes 18 0) 0 || nat_lt 5 (get_or bytes 18 0)) (has_wrong_length (get_or bytes 18 0) (length bytes)) (length_field bytes) (take 1 (drop 18 bytes)) (get_or bytes 18 0)
     (omega (arith, length-take 2 (drop 16 bytes))) (omega (arith, length-take 1 (drop 18 bytes))))
 
-fault_low : (p : Profile) (bytes : List ℕ) → LowFault 4073 (fault p bytes)
+fault_low : (p : Profile) (external : Bool) (bytes : List ℕ) → LowFault 4073 (fault p external bytes)
 unfolding content_at
-fault_low p bytes =
-    let is : IsLow 4073 (content_at p false bytes) = low_bind 4073 (header_at bytes) (λ kind. content_for p false bytes kind) (header_low 4073 bytes (omega arith)) (λ kind e. content_low p false bytes kind (subst (IsTopped (length bytes)) e (header_topped bytes)).top) in
+fault_low p external bytes =
+    let is : IsLow 4073 (content_at p external bytes) = low_bind 4073 (header_at bytes) (λ kind. content_for p external bytes kind) (header_low 4073 bytes (omega arith)) (λ kind e. content_low p external bytes kind (subst (IsTopped (length bytes)) e (header_topped bytes)).top) in
     is.low
 
-pub notice_fits : (p : Profile) (bytes : List ℕ) (n : Notice) → fault p bytes ≡ Some n → FitsMessage n
-notice_fits p bytes n e = let low : length n.octets ≤ 4073 = subst (LowFault 4073) e (fault_low p bytes) in omega arith
+pub notice_fits : (p : Profile) (external : Bool) (bytes : List ℕ) (n : Notice) → fault p external bytes ≡ Some n → FitsMessage n
+notice_fits p external bytes n e = let low : length n.octets ≤ 4073 = subst (LowFault 4073) e (fault_low p external bytes) in omega arith

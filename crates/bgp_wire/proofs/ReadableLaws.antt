@@ -1,5 +1,5 @@
 -- What a peer said can be said again.
-use Rattle.std.proofs.Common.{◌≡◌, ℕ, zero, suc, ◌-◌, ◌*◌, ◌/◌, ◌%◌, ◌^◌, ◌<◌, Bool, true, false, cond, eqb, not, ◌&&◌, List, [], ◌∷◌, ◌++◌, length, drop, Option, Some, None, Ok, Err, refl, sym, ap, subst, ◌∙◌, inl, inr, arith}
+use Rattle.std.proofs.Common.{◌≡◌, ℕ, zero, suc, ◌-◌, ◌*◌, ◌/◌, ◌%◌, ◌^◌, ◌<◌, Bool, true, false, cond, eqb, not, ◌||◌, ◌&&◌, List, [], ◌∷◌, ◌++◌, length, drop, Option, Some, None, refl, sym, ap, subst, ◌∙◌, inl, inr, arith}
 use Rattle.std.specs.Prelude.{All, filter, option_map, slice_index, IsSomeAnd}
 use Rattle.std.proofs.lemmas.Bool.{eqb-true, eq-eqb}
 use Rattle.std.proofs.Math.Nat.{mul-mod_right}
@@ -13,18 +13,19 @@ use Rattle.bgp_attr.specs.declared.attrs.Attrs.{Attrs}
 use Rattle.bgp_attr.specs.declared.path.Segment.{Segment}
 use Rattle.bgp_attr.specs.declared.speaker.Profile.{Profile}
 use Rattle.bgp_attr.specs.declared.unrecognized.Unrecognized.{Unrecognized}
+use Rattle.bgp_wire.specs.declared.attributes.Size.TheVariants.{Fixed}
 use Rattle.bgp_wire.specs.declared.attributes.TypeRule.{TypeRule}
 use Rattle.bgp_wire.specs.declared.attributes.Verdict.{Verdict}
 use Rattle.bgp_wire.specs.declared.attributes.Verdict.TheVariants.{Keep, Discard, Withdraw}
 use Rattle.bgp_wire.specs.Faults.{notice}
 use Rattle.bgp_wire.specs.Prefixes.{IsPrefix, ArePrefixes}
 use Rattle.bgp_wire.specs.Paths.{width_of, numbers_at, IsSegment, IsPath}
-use Rattle.bgp_wire.specs.Attributes.{Attribute, IsAttribute, AreAttributes, kept_by, rule_of, has_wrong_size, is_no_host, is_optional, is_transitive, is_old_form, value_fault, judge_by}
-use Rattle.bgp_wire.specs.Routes.{kept_of, number_of, aggregator_of, is_unrecognized, AscendsFrom, value_of, AreUnrecognized, AreAttrs}
-use Rattle.bgp_wire.specs.Readable.{IsNetwork, IsReadableSegment, IsHost, IsReadable}
-use Rattle.bgp_wire.proofs.TestLemmas.{not_false, unequal}
+use Rattle.bgp_wire.specs.Attributes.{Attribute, IsAttribute, AreAttributes, kept_by, rule_of, has_wrong_size, is_no_host, is_old_form, is_reflection, value_fault, judge_by}
+use Rattle.bgp_wire.specs.Routes.{kept_of, number_of, aggregator_of, clusters_of, is_unrecognized, AscendsFrom, value_of, AreUnrecognized, AreAttrs}
+use Rattle.bgp_wire.specs.Readable.{IsNetwork, IsReadableSegment, IsHost, reads_reflection, IsReadable}
+use Rattle.bgp_wire.proofs.TestLemmas.{and_left, not_both, not_false, unequal}
 use Rattle.bgp_wire.proofs.RouteLaws.{IsKept, IsGood, kept_are, recognized_is_good, value_below}
-use Rattle.bgp_wire.proofs.TypeLaws.{GoodType, no_rule}
+use Rattle.bgp_wire.proofs.TypeLaws.{GoodType, no_rule, no_rule_outside, kept_unrecognized}
 
 -- ---- lists
 
@@ -159,10 +160,10 @@ held p external bytes steps runs are octets kind a found =
     let k = kept_are p external [] bytes steps runs are kind a found in
     record { is = s.0; octets = s.1; same = k.is; kept = k.kept }
 
-pub good : (p : Profile) (external : Bool) (kind : ℕ) (a : Attribute) (r : TypeRule) → rule_of p.as4 kind ≡ Some r → IsHeld p external kind a → IsGood p.as4 r a
-good p external kind a r ruled held = recognized_is_good p external a r (ap (judge_by p external a) (sym (ap (rule_of p.as4) held.same ∙ ruled)) ∙ held.kept)
+pub good : (p : Profile) (external : Bool) (kind : ℕ) (a : Attribute) (r : TypeRule) → rule_of p external kind ≡ Some r → IsHeld p external kind a → IsGood p.as4 r a
+good p external kind a r ruled held = recognized_is_good p external a r (ap (judge_by p external a) (sym (ap (rule_of p external) held.same ∙ ruled)) ∙ held.kept)
 
-pub right_size : (as4 : Bool) (r : TypeRule) (a : Attribute) (n : ℕ) → r.size ≡ Some n → IsGood as4 r a → length a.value ≡ n
+pub right_size : (as4 : Bool) (r : TypeRule) (a : Attribute) (n : ℕ) → r.size ≡ Fixed n → IsGood as4 r a → length a.value ≡ n
 right_size as4 r a n e good = eqb-true _ _ (not_false _ (ap (λ s. has_wrong_size s a.value) (sym e) ∙ good.size))
 
 -- what an attribute that is there was read from
@@ -175,7 +176,7 @@ unfolding rule_of value_fault
 host_read p external a n held e =
     let octets = value_octets a held.is held.octets in
     let fits = number_fits 4 a.value octets in
-    let fault : value_fault p.as4 a ≡ None = (good p external 3 a (record { optional = false; transitive = true; size = Some 4 }) refl held).value in
+    let fault : value_fault p.as4 a ≡ None = (good p external 3 a (record { optional = false; transitive = true; size = Fixed 4 }) refl held).value in
     let at : value_fault p.as4 a ≡ cond (is_no_host (slice_index a.value 0)) (Some (notice 3 8 a.octets)) None = ap (λ k. value_fault p.as4 (record a { kind = k })) held.same in
     let first : big_number 4 a.value / 2 ^ 24 ≡ slice_index a.value 0 = omega (arith, octet_at a.value octets 0, octet_at a.value octets 1, octet_at a.value octets 2, octet_at a.value octets 3) in
     record { fits = omega (arith, fits, e); first = ap (λ n. is_no_host (n / 2 ^ 24)) (sym e) ∙ ap is_no_host first ∙ by_test (is_no_host (slice_index a.value 0)) (sym at ∙ fault) }
@@ -196,26 +197,43 @@ each_type P n (u ∷ us) order told = (
     apart : (kind : ℕ) (value : List ℕ) → value_of kind us ≡ Some value → eqb u.kind kind ≡ false
     apart kind value e = unequal u.kind kind (λ same. not_some value (sym (value_below (suc u.kind) kind us order.1 (omega arith)) ∙ e))
 
-good_type : (p : Profile) (external : Bool) (kind : ℕ) (a : Attribute) → is_unrecognized kind ≡ true → IsHeld p external kind a → is_old_form p kind ≡ false
+good_type : (p : Profile) (external : Bool) (kind : ℕ) (a : Attribute) → is_unrecognized p kind ≡ true → IsHeld p external kind a → is_old_form p kind ≡ false
 good_type p external kind a unknown held =
-    let judged = ap (judge_by p external a) (sym (no_rule p.as4 a.kind (ap is_unrecognized held.same ∙ unknown))) ∙ held.kept in
-    ap (is_old_form p) (sym held.same) ∙ by_tests (is_optional a) (is_transitive a) (is_old_form p a.kind) judged
-  where
-    by_tests : (o t old : Bool) → cond (not o) (Err (notice 3 2 a.octets)) (cond (t && not old) (Ok Keep) (Ok Discard)) ≡ Ok Keep → old ≡ false
-    by_tests true true false e = refl
-    by_tests true true true e = absurd (cc)
-    by_tests true false old e = absurd (cc)
-    by_tests false t old e = absurd (cc)
+    let judged = ap (judge_by p external a) (sym (no_rule p external a.kind (ap (is_unrecognized p) held.same ∙ unknown))) ∙ held.kept in
+    ap (is_old_form p) (sym held.same) ∙ (kept_unrecognized p a judged).0
 
 -- the type of an attribute that stands in a route is one of the kept ones
-pub unrecognized_held : (p : Profile) (external : Bool) (bytes : List ℕ) (steps : List (Attribute × Verdict)) (runs : Bool) → AreAttributes p external [] bytes steps runs → Octets bytes → (us : List Unrecognized) → AreUnrecognized (kept_by steps runs).0 us
-    → (kind : ℕ) (value : List ℕ) → value_of kind us ≡ Some value → (is_unrecognized kind ≡ true) × ((a : Attribute) × (kept_of kind (kept_by steps runs).0 ≡ Some a) × (a.value ≡ value))
-unrecognized_held p external bytes steps runs are octets us is kind value e = by_test (is_unrecognized kind) refl (sym (is.values kind) ∙ e)
+pub unrecognized_held : (p : Profile) (external : Bool) (bytes : List ℕ) (steps : List (Attribute × Verdict)) (runs : Bool) → AreAttributes p external [] bytes steps runs → Octets bytes → (us : List Unrecognized) → AreUnrecognized p (kept_by steps runs).0 us
+    → (kind : ℕ) (value : List ℕ) → value_of kind us ≡ Some value → (is_unrecognized p kind ≡ true) × ((a : Attribute) × (kept_of kind (kept_by steps runs).0 ≡ Some a) × (a.value ≡ value))
+unrecognized_held p external bytes steps runs are octets us is kind value e = by_test (is_unrecognized p kind) refl (sym (is.values kind) ∙ e)
   where
-    by_test : (b : Bool) → is_unrecognized kind ≡ b → cond b (option_map (λ a. a.value) (kept_of kind (kept_by steps runs).0)) None ≡ Some value
-        → (is_unrecognized kind ≡ true) × ((a : Attribute) × (kept_of kind (kept_by steps runs).0 ≡ Some a) × (a.value ≡ value))
+    by_test : (b : Bool) → is_unrecognized p kind ≡ b → cond b (option_map (λ a. a.value) (kept_of kind (kept_by steps runs).0)) None ≡ Some value
+        → (is_unrecognized p kind ≡ true) × ((a : Attribute) × (kept_of kind (kept_by steps runs).0 ≡ Some a) × (a.value ≡ value))
     by_test true unknown e = (unknown, found_from (λ (a : Attribute). a.value) (kept_of kind (kept_by steps runs).0) value e)
     by_test false known e = absurd (not_some value e)
+
+-- ---- what reflectors added
+
+-- of an external peer nothing of it is kept
+from_internal_peer : (p : Profile) (external : Bool) (kind : ℕ) (a : Attribute) → is_reflection p kind ≡ true → IsHeld p external kind a → reads_reflection p external ≡ true
+from_internal_peer p external kind a is held = λ i. and_left p.reflect (eqb kind 9 || eqb kind 10) is i && by_peer external held i
+  where
+    here : a.kind ≡ kind → is_reflection p a.kind ≡ true
+    here same = ap (is_reflection p) same ∙ is
+
+    by_peer : (external : Bool) → IsHeld p external kind a → not external ≡ true
+    by_peer false held = refl
+    by_peer true held =
+        let judged = ap (judge_by p true a) (sym (no_rule_outside p a.kind (here held.same))) ∙ held.kept in
+        absurd (not_both (is_reflection p a.kind) (here held.same) (kept_unrecognized p a judged).1)
+
+if_reflects : {A : Type 0} (reflect : Bool) (o : Option A) (x : A) → cond reflect o None ≡ Some x → (reflect ≡ true) × (o ≡ Some x)
+if_reflects true o x e = (refl, e)
+if_reflects false o x e = absurd (not_some x e)
+
+identifiers_read : (Q : Type 0) → Q → (count : ℕ) (octets : List ℕ) → Octets octets → Every (λ n. Q × (n < 2 ^ 32)) (numbers_at 4 count octets)
+identifiers_read Q q zero octets are = tt
+identifiers_read Q q (suc count) octets are = ((q, omega (arith, number_fits 4 octets are)), identifiers_read Q q count (drop 4 octets) (octets_drop 4 octets are))
 
 -- ---- all of a route
 
@@ -227,7 +245,7 @@ from_internal : (external : Bool) (o : Option ℕ) (n : ℕ) → cond external N
 from_internal true o n e = absurd (not_some n e)
 from_internal false o n e = (refl, e)
 
-pub attrs_read : (p : Profile) (external : Bool) (bytes : List ℕ) (steps : List (Attribute × Verdict)) (runs : Bool) (attrs : Attrs) → AreAttributes p external [] bytes steps runs → Octets bytes → AreAttrs p.as4 external (kept_by steps runs).0 attrs
+pub attrs_read : (p : Profile) (external : Bool) (bytes : List ℕ) (steps : List (Attribute × Verdict)) (runs : Bool) (attrs : Attrs) → AreAttributes p external [] bytes steps runs → Octets bytes → AreAttrs p external (kept_by steps runs).0 attrs
     → IsReadable p external attrs
 attrs_read p external bytes steps runs attrs are octets is = record {
   path =
@@ -237,6 +255,8 @@ attrs_read p external bytes steps runs attrs are octets is = record {
   med = λ n e. number 4 n (sym is.med ∙ e);
   local_pref = λ n e. let l = from_internal external (number_of 5 kept) n (sym is.local_pref ∙ e) in (l.0, number 5 n l.1);
   aggregator = λ g e. aggregator g (sym is.aggregator ∙ e);
+  originator = λ n e. let r = if_reflects p.reflect (number_of 9 kept) n (sym is.originator ∙ e) in originator n r.0 r.1;
+  clusters = every_all Cluster attrs.reflection.clusters (subst (Every Cluster) (sym is.clusters) (clusters p.reflect refl));
   order = is.unrecognized.order;
   types = every_all (GoodType p) attrs.unrecognized (each_type (GoodType p) 0 attrs.unrecognized is.unrecognized.order (λ u e.
       let k = unrecognized_held p external bytes steps runs are octets attrs.unrecognized is.unrecognized u.kind u.value e in
@@ -257,6 +277,24 @@ attrs_read p external bytes steps runs attrs are octets is = record {
         let a = found_from (λ (a : Attribute). big_number 4 a.value) (kept_of kind (kept_by steps runs).0) n e in
         let h = held p external bytes steps runs are octets kind a.0 a.1 in
         omega (arith, number_fits 4 a.0.value (value_octets a.0 h.is h.octets), a.2)
+
+    originator : (n : ℕ) → p.reflect ≡ true → number_of 9 (kept_by steps runs).0 ≡ Some n → (reads_reflection p external ≡ true) × (n < 2 ^ 32)
+    originator n reflects e =
+        let a = found_from (λ (a : Attribute). big_number 4 a.value) (kept_of 9 (kept_by steps runs).0) n e in
+        (from_internal_peer p external 9 a.0 (ap (λ b. b && true) reflects) (held p external bytes steps runs are octets 9 a.0 a.1), number 9 n e)
+
+    Cluster : ℕ → Type 0
+    Cluster n = (reads_reflection p external ≡ true) × (n < 2 ^ 32)
+
+    clusters : (b : Bool) → p.reflect ≡ b → Every Cluster (cond b (clusters_of (kept_of 10 (kept_by steps runs).0)) [])
+    clusters false reflects = tt
+    clusters true reflects = by_kept (kept_of 10 (kept_by steps runs).0) refl
+      where
+        by_kept : (o : Option Attribute) → kept_of 10 (kept_by steps runs).0 ≡ o → Every Cluster (clusters_of o)
+        by_kept None e = tt
+        by_kept (Some a) e =
+            let from = from_internal_peer p external 10 a (ap (λ b. b && true) reflects) (held p external bytes steps runs are octets 10 a e) in
+            identifiers_read (reads_reflection p external ≡ true) from (length a.value / 4) a.value (value 10 a e)
 
     aggregator : (g : Aggregator) → option_map (aggregator_of p.as4) (kept_of 7 (kept_by steps runs).0) ≡ Some g → (g.asn < 256 ^ width_of p.as4) × (g.addr < 2 ^ 32)
     aggregator g e =

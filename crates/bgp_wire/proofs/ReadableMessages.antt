@@ -37,7 +37,7 @@ field_octets p external bytes r is octets =
     }
 
 -- what is known of an UPDATE that was read
-attrs_readable : (p : Profile) (external : Bool) (bytes : List ℕ) (r : Reading) (is : IsReading p external bytes r) → Octets bytes → (ns : List Network) (attrs : Option Attrs) → AreAttrsFor p.as4 external r.kept ns attrs → ForSome attrs (IsReadable p external)
+attrs_readable : (p : Profile) (external : Bool) (bytes : List ℕ) (r : Reading) (is : IsReading p external bytes r) → Octets bytes → (ns : List Network) (attrs : Option Attrs) → AreAttrsFor p external r.kept ns attrs → ForSome attrs (IsReadable p external)
 attrs_readable p external bytes r is octets [] attrs are a e = absurd (never (sym are ∙ e))
   where
     never : ◌≡◌ {A = Option Attrs} None (Some a) → ⊥
@@ -46,9 +46,9 @@ attrs_readable p external bytes r is octets (n ∷ ns) None are a e = absurd are
 attrs_readable p external bytes r is octets (n ∷ ns) (Some b) are a e =
     let f = field_octets p external bytes r is octets in
     let same : b ≡ a = cc in
-    subst (IsReadable p external) same (attrs_read p external is.attributes is.steps is.runs b is.are f.attributes (subst (λ kept. AreAttrs p.as4 external kept b) is.kept are))
+    subst (IsReadable p external) same (attrs_read p external is.attributes is.steps is.runs b is.are f.attributes (subst (λ kept. AreAttrs p external kept b) is.kept are))
 
-readable_by : (p : Profile) (external : Bool) (bytes : List ℕ) (r : Reading) (is : IsReading p external bytes r) → Octets bytes → (withdraw : Bool) (u : Update) → IsUpdateBy p.as4 external r withdraw u → IsReadableUpdate p external u
+readable_by : (p : Profile) (external : Bool) (bytes : List ℕ) (r : Reading) (is : IsReading p external bytes r) → Octets bytes → (withdraw : Bool) (u : Update) → IsUpdateBy p external r withdraw u → IsReadableUpdate p external u
 readable_by p external bytes r is octets true u by =
     let f = field_octets p external bytes r is octets in
     let withdrawn = networks_read is.withdrawn r.withdrawn f.withdrawn is.withdraws in

@@ -97,15 +97,15 @@ paths : (p : Profile) (external : Bool) (bytes : List ℕ) (k : Kept) → attrib
 paths p external bytes k read a found =
     let s = attributes_take p external [] bytes k read in
     let is = kept_are p external [] bytes s.steps s.runs s.are 2 a (ap (λ (k : Kept). kept_of 2 k.0) (sym s.kept) ∙ found) in
-    path_good a p.as4 is.is (good_of p external a _ is.kept (rule_at_2 p.as4 a.kind is.is)).value
+    path_good a p.as4 is.is (good_of p external a _ is.kept (rule_at_2 p external a.kind is.is)).value
 
 origins : (p : Profile) (external : Bool) (bytes : List ℕ) (k : Kept) → attributes_at p external [] bytes ≡ Ok k → (a : Attribute) → kept_of 1 k.0 ≡ Some a → get_or a.value 0 0 ≤ 2
 origins p external bytes k read a found =
     let s = attributes_take p external [] bytes k read in
     let is = kept_are p external [] bytes s.steps s.runs s.are 1 a (ap (λ (k : Kept). kept_of 1 k.0) (sym s.kept) ∙ found) in
-    origin_below a p.as4 is.is (good_of p external a _ is.kept (rule_at_1 p.as4 a.kind is.is)).value
+    origin_below a p.as4 is.is (good_of p external a _ is.kept (rule_at_1 p external a.kind is.is)).value
 
-same_missing : (p : Profile) (external : Bool) (bytes : List ℕ) (k : Kept) (found : Found) → attributes_at p external [] bytes ≡ Ok k → Gathers p.as4 k.0 found → missing_from found ≡ missing k.0
+same_missing : (p : Profile) (external : Bool) (bytes : List ℕ) (k : Kept) (found : Found) → attributes_at p external [] bytes ≡ Ok k → Gathers p k.0 found → missing_from found ≡ missing k.0
 same_missing p external bytes k found read g =
     let one : is_some found.origin ≡ has_kind 1 k.0 = ap is_some g.origin ∙ is_some-map (λ (a : Attribute). origin_of (get_or a.value 0 0)) (kept_of 1 k.0) ∙ is_some-find (λ (a : Attribute). eqb a.kind 1) k.0 in
     let two : is_some found.path ≡ has_kind 2 k.0 = ap is_some g.path ∙ by_path (kept_of 2 k.0) refl ∙ is_some-find (λ (a : Attribute). eqb a.kind 2) k.0 in
@@ -116,11 +116,11 @@ same_missing p external bytes k found read g =
     by_path None e = refl
     by_path (Some a) e = let path = paths p external bytes k read a e in ap (λ r. is_some (result_ok r)) path.1
 
-pub same_lacks : (p : Profile) (external : Bool) (bytes : List ℕ) (k : Kept) (found : Found) (ns : List Network) → attributes_at p external [] bytes ≡ Ok k → Gathers p.as4 k.0 found → lacks_from p ns found ≡ lacks p ns k.0
+pub same_lacks : (p : Profile) (external : Bool) (bytes : List ℕ) (k : Kept) (found : Found) (ns : List Network) → attributes_at p external [] bytes ≡ Ok k → Gathers p k.0 found → lacks_from p ns found ≡ lacks p ns k.0
 same_lacks p external bytes k found [] read g = refl
 same_lacks p external bytes k found (n ∷ ns) read g = ap (lack p) (same_missing p external bytes k found read g)
 
-pub lacking_fail : (p : Profile) (external : Bool) (bytes : List ℕ) (f : Fields) (w : List Network) (k : Kept) (n : List Network) (found : Found) (e : Refusal) → IsRead p external bytes f w k n → Gathers p.as4 k.0 found → Fails e (lacks_from p n found) → Fails e (reading_at p external bytes)
+pub lacking_fail : (p : Profile) (external : Bool) (bytes : List ℕ) (f : Fields) (w : List Network) (k : Kept) (n : List Network) (found : Found) (e : Refusal) → IsRead p external bytes f w k n → Gathers p k.0 found → Fails e (lacks_from p n found) → Fails e (reading_at p external bytes)
 lacking_fail p external bytes f w k n found e is g fails =
     subst (Fails e) (sym (read_to p external bytes f w k n is)) (fails_first e (lacks p n k.0) (λ l. made w n k l) (subst (Fails e) (same_lacks p external f.attributes k found n is.attributes g) fails))
 
@@ -131,7 +131,7 @@ origin_again (suc (suc zero)) le = refl
 origin_again (suc (suc (suc n))) le = absurd (omega arith)
 
 -- the attributes of a route are found
-attrs_found : (p : Profile) (external : Bool) (bytes : List ℕ) (k : Kept) (found : Found) → attributes_at p external [] bytes ≡ Ok k → Gathers p.as4 k.0 found → HasAll k.0 → (attrs : Attrs) × (attrs_from external found ≡ Some attrs) × AreAttrs p.as4 external k.0 attrs
+attrs_found : (p : Profile) (external : Bool) (bytes : List ℕ) (k : Kept) (found : Found) → attributes_at p external [] bytes ≡ Ok k → Gathers p k.0 found → HasAll k.0 → (attrs : Attrs) × (attrs_from external found ≡ Some attrs) × AreAttrs p external k.0 attrs
 attrs_found p external bytes k found read g has =
     let o = has_kept 1 k.0 has.origin in
     let s = has_kept 2 k.0 has.path in
@@ -148,6 +148,7 @@ attrs_found p external bytes k found read g has =
         local_pref = cond external None found.local_pref;
         atomic = found.atomic;
         aggregator = found.aggregator;
+        reflection = record { originator = found.originator; clusters = found.clusters };
         unrecognized = found.unrecognized;
       },
       λ i. attrs_by external found (origin_is i) (path_is i) (hop_is i),
@@ -159,26 +160,28 @@ attrs_found p external bytes k found read g has =
         local_pref = ap (λ o. cond external None o) g.local_pref;
         atomic = g.atomic;
         aggregator = g.aggregator;
+        originator = g.originator;
+        clusters = g.clusters;
         unrecognized = g.unrecognized;
       },
     )
 
-attrs_are_for : (p : Profile) (external : Bool) (bytes : List ℕ) (k : Kept) (found : Found) (ns : List Network) → attributes_at p external [] bytes ≡ Ok k → Gathers p.as4 k.0 found → lacks p ns k.0 ≡ Ok false → AreAttrsFor p.as4 external k.0 ns (attrs_for external found ns)
+attrs_are_for : (p : Profile) (external : Bool) (bytes : List ℕ) (k : Kept) (found : Found) (ns : List Network) → attributes_at p external [] bytes ≡ Ok k → Gathers p k.0 found → lacks p ns k.0 ≡ Ok false → AreAttrsFor p external k.0 ns (attrs_for external found ns)
 attrs_are_for p external bytes k found [] read g complete = refl
 attrs_are_for p external bytes k found (n ∷ ns) read g complete =
     let a = attrs_found p external bytes k found read g (has_all p k.0 complete) in
-    subst (AreAttrsFor p.as4 external k.0 (n ∷ ns)) (sym a.1) a.2
+    subst (AreAttrsFor p external k.0 (n ∷ ns)) (sym a.1) a.2
 
 -- the UPDATE
-pub update_is : (p : Profile) (external : Bool) (bytes : List ℕ) (f : Fields) (w : List Network) (k : Kept) (n : List Network) (g : Gathered) (l : Bool) → IsRead p external bytes f w k n → Gathers p.as4 k.0 g.found → g.withdraw ≡ k.1 → lacks_from p n g.found ≡ Ok l
-    → (u : Update) → u ≡ update_of external (g.withdraw || l) w n g.found → (r : Reading) × (reading_at p external bytes ≡ Ok r) × IsUpdateBy p.as4 external r r.withdraw u
+pub update_is : (p : Profile) (external : Bool) (bytes : List ℕ) (f : Fields) (w : List Network) (k : Kept) (n : List Network) (g : Gathered) (l : Bool) → IsRead p external bytes f w k n → Gathers p k.0 g.found → g.withdraw ≡ k.1 → lacks_from p n g.found ≡ Ok l
+    → (u : Update) → u ≡ update_of external (g.withdraw || l) w n g.found → (r : Reading) × (reading_at p external bytes ≡ Ok r) × IsUpdateBy p external r r.withdraw u
 update_is p external bytes f w k n g l is gathers withdraw lacking u u_is =
     let complete : lacks p n k.0 ≡ Ok l = sym (same_lacks p external f.attributes k g.found n is.attributes gathers) ∙ lacking in
     let read = read_to p external bytes f w k n is ∙ ap (λ r. r >>= λ l. made w n k l) complete in
     let whole : u ≡ update_of external (k.1 || l) w n g.found = u_is ∙ ap (λ b. update_of external (b || l) w n g.found) withdraw in
-    (record { withdrawn = w; announced = n; kept = k.0; withdraw = k.1 || l }, read, subst (IsUpdateBy p.as4 external (record { withdrawn = w; announced = n; kept = k.0; withdraw = k.1 || l }) (k.1 || l)) (sym whole) (by_test (k.1 || l) refl complete))
+    (record { withdrawn = w; announced = n; kept = k.0; withdraw = k.1 || l }, read, subst (IsUpdateBy p external (record { withdrawn = w; announced = n; kept = k.0; withdraw = k.1 || l }) (k.1 || l)) (sym whole) (by_test (k.1 || l) refl complete))
   where
-    by_test : (b : Bool) → (k.1 || l) ≡ b → lacks p n k.0 ≡ Ok l → IsUpdateBy p.as4 external (record { withdrawn = w; announced = n; kept = k.0; withdraw = k.1 || l }) b (update_of external b w n g.found)
+    by_test : (b : Bool) → (k.1 || l) ≡ b → lacks p n k.0 ≡ Ok l → IsUpdateBy p external (record { withdrawn = w; announced = n; kept = k.0; withdraw = k.1 || l }) b (update_of external b w n g.found)
     by_test true e complete = record { withdrawn = refl; announced = refl; attrs = refl }
     by_test false e complete =
         let none : l ≡ false = or_false_right k.1 l e in

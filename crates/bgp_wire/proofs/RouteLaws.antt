@@ -11,6 +11,7 @@ use Rattle.bgp_attr.specs.declared.attrs.Origin.TheVariants.{Igp, Egp, Incomplet
 use Rattle.bgp_attr.specs.declared.path.Segment.{Segment}
 use Rattle.bgp_attr.specs.declared.speaker.Profile.{Profile}
 use Rattle.bgp_attr.specs.declared.unrecognized.Unrecognized.{Unrecognized}
+use Rattle.bgp_wire.specs.declared.attributes.Size.TheVariants.{Any, Fixed}
 use Rattle.bgp_wire.specs.declared.attributes.TypeRule.{TypeRule}
 use Rattle.bgp_wire.specs.declared.attributes.Verdict.{Verdict}
 use Rattle.bgp_wire.specs.declared.attributes.Verdict.TheVariants.{Keep, Discard, Withdraw}
@@ -18,7 +19,7 @@ use Rattle.bgp_wire.specs.declared.notice.Notice.{Notice}
 use Rattle.bgp_wire.specs.Faults.{notice, err_of}
 use Rattle.bgp_wire.specs.Paths.{width_of, IsPath, path_at}
 use Rattle.bgp_wire.specs.Attributes.{Attribute, rule_of, has_wrong_flags, has_wrong_size, milder, value_fault, judge_value, judge_recognized, judge_by, judgement, AreAttributes, kept_by}
-use Rattle.bgp_wire.specs.Routes.{kept_of, number_of, code_of_origin, aggregator_of, is_unrecognized, AscendsFrom, value_of, AreUnrecognized, AreAttrs}
+use Rattle.bgp_wire.specs.Routes.{kept_of, number_of, code_of_origin, aggregator_of, clusters_of, is_unrecognized, AscendsFrom, value_of, AreUnrecognized, AreAttrs}
 use Rattle.bgp_wire.specs.Found.{placed}
 use Rattle.bgp_wire.proofs.TestLemmas.{or_false_left, or_false_right, unequal}
 use Rattle.bgp_wire.proofs.ResultLemmas.{same_ok, not_both}
@@ -120,25 +121,25 @@ placed_value kind u (v ∷ vs) new = elim (ltb u.kind v.kind) as (λ b. value_of
 abbrev pub HasOneMore : Attribute → List Attribute → List Attribute → Type 0
 HasOneMore a kept more = (kind : ℕ) → kept_of kind more ≡ cond (eqb a.kind kind) (Some a) (kept_of kind kept)
 
-pub nothing_kept : AreUnrecognized [] []
-nothing_kept = record { order = tt; values = λ kind. by_test (is_unrecognized kind) }
+pub nothing_kept : (p : Profile) → AreUnrecognized p [] []
+nothing_kept p = record { order = tt; values = λ kind. by_test (is_unrecognized p kind) }
   where
     by_test : (b : Bool) → None ≡ cond b (option_map (λ (a : Attribute). a.value) None) None
     by_test true = refl
     by_test false = refl
 
-pub recognized_more : (a : Attribute) (kept more : List Attribute) (us : List Unrecognized) → is_unrecognized a.kind ≡ false → HasOneMore a kept more → AreUnrecognized kept us → AreUnrecognized more us
-recognized_more a kept more us known adds are = record { order = are.order; values = λ kind. at kind (eqb a.kind kind) refl }
+pub recognized_more : (p : Profile) (a : Attribute) (kept more : List Attribute) (us : List Unrecognized) → is_unrecognized p a.kind ≡ false → HasOneMore a kept more → AreUnrecognized p kept us → AreUnrecognized p more us
+recognized_more p a kept more us known adds are = record { order = are.order; values = λ kind. at kind (eqb a.kind kind) refl }
   where
-    at : (kind : ℕ) (b : Bool) → eqb a.kind kind ≡ b → value_of kind us ≡ cond (is_unrecognized kind) (option_map (λ a. a.value) (kept_of kind more)) None
+    at : (kind : ℕ) (b : Bool) → eqb a.kind kind ≡ b → value_of kind us ≡ cond (is_unrecognized p kind) (option_map (λ a. a.value) (kept_of kind more)) None
     at kind true is =
-        let none : is_unrecognized kind ≡ false = ap is_unrecognized (sym (eqb-true _ _ is)) ∙ known in
+        let none : is_unrecognized p kind ≡ false = ap (is_unrecognized p) (sym (eqb-true _ _ is)) ∙ known in
         are.values kind ∙ ap (λ b. cond b (option_map (λ a. a.value) (kept_of kind kept)) None) none ∙ sym (ap (λ b. cond b (option_map (λ a. a.value) (kept_of kind more)) None) none)
-    at kind false is = are.values kind ∙ ap (λ o. cond (is_unrecognized kind) (option_map (λ a. a.value) o) None) (sym (adds kind ∙ ap (λ b. cond b (Some a) (kept_of kind kept)) is))
+    at kind false is = are.values kind ∙ ap (λ o. cond (is_unrecognized p kind) (option_map (λ a. a.value) o) None) (sym (adds kind ∙ ap (λ b. cond b (Some a) (kept_of kind kept)) is))
 
-pub unrecognized_more : (a : Attribute) (kept more : List Attribute) (us : List Unrecognized) → is_unrecognized a.kind ≡ true → kept_of a.kind kept ≡ None → HasOneMore a kept more → AreUnrecognized kept us
-    → AreUnrecognized more (placed (record { kind = a.kind; value = a.value }) us)
-unrecognized_more a kept more us unknown new adds are = record {
+pub unrecognized_more : (p : Profile) (a : Attribute) (kept more : List Attribute) (us : List Unrecognized) → is_unrecognized p a.kind ≡ true → kept_of a.kind kept ≡ None → HasOneMore a kept more → AreUnrecognized p kept us
+    → AreUnrecognized p more (placed (record { kind = a.kind; value = a.value }) us)
+unrecognized_more p a kept more us unknown new adds are = record {
   order = placed_ascends 0 u us are.order (omega arith) none;
   values = λ kind. placed_value kind u us none ∙ at kind (eqb a.kind kind) refl;
 }
@@ -149,19 +150,19 @@ unrecognized_more a kept more us unknown new adds are = record {
     none : value_of a.kind us ≡ None
     none = are.values a.kind ∙ ap (λ b. cond b (option_map (λ a. a.value) (kept_of a.kind kept)) None) unknown ∙ ap (option_map (λ a. a.value)) new
 
-    at : (kind : ℕ) (b : Bool) → eqb a.kind kind ≡ b → cond (eqb a.kind kind) (Some a.value) (value_of kind us) ≡ cond (is_unrecognized kind) (option_map (λ a. a.value) (kept_of kind more)) None
+    at : (kind : ℕ) (b : Bool) → eqb a.kind kind ≡ b → cond (eqb a.kind kind) (Some a.value) (value_of kind us) ≡ cond (is_unrecognized p kind) (option_map (λ a. a.value) (kept_of kind more)) None
     at kind true is =
         let here : kept_of kind more ≡ Some a = adds kind ∙ ap (λ b. cond b (Some a) (kept_of kind kept)) is in
-        let unrecognized : is_unrecognized kind ≡ true = ap is_unrecognized (sym (eqb-true _ _ is)) ∙ unknown in
+        let unrecognized : is_unrecognized p kind ≡ true = ap (is_unrecognized p) (sym (eqb-true _ _ is)) ∙ unknown in
         ap (λ b. cond b (Some a.value) (value_of kind us)) is
         ∙ sym (ap (λ b. cond b (option_map (λ a. a.value) (kept_of kind more)) None) unrecognized ∙ ap (option_map (λ a. a.value)) here)
     at kind false is =
         ap (λ b. cond b (Some a.value) (value_of kind us)) is ∙ are.values kind
-        ∙ ap (λ o. cond (is_unrecognized kind) (option_map (λ a. a.value) o) None) (sym (adds kind ∙ ap (λ b. cond b (Some a) (kept_of kind kept)) is))
+        ∙ ap (λ o. cond (is_unrecognized p kind) (option_map (λ a. a.value) o) None) (sym (adds kind ∙ ap (λ b. cond b (Some a) (kept_of kind kept)) is))
 
 -- ---- what is known of an attribute that is kept
 abbrev pub IsKept : Profile → Bool → Attribute → Type 0
-IsKept p external a = judge_by p external a (rule_of p.as4 a.kind) ≡ Ok Keep
+IsKept p external a = judge_by p external a (rule_of p external a.kind) ≡ Ok Keep
 
 not_keep : (p : Profile) (mild : Verdict) (n : Notice) → (mild ≡ Keep → ⊥) → milder p mild n ≡ Ok Keep → ⊥
 not_keep p mild n other e = by_test p.revised e
@@ -206,7 +207,7 @@ recognized_is_good p external a r e =
 -- an attribute that is kept is of a type that hasn't come, and judged by its own
 judged_kept : (p : Profile) (external : Bool) (seen : List ℕ) (a : Attribute) → judgement p external seen a ≡ Ok Keep → (list_any (λ kind. eqb kind a.kind) seen ≡ false) × IsKept p external a
 unfolding judgement
-judged_kept p external seen a e = passes (list_any (λ kind. eqb kind a.kind) seen) (milder p Discard (notice 3 1 [])) (judge_by p external a (rule_of p.as4 a.kind)) (not_keep p Discard (notice 3 1 []) discard_not_keep) e
+judged_kept p external seen a e = passes (list_any (λ kind. eqb kind a.kind) seen) (milder p Discard (notice 3 1 [])) (judge_by p external a (rule_of p external a.kind)) (not_keep p Discard (notice 3 1 []) discard_not_keep) e
 
 any_before : (xs ys : List ℕ) (kind : ℕ) → list_any (λ k. eqb k kind) (xs ++ ys) ≡ false → list_any (λ k. eqb k kind) xs ≡ false
 any_before [] ys kind e = refl
@@ -259,17 +260,17 @@ kept_later p external seen bytes kind steps runs are = by_found (kept_of kind (k
         let k = kept_are p external (seen ++ kind ∷ []) bytes steps runs are kind a e in
         absurd (never (eqb kind kind) (eq-eqb kind kind refl) (any_last seen kind kind k.new))
 
-pub unrecognized_made : (p : Profile) (external : Bool) (seen bytes : List ℕ) (steps : List (Attribute × Verdict)) (runs : Bool) → AreAttributes p external seen bytes steps runs → (us : List Unrecognized) × AreUnrecognized (kept_by steps runs).0 us
-unrecognized_made p external seen bytes [] runs are = ([], nothing_kept)
+pub unrecognized_made : (p : Profile) (external : Bool) (seen bytes : List ℕ) (steps : List (Attribute × Verdict)) (runs : Bool) → AreAttributes p external seen bytes steps runs → (us : List Unrecognized) × AreUnrecognized p (kept_by steps runs).0 us
+unrecognized_made p external seen bytes [] runs are = ([], nothing_kept p)
 unrecognized_made p external seen bytes ((b, Discard) ∷ steps) runs are = unrecognized_made p external (seen ++ b.kind ∷ []) are.0 steps runs are.4
 unrecognized_made p external seen bytes ((b, Withdraw) ∷ steps) runs are = unrecognized_made p external (seen ++ b.kind ∷ []) are.0 steps runs are.4
 unrecognized_made p external seen bytes ((b, Keep) ∷ steps) runs are =
     let later = unrecognized_made p external (seen ++ b.kind ∷ []) are.0 steps runs are.4 in
-    by_test (is_unrecognized b.kind) refl later (kept_later p external seen are.0 b.kind steps runs are.4)
+    by_test (is_unrecognized p b.kind) refl later (kept_later p external seen are.0 b.kind steps runs are.4)
   where
-    by_test : (t : Bool) → is_unrecognized b.kind ≡ t → (us : List Unrecognized) × AreUnrecognized (kept_by steps runs).0 us → kept_of b.kind (kept_by steps runs).0 ≡ None → (us : List Unrecognized) × AreUnrecognized (b ∷ (kept_by steps runs).0) us
-    by_test true is (us, later) new = (placed (record { kind = b.kind; value = b.value }) us, unrecognized_more b (kept_by steps runs).0 (b ∷ (kept_by steps runs).0) us is new (λ kind. refl) later)
-    by_test false is (us, later) new = (us, recognized_more b (kept_by steps runs).0 (b ∷ (kept_by steps runs).0) us is (λ kind. refl) later)
+    by_test : (t : Bool) → is_unrecognized p b.kind ≡ t → (us : List Unrecognized) × AreUnrecognized p (kept_by steps runs).0 us → kept_of b.kind (kept_by steps runs).0 ≡ None → (us : List Unrecognized) × AreUnrecognized p (b ∷ (kept_by steps runs).0) us
+    by_test true is (us, later) new = (placed (record { kind = b.kind; value = b.value }) us, unrecognized_more p b (kept_by steps runs).0 (b ∷ (kept_by steps runs).0) us is new (λ kind. refl) later)
+    by_test false is (us, later) new = (us, recognized_more p b (kept_by steps runs).0 (b ∷ (kept_by steps runs).0) us is (λ kind. refl) later)
 
 -- ---- the attributes of a route
 value_faults : (as4 : Bool) (a : Attribute) (kind : ℕ) → a.kind ≡ kind → value_fault as4 a ≡ value_fault as4 (record a { kind = kind })
@@ -298,16 +299,16 @@ path_good a as4 is none = by_path (path_at (width_of as4) a.value) refl (sym (va
     by_path (Err n) e none = absurd (not_some n (sym none))
 
 -- a recognized type that is kept is good
-pub good_of : (p : Profile) (external : Bool) (a : Attribute) (r : TypeRule) → IsKept p external a → rule_of p.as4 a.kind ≡ Some r → IsGood p.as4 r a
+pub good_of : (p : Profile) (external : Bool) (a : Attribute) (r : TypeRule) → IsKept p external a → rule_of p external a.kind ≡ Some r → IsGood p.as4 r a
 good_of p external a r kept e = recognized_is_good p external a r (ap (judge_by p external a) (sym e) ∙ kept)
 
-pub rule_at_1 : (as4 : Bool) (kind : ℕ) → kind ≡ 1 → rule_of as4 kind ≡ Some (record { optional = false; transitive = true; size = Some 1 })
+pub rule_at_1 : (p : Profile) (external : Bool) (kind : ℕ) → kind ≡ 1 → rule_of p external kind ≡ Some (record { optional = false; transitive = true; size = Fixed 1 })
 unfolding rule_of
-rule_at_1 as4 kind e = ap (rule_of as4) e
+rule_at_1 p external kind e = ap (rule_of p external) e
 
-pub rule_at_2 : (as4 : Bool) (kind : ℕ) → kind ≡ 2 → rule_of as4 kind ≡ Some (record { optional = false; transitive = true; size = None })
+pub rule_at_2 : (p : Profile) (external : Bool) (kind : ℕ) → kind ≡ 2 → rule_of p external kind ≡ Some (record { optional = false; transitive = true; size = Any })
 unfolding rule_of
-rule_at_2 as4 kind e = ap (rule_of as4) e
+rule_at_2 p external kind e = ap (rule_of p external) e
 
 pub has_kept : (kind : ℕ) (kept : List Attribute) → list_any (λ a. eqb a.kind kind) kept ≡ true → (a : Attribute) × (kept_of kind kept ≡ Some a)
 has_kept kind [] e = absurd (cc)
@@ -327,7 +328,7 @@ pub record HasAll (kept : List Attribute) : Type 0 where
   pub path : list_any (λ a. eqb a.kind 2) kept ≡ true
   pub next_hop : list_any (λ a. eqb a.kind 3) kept ≡ true
 
-pub attrs_made : (p : Profile) (external : Bool) (bytes : List ℕ) (steps : List (Attribute × Verdict)) (runs : Bool) → AreAttributes p external [] bytes steps runs → HasAll (kept_by steps runs).0 → (attrs : Attrs) × AreAttrs p.as4 external (kept_by steps runs).0 attrs
+pub attrs_made : (p : Profile) (external : Bool) (bytes : List ℕ) (steps : List (Attribute × Verdict)) (runs : Bool) → AreAttributes p external [] bytes steps runs → HasAll (kept_by steps runs).0 → (attrs : Attrs) × AreAttrs p external (kept_by steps runs).0 attrs
 attrs_made p external bytes steps runs are has =
     let kept = (kept_by steps runs).0 in
     let o = has_kept 1 kept has.origin in
@@ -335,8 +336,8 @@ attrs_made p external bytes steps runs are has =
     let h = has_kept 3 kept has.next_hop in
     let ok = kept_are p external [] bytes steps runs are 1 o.0 o.1 in
     let sk = kept_are p external [] bytes steps runs are 2 s.0 s.1 in
-    let og = good_of p external o.0 _ ok.kept (rule_at_1 p.as4 o.0.kind ok.is) in
-    let sg = good_of p external s.0 _ sk.kept (rule_at_2 p.as4 s.0.kind sk.is) in
+    let og = good_of p external o.0 _ ok.kept (rule_at_1 p external o.0.kind ok.is) in
+    let sg = good_of p external s.0 _ sk.kept (rule_at_2 p external s.0.kind sk.is) in
     let origin = origin_at (get_or o.0.value 0 0) (origin_below o.0 p.as4 ok.is og.value) in
     let path = path_good s.0 p.as4 sk.is sg.value in
     let us = unrecognized_made p external [] bytes steps runs are in (
@@ -348,6 +349,7 @@ attrs_made p external bytes steps runs are has =
         local_pref = cond external None (number_of 5 kept);
         atomic = is_some (kept_of 6 kept);
         aggregator = option_map (aggregator_of p.as4) (kept_of 7 kept);
+        reflection = record { originator = cond p.reflect (number_of 9 kept) None; clusters = cond p.reflect (clusters_of (kept_of 10 kept)) [] };
         unrecognized = us.0;
       },
       record {
@@ -358,6 +360,8 @@ attrs_made p external bytes steps runs are has =
         local_pref = refl;
         atomic = refl;
         aggregator = refl;
+        originator = refl;
+        clusters = refl;
         unrecognized = us.1;
       },
     )
@@ -377,10 +381,10 @@ one_path : (width : ℕ) (o : Option Attribute) (a b : List Segment) → IsSomeA
 one_path width None a b f g = absurd f
 one_path width (Some x) a b f g = same_ok a b (sym (path_again width x.value a f) ∙ path_again width x.value b g)
 
-pub one_attrs : (as4 external : Bool) (kept : List Attribute) (a b : Attrs) → AreAttrs as4 external kept a → AreAttrs as4 external kept b → a ≡ b
-one_attrs as4 external kept a b f g =
+pub one_attrs : (p : Profile) (external : Bool) (kept : List Attribute) (a b : Attrs) → AreAttrs p external kept a → AreAttrs p external kept b → a ≡ b
+one_attrs p external kept a b f g =
     let origin = one_origin a.origin b.origin (some_same _ _ (sym f.origin ∙ g.origin)) in
-    let path = one_path (width_of as4) (kept_of 2 kept) a.path b.path f.path g.path in
+    let path = one_path (width_of p.as4) (kept_of 2 kept) a.path b.path f.path g.path in
     let next_hop = some_same a.next_hop b.next_hop (sym f.next_hop ∙ g.next_hop) in
     let unrecognized = one_order 0 0 a.unrecognized b.unrecognized f.unrecognized.order g.unrecognized.order (λ kind. f.unrecognized.values kind ∙ sym (g.unrecognized.values kind)) in
     λ i. record {
@@ -391,5 +395,6 @@ one_attrs as4 external kept a b f g =
       local_pref = (f.local_pref ∙ sym g.local_pref) i;
       atomic = (f.atomic ∙ sym g.atomic) i;
       aggregator = (f.aggregator ∙ sym g.aggregator) i;
+      reflection = record { originator = (f.originator ∙ sym g.originator) i; clusters = (f.clusters ∙ sym g.clusters) i };
       unrecognized = unrecognized i;
     }

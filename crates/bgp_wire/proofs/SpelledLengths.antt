@@ -1,6 +1,8 @@
 -- How long the octets are that are sent, piece by piece.
-use Rattle.std.proofs.Common.{◌≡◌, ℕ, ◌+◌, ◌*◌, ◌/◌, ◌%◌, Bool, List, [], ◌∷◌, ◌++◌, length, ap, ◌∙◌, append_assoc, arith}
+use Rattle.std.proofs.Common.{◌≡◌, ℕ, ◌+◌, ◌*◌, ◌/◌, ◌%◌, ◌<◌, Bool, true, false, cond, eqb, not, ◌||◌, List, [], ◌∷◌, ◌++◌, length, map, refl, sym, ap, ◌∙◌, append_assoc, arith}
+use Rattle.std.specs.Prelude.{filter}
 use Rattle.std.specs.List.{flat_map}
+use Rattle.std.proofs.lemmas.Bool.{eqb-true}
 use Rattle.std.proofs.lemmas.List.{length-append}
 use Rattle.std.proofs.lemmas.Grind.{flat_map-append}
 use Rattle.byteorder.specs.Endian.{big_bytes}
@@ -8,9 +10,11 @@ use Rattle.byteorder.specs.Numbers.{length-bytes_high_first}
 use Rattle.addr4.specs.Prefixes.{Network}
 use Rattle.bgp_attr.specs.declared.attrs.Attrs.{Attrs}
 use Rattle.bgp_attr.specs.declared.path.Segment.{Segment}
+use Rattle.bgp_attr.specs.declared.unrecognized.Unrecognized.{Unrecognized}
+use Rattle.bgp_wire.specs.declared.writing.attributes.Place.TheVariants.{First, Middle, Last}
 use Rattle.bgp_wire.specs.Attributes.{Attribute}
-use Rattle.bgp_wire.specs.Spelling.{segment_octets, sent_attributes, octets_of, framed, fields_octets, prefix_octets, prefixes_octets}
-use Rattle.bgp_wire.specs.Lengths.{attributes_length, announcement_length}
+use Rattle.bgp_wire.specs.Spelling.{segment_octets, is_long, spelled_octets, spelled, unrecognized_attribute, unrecognized_attributes, mandatory_attributes, further_attributes, clusters_attributes, reflection_attributes, sent_attributes, octets_of, framed, fields_octets, prefix_octets, prefixes_octets}
+use Rattle.bgp_wire.specs.Lengths.{spelled_length, attributes_length, announcement_length}
 
 pub length-numbers : (width : ℕ) (ns : List ℕ) → length (flat_map (big_bytes width) ns) ≡ length ns * width
 length-numbers width [] = omega arith
@@ -25,9 +29,81 @@ octets-append xs ys = flat_map-append (λ (a : Attribute). a.octets) xs ys
 pub length-octets-append : (xs ys : List Attribute) → length (octets_of (xs ++ ys)) ≡ length (octets_of xs) + length (octets_of ys)
 length-octets-append xs ys = ap length (octets-append xs ys) ∙ length-append (octets_of xs) (octets_of ys)
 
--- four lists of attributes one after the other, as further_attributes and sent_attributes are
+-- four lists of attributes one after the other, as further_attributes is
 pub length-four : (a b c d : List Attribute) → length (octets_of (a ++ b ++ c ++ d)) ≡ length (octets_of a) + length (octets_of b) + length (octets_of c) + length (octets_of d)
 length-four a b c d = omega (arith, length-octets-append (a ++ b ++ c) d, length-octets-append (a ++ b) c, length-octets-append a b)
+
+-- ---- attributes
+
+pub length-spelled : (long : Bool) (flags kind : ℕ) (value : List ℕ) → length (spelled_octets long flags kind value) ≡ cond long 4 3 + length value
+length-spelled true flags kind value = omega (arith, length-append (big_bytes 2 (length value)) value)
+length-spelled false flags kind value = omega arith
+
+pub length-first : (a : Attribute) (rest : List Attribute) → length (octets_of (a ∷ rest)) ≡ length a.octets + length (octets_of rest)
+length-first a rest = length-append a.octets (octets_of rest)
+
+spelled_size : (long : Bool) (n : ℕ) → cond long (n + 4) (n + 3) ≡ cond long 4 3 + n
+spelled_size true n = omega arith
+spelled_size false n = omega arith
+
+pub length-clusters : (cs : List ℕ) → 0 < length cs → spelled_length (4 * length cs) ≡ length (octets_of (clusters_attributes cs))
+length-clusters [] some = absurd (omega arith)
+length-clusters (c ∷ cs) some =
+    let value = flat_map (big_bytes 4) (c ∷ cs) in
+    let size : length value ≡ 4 * length (c ∷ cs) = omega (arith, length-numbers 4 (c ∷ cs)) in
+    ap spelled_length (sym size)
+    ∙ omega (arith, spelled_size (is_long value) (length value), length-spelled (is_long value) 128 10 value, length-first (spelled 128 10 value) [])
+
+-- each unrecognized attribute stands in one place
+pub length-places : (us : List Unrecognized) → length (octets_of (unrecognized_attributes First us)) + length (octets_of (unrecognized_attributes Middle us)) + length (octets_of (unrecognized_attributes Last us)) ≡ length (octets_of (map unrecognized_attribute us))
+length-places [] = refl
+length-places (u ∷ us) = by_tests (eqb u.kind 0) refl (eqb u.kind 8) refl (length-places us)
+  where
+    all : List Attribute
+    all = map unrecognized_attribute us
+
+    in_place : Bool → List Unrecognized → ℕ
+    in_place here others = length (octets_of (map unrecognized_attribute (cond here (u ∷ others) others)))
+
+    put : (others : List Unrecognized) → in_place true others ≡ length (unrecognized_attribute u).octets + length (octets_of (map unrecognized_attribute others))
+    put others = length-first (unrecognized_attribute u) (map unrecognized_attribute others)
+
+    firsts : List Unrecognized
+    firsts = filter (λ u. eqb u.kind 0) us
+
+    middles : List Unrecognized
+    middles = filter (λ u. eqb u.kind 8) us
+
+    lasts : List Unrecognized
+    lasts = filter (λ u. not (eqb u.kind 0 || eqb u.kind 8)) us
+
+    by_tests : (a : Bool) → eqb u.kind 0 ≡ a → (b : Bool) → eqb u.kind 8 ≡ b → length (octets_of (unrecognized_attributes First us)) + length (octets_of (unrecognized_attributes Middle us)) + length (octets_of (unrecognized_attributes Last us)) ≡ length (octets_of (map unrecognized_attribute us))
+        → in_place a firsts + in_place b middles + in_place (not (a || b)) lasts ≡ length (octets_of (map unrecognized_attribute (u ∷ us)))
+    by_tests true e true f later = absurd (omega (arith, eqb-true _ _ e, eqb-true _ _ f))
+    by_tests true e false f later = omega (arith, put firsts, length-first (unrecognized_attribute u) all, later)
+    by_tests false e true f later = omega (arith, put middles, length-first (unrecognized_attribute u) all, later)
+    by_tests false e false f later = omega (arith, put lasts, length-first (unrecognized_attribute u) all, later)
+
+pub length-sent : (as4 : Bool) (a : Attrs) → length (octets_of (sent_attributes as4 a))
+    ≡ length (octets_of (map unrecognized_attribute a.unrecognized)) + length (octets_of (mandatory_attributes as4 a)) + length (octets_of (further_attributes as4 a)) + length (octets_of (reflection_attributes a.reflection))
+length-sent as4 a =
+    let u = unrecognized_attributes First a.unrecognized in
+    let m = mandatory_attributes as4 a in
+    let f = further_attributes as4 a in
+    let v = unrecognized_attributes Middle a.unrecognized in
+    let r = reflection_attributes a.reflection in
+    let w = unrecognized_attributes Last a.unrecognized in
+    omega (
+      arith,
+      length-octets-append (u ++ m ++ f ++ v ++ r) w,
+      length-octets-append (u ++ m ++ f ++ v) r,
+      length-octets-append (u ++ m ++ f) v,
+      length-octets-append (u ++ m) f,
+      length-octets-append u m,
+      length-places a.unrecognized,
+    )
+
+-- ---- messages
 
 pub length-framed : (kind : ℕ) (body : List ℕ) → length (framed kind body) ≡ 19 + length body
 length-framed kind body = omega arith

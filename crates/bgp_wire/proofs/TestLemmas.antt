@@ -2,6 +2,10 @@
 use Rattle.std.proofs.Common.{◌≡◌, ℕ, zero, suc, ◌<◌, Bool, true, false, eqb, not, ◌||◌, ◌&&◌, refl, arith}
 use Rattle.std.proofs.lemmas.Bool.{eqb-true, eq-eqb}
 
+pub not_both : (b : Bool) → b ≡ true → b ≡ false → ⊥
+not_both true e f = absurd (cc)
+not_both false e f = absurd (cc)
+
 pub or_false_left : (a b : Bool) → (a || b) ≡ false → a ≡ false
 or_false_left true b e = absurd (cc)
 or_false_left false b e = refl
@@ -13,6 +17,19 @@ or_false_right false b e = e
 pub not_false : (b : Bool) → not b ≡ false → b ≡ true
 not_false true e = refl
 not_false false e = absurd (cc)
+
+pub not_true : (b : Bool) → not b ≡ true → b ≡ false
+not_true true e = absurd (cc)
+not_true false e = refl
+
+-- whatever stands before
+pub or_true : (b : Bool) → (b || true) ≡ true
+or_true true = refl
+or_true false = refl
+
+pub and_true : (b : Bool) → (b && true) ≡ false → b ≡ false
+and_true true e = e
+and_true false e = refl
 
 pub and_left : (a b : Bool) → (a && b) ≡ true → a ≡ true
 and_left true b e = refl

@@ -1,38 +1,116 @@
--- Types that are not recognized.
-use Rattle.std.proofs.Common.{◌≡◌, ◌⊎◌, ℕ, ◌≤◌, ◌<◌, Bool, true, false, eqb, ltb, ◌||◌, None, refl, inl, inr, arith}
-use Rattle.std.proofs.lemmas.Bool.{ltb-true, eqb-true}
+-- The types that are recognized, and the others.
+use Rattle.std.proofs.Common.{◌≡◌, ℕ, zero, suc, ◌<◌, Bool, true, false, cond, eqb, ltb, not, ◌||◌, ◌&&◌, Option, Some, None, Ok, Err, refl, sym, ap, ◌∙◌, arith}
+use Rattle.std.proofs.lemmas.Bool.{ltb-true, ltb-false, lt-ltb, le-ltb, eqb-true, eqb-false}
 use Rattle.bgp_attr.specs.declared.speaker.Profile.{Profile}
 use Rattle.bgp_attr.specs.declared.unrecognized.Unrecognized.{Unrecognized}
-use Rattle.bgp_wire.specs.Attributes.{rule_of, is_old_form}
+use Rattle.bgp_wire.specs.declared.attributes.Size.TheVariants.{Fixed, Fours}
+use Rattle.bgp_wire.specs.declared.attributes.Verdict.TheVariants.{Keep, Discard}
+use Rattle.bgp_wire.specs.Faults.{notice}
+use Rattle.bgp_wire.specs.Attributes.{Attribute, is_optional, is_transitive, is_old_form, is_reflection, rule, reflection_rule, rule_of, judge_unrecognized}
 use Rattle.bgp_wire.specs.Routes.{is_unrecognized}
-use Rattle.bgp_wire.proofs.TestLemmas.{unequal}
+use Rattle.bgp_wire.proofs.TestLemmas.{unequal, not_both, or_false_left, or_false_right, not_true, or_true, and_true, and_right}
 
 -- a type that is kept as it came
 abbrev pub GoodType : Profile → Unrecognized → Type 0
-GoodType p u = (is_unrecognized u.kind ≡ true) × (is_old_form p u.kind ≡ false)
+GoodType p u = (is_unrecognized p u.kind ≡ true) × (is_old_form p u.kind ≡ false)
 
--- an unrecognized type is 0, or above 7
-pub unrecognized_kind : (kind : ℕ) → is_unrecognized kind ≡ true → (kind ≡ 0) ⊎ (8 ≤ kind)
-unrecognized_kind kind is = by_zero (eqb kind 0) refl is
+-- an unrecognized type is none of the recognized ones
+pub other_type : (p : Profile) (kind k : ℕ) → is_unrecognized p kind ≡ true → is_unrecognized p k ≡ false → eqb kind k ≡ false
+other_type p kind k is known = unequal kind k (λ e. not_both (is_unrecognized p k) (ap (is_unrecognized p) (sym e) ∙ is) known)
+
+-- and none of a route reflector's
+pub no_reflection : (p : Profile) (kind : ℕ) → is_unrecognized p kind ≡ true → is_reflection p kind ≡ false
+no_reflection p kind is = by_zero (eqb kind 0) refl is
   where
-    by_zero : (b : Bool) → eqb kind 0 ≡ b → (b || ltb 7 kind) ≡ true → (kind ≡ 0) ⊎ (8 ≤ kind)
-    by_zero true e is = inl (eqb-true _ _ e)
-    by_zero false e is = inr (omega (arith, ltb-true _ _ is))
+    at_zero : (b : Bool) → (b && false) ≡ false
+    at_zero true = refl
+    at_zero false = refl
 
-not_recognized : (kind k : ℕ) → is_unrecognized kind ≡ true → 0 < k → k ≤ 7 → eqb kind k ≡ false
-not_recognized kind k is some most = elim (unrecognized_kind kind is) [
-  | inl zero_kind ↦ unequal kind k (λ e. absurd (omega arith))
-  | inr above ↦ unequal kind k (λ e. absurd (omega arith))
-]
+    by_zero : (b : Bool) → eqb kind 0 ≡ b → (b || (ltb 7 kind && not (is_reflection p kind))) ≡ true → is_reflection p kind ≡ false
+    by_zero true e is = ap (is_reflection p) (eqb-true _ _ e) ∙ at_zero p.reflect
+    by_zero false e is = not_true (is_reflection p kind) (and_right (ltb 7 kind) (not (is_reflection p kind)) is)
 
-pub no_rule : (as4 : Bool) (kind : ℕ) → is_unrecognized kind ≡ true → rule_of as4 kind ≡ None
+-- the others are 1 to 7, and a route reflector's
+pub recognized_kind : (p : Profile) (kind : ℕ) → is_unrecognized p kind ≡ false → ((ltb 0 kind && ltb kind 8) || is_reflection p kind) ≡ true
+recognized_kind p kind known = by_test (is_reflection p kind) (or_false_right (eqb kind 0) (ltb 7 kind && not (is_reflection p kind)) known)
+  where
+    some : 0 < kind
+    some = omega (arith, eqb-false _ _ (or_false_left (eqb kind 0) (ltb 7 kind && not (is_reflection p kind)) known))
+
+    by_test : (r : Bool) → (ltb 7 kind && not r) ≡ false → ((ltb 0 kind && ltb kind 8) || r) ≡ true
+    by_test true e = or_true (ltb 0 kind && ltb kind 8)
+    by_test false e = λ i. (lt-ltb 0 kind some i && lt-ltb kind 8 (omega (arith, ltb-false 7 kind (and_true (ltb 7 kind) e))) i) || false
+
+reflection_above : (p : Profile) (kind : ℕ) → is_reflection p kind ≡ true → 8 < kind
+reflection_above p kind is = by_test (eqb kind 9) refl (and_right p.reflect (eqb kind 9 || eqb kind 10) is)
+  where
+    by_test : (b : Bool) → eqb kind 9 ≡ b → (b || eqb kind 10) ≡ true → 8 < kind
+    by_test true e is = omega (arith, eqb-true _ _ e)
+    by_test false e is = omega (arith, eqb-true _ _ is)
+
+behind_seven : (p : Profile) (external : Bool) (kind : ℕ) → ((k : ℕ) → 0 < k → k < 8 → eqb kind k ≡ false) → rule_of p external kind ≡ reflection_rule p external kind
 unfolding rule_of
-no_rule as4 kind is = rw (
-  not_recognized kind 1 is (omega arith) (omega arith),
-  not_recognized kind 2 is (omega arith) (omega arith),
-  not_recognized kind 3 is (omega arith) (omega arith),
-  not_recognized kind 4 is (omega arith) (omega arith),
-  not_recognized kind 5 is (omega arith) (omega arith),
-  not_recognized kind 6 is (omega arith) (omega arith),
-  not_recognized kind 7 is (omega arith) (omega arith),
-) refl
+behind_seven p external kind apart =
+    rw (apart 1 (omega arith) (omega arith), apart 2 (omega arith) (omega arith), apart 3 (omega arith) (omega arith), apart 4 (omega arith) (omega arith), apart 5 (omega arith) (omega arith), apart 6 (omega arith) (omega arith), apart 7 (omega arith) (omega arith)) refl
+
+known_below : (p : Profile) (k : ℕ) → 0 < k → k < 8 → is_unrecognized p k ≡ false
+known_below p k some most = λ i. eqb_zero i || (below i && not (is_reflection p k))
+  where
+    eqb_zero : eqb k 0 ≡ false
+    eqb_zero = unequal k 0 (λ e. absurd (omega arith))
+
+    below : ltb 7 k ≡ false
+    below = le-ltb 7 k (omega arith)
+
+pub no_rule : (p : Profile) (external : Bool) (kind : ℕ) → is_unrecognized p kind ≡ true → rule_of p external kind ≡ None
+no_rule p external kind is =
+    behind_seven p external kind (λ k some most. other_type p kind k is (known_below p k some most))
+    ∙ ap (λ b. cond (not b || external) None (cond (eqb kind 9) (rule true false (Fixed 4)) (rule true false Fours))) (no_reflection p kind is)
+
+-- from an external peer a route reflector's types are unrecognized
+pub no_rule_outside : (p : Profile) (kind : ℕ) → is_reflection p kind ≡ true → rule_of p true kind ≡ None
+no_rule_outside p kind is =
+    let above = reflection_above p kind is in
+    behind_seven p true kind (λ k some most. unequal kind k (λ e. absurd (omega arith)))
+    ∙ ap (λ b. cond (not b || true) None (cond (eqb kind 9) (rule true false (Fixed 4)) (rule true false Fours))) is
+
+some_or_none : {A : Type 0} (o : Option A) (x : A) → o ≡ Some x → o ≡ None → ⊥
+some_or_none None x e f = absurd (cc)
+some_or_none (Some y) x e f = absurd (cc)
+
+rule_there : (p : Profile) (external : Bool) (kind : ℕ) → 0 < kind → kind < 8 → rule_of p external kind ≡ None → ⊥
+unfolding rule_of
+rule_there p external zero some most e = absurd (omega arith)
+rule_there p external (suc zero) some most e = absurd (some_or_none (rule_of p external 1) _ refl e)
+rule_there p external (suc (suc zero)) some most e = absurd (some_or_none (rule_of p external 2) _ refl e)
+rule_there p external (suc (suc (suc zero))) some most e = absurd (some_or_none (rule_of p external 3) _ refl e)
+rule_there p external (suc (suc (suc (suc zero)))) some most e = absurd (some_or_none (rule_of p external 4) _ refl e)
+rule_there p external (suc (suc (suc (suc (suc zero))))) some most e = absurd (some_or_none (rule_of p external 5) _ refl e)
+rule_there p external (suc (suc (suc (suc (suc (suc zero)))))) some most e = absurd (some_or_none (rule_of p external 6) _ refl e)
+rule_there p external (suc (suc (suc (suc (suc (suc (suc zero))))))) some most e = absurd (some_or_none (rule_of p external 7) _ refl e)
+rule_there p external (suc (suc (suc (suc (suc (suc (suc (suc n)))))))) some most e = absurd (omega arith)
+
+-- an unrecognized attribute that is kept
+pub kept_unrecognized : (p : Profile) (a : Attribute) → judge_unrecognized p a ≡ Ok Keep → (is_old_form p a.kind ≡ false) × (is_reflection p a.kind ≡ false)
+kept_unrecognized p a judged = by_tests (is_optional a) (is_transitive a) (is_old_form p a.kind) (is_reflection p a.kind) judged
+  where
+    by_tests : (o t old r : Bool) → cond (not o) (Err (notice 3 2 a.octets)) (cond (t && not (old || r)) (Ok Keep) (Ok Discard)) ≡ Ok Keep → (old ≡ false) × (r ≡ false)
+    by_tests true true false false e = (refl, refl)
+    by_tests true true true r e = absurd (cc)
+    by_tests true true false true e = absurd (cc)
+    by_tests true false old r e = absurd (cc)
+    by_tests false t old r e = absurd (cc)
+
+pub kept_type : (p : Profile) (external : Bool) (a : Attribute) → rule_of p external a.kind ≡ None → judge_unrecognized p a ≡ Ok Keep → is_unrecognized p a.kind ≡ true
+kept_type p external a none judged = by_type (is_unrecognized p a.kind) refl
+  where
+    among : (b c r : Bool) → ((b && c) || r) ≡ true → r ≡ false → (b ≡ true) × (c ≡ true)
+    among true true r e f = (refl, refl)
+    among true false r e f = absurd (not_both r e f)
+    among false c r e f = absurd (not_both r e f)
+
+    by_type : (b : Bool) → is_unrecognized p a.kind ≡ b → is_unrecognized p a.kind ≡ true
+    by_type true is = is
+    by_type false is =
+        let t = among (ltb 0 a.kind) (ltb a.kind 8) (is_reflection p a.kind) (recognized_kind p a.kind is) (kept_unrecognized p a judged).1 in
+        absurd (rule_there p external a.kind (ltb-true _ _ t.0) (ltb-true _ _ t.1) none)

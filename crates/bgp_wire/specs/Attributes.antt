@@ -4,6 +4,8 @@ use Rattle.std.specs.List.{list_any}
 use mathlib.Core.Bool.{beq}
 use Rattle.bgp_attr.specs.declared.speaker.Profile.{Profile}
 use Rattle.bgp_wire.specs.declared.attributes.RawAttribute.{RawAttribute}
+use Rattle.bgp_wire.specs.declared.attributes.Size.{Size}
+use Rattle.bgp_wire.specs.declared.attributes.Size.TheVariants.{Any, Fixed, Fours}
 use Rattle.bgp_wire.specs.declared.attributes.TypeRule.{TypeRule}
 use Rattle.bgp_wire.specs.declared.attributes.Verdict.{Verdict}
 use Rattle.bgp_wire.specs.declared.attributes.Verdict.TheVariants.{Keep, Discard, Withdraw}
@@ -55,20 +57,31 @@ pub record RunsBeyond (bytes : List ℕ) : Type 0 where
 
 -- ---- what becomes of an attribute
 
--- the recognized types: whether they are optional and transitive, and their length where it is fixed
-abbrev pub rule : Bool → Bool → Option ℕ → Option TypeRule
+-- the recognized types: whether they are optional and transitive, and how long they may be
+abbrev pub rule : Bool → Bool → Size → Option TypeRule
 rule optional transitive size = Some (record { optional = optional; transitive = transitive; size = size })
 
-unfoldable pub rule_of : Bool → ℕ → Option TypeRule
-rule_of as4 kind =
-    if kind == 1 then rule false true (Some 1)
-    else if kind == 2 then rule false true None
-    else if kind == 3 then rule false true (Some 4)
-    else if kind == 4 then rule true false (Some 4)
-    else if kind == 5 then rule false true (Some 4)
-    else if kind == 6 then rule false true (Some 0)
-    else if kind == 7 then rule true true (Some (if as4 then 8 else 6))
-    else None
+-- ORIGINATOR_ID and CLUSTER_LIST, where this speaker is a route reflector (RFC 4456, section 8)
+abbrev pub is_reflection : Profile → ℕ → Bool
+is_reflection p kind = p.reflect && (kind == 9 || kind == 10)
+
+-- those of a route reflector, from an internal peer alone: what external ones say of them is dropped
+abbrev pub reflection_rule : Profile → Bool → ℕ → Option TypeRule
+reflection_rule p external kind =
+    if not (is_reflection p kind) || external then None
+    else if kind == 9 then rule true false (Fixed 4)
+    else rule true false Fours
+
+unfoldable pub rule_of : Profile → Bool → ℕ → Option TypeRule
+rule_of p external kind =
+    if kind == 1 then rule false true (Fixed 1)
+    else if kind == 2 then rule false true Any
+    else if kind == 3 then rule false true (Fixed 4)
+    else if kind == 4 then rule true false (Fixed 4)
+    else if kind == 5 then rule false true (Fixed 4)
+    else if kind == 6 then rule false true (Fixed 0)
+    else if kind == 7 then rule true true (Fixed (if p.as4 then 8 else 6))
+    else reflection_rule p external kind
 
 -- a fault, or something milder where errors are handled in the revised manner
 abbrev pub milder : Profile → Verdict → Notice → Result Verdict Notice
@@ -81,7 +94,7 @@ is_old_form p kind = p.as4 && (kind == 17 || kind == 18)
 abbrev pub judge_unrecognized : Profile → Attribute → Result Verdict Notice
 judge_unrecognized p a =
     if not (is_optional a) then Err (notice 3 2 a.octets)
-    else if is_transitive a && not (is_old_form p a.kind) then Ok Keep
+    else if is_transitive a && not (is_old_form p a.kind || is_reflection p a.kind) then Ok Keep
     else Ok Discard
 
 -- a first octet that no address of a host has
@@ -100,9 +113,10 @@ abbrev pub judge_value : Profile → Option Notice → Result Verdict Notice
 judge_value p None = Ok Keep
 judge_value p (Some n) = milder p Withdraw n
 
-abbrev pub has_wrong_size : Option ℕ → List ℕ → Bool
-has_wrong_size None value = false
-has_wrong_size (Some n) value = not (length value == n)
+abbrev pub has_wrong_size : Size → List ℕ → Bool
+has_wrong_size Any value = false
+has_wrong_size (Fixed n) value = not (length value == n)
+has_wrong_size Fours value = length value == 0 || not (length value % 4 == 0)
 
 abbrev pub has_wrong_flags : TypeRule → Attribute → Bool
 has_wrong_flags r a = not (beq (is_optional a) r.optional && beq (is_transitive a) r.transitive)
@@ -122,7 +136,7 @@ judge_by p external a (Some r) = judge_recognized p external a r
 unfoldable pub judgement : Profile → Bool → List ℕ → Attribute → Result Verdict Notice
 judgement p external seen a =
     if list_any (λ kind. kind == a.kind) seen then milder p Discard (notice 3 1 [])
-    else judge_by p external a (rule_of p.as4 a.kind)
+    else judge_by p external a (rule_of p external a.kind)
 
 -- attributes, each with what becomes of it; and whether what follows them runs beyond the end, which only the revised manner reads
 abbrev pub AreAttributes : Profile → Bool → List ℕ → List ℕ → List (Attribute × Verdict) → Bool → Type 0

@@ -1,5 +1,5 @@
 -- What is gathered of the attributes, from left to right.
-use Rattle.std.specs.Prelude.{◌≡◌, ℕ, List, [], ◌∷◌, ◌++◌, slice_index, slice_index_or, Option, Some, None, is_some, option_map, option_and_then, Result, Ok, Err, Bool, true, false, nat_lt, ◌==◌, not, if◌then◌else◌}
+use Rattle.std.specs.Prelude.{◌≡◌, ℕ, List, [], ◌∷◌, ◌++◌, slice_index, slice_index_or, Option, Some, None, is_some, option_map, option_and_then, Result, Ok, Err, Bool, true, false, nat_lt, ◌==◌, ◌&&◌, not, if◌then◌else◌}
 use Rattle.std.specs.List.{list_any}
 use Rattle.std.specs.Result.{result_ok}
 use Rattle.byteorder.specs.Endian.{big_number}
@@ -21,7 +21,7 @@ use Rattle.bgp_wire.specs.declared.notice.Refusal.{Refusal}
 use Rattle.bgp_wire.specs.Faults.{Fails}
 use Rattle.bgp_wire.specs.Paths.{width_of, path_at}
 use Rattle.bgp_wire.specs.Attributes.{Attribute, Kept, judgement, attributes_at}
-use Rattle.bgp_wire.specs.Routes.{kept_of, number_of, aggregator_of, AreUnrecognized}
+use Rattle.bgp_wire.specs.Routes.{kept_of, number_of, aggregator_of, clusters_at, clusters_of, is_unrecognized, AreUnrecognized}
 use Rattle.bgp_wire.specs.Updates.{lack}
 use Rattle.bgp_wire.specs.Grammar.{without}
 
@@ -34,16 +34,19 @@ abbrev pub origin_of : ℕ → Origin
 origin_of n = if n == 0 then Igp else if n == 1 then Egp else Incomplete
 
 -- what is found, with one more attribute
-unfoldable pub found_with : Bool → Attribute → Found → Found
-found_with as4 a found =
-    if a.kind == 1 then record found { origin = Some (origin_of (slice_index a.value 0)) }
-    else if a.kind == 2 then record found { path = result_ok (path_at (width_of as4) a.value) }
-    else if a.kind == 3 then record found { next_hop = Some (big_number 4 a.value) }
-    else if a.kind == 4 then record found { med = Some (big_number 4 a.value) }
-    else if a.kind == 5 then record found { local_pref = Some (big_number 4 a.value) }
-    else if a.kind == 6 then record found { atomic = true }
-    else if a.kind == 7 then record found { aggregator = Some (aggregator_of as4 a) }
-    else record found { unrecognized = placed (record { kind = a.kind; value = a.value }) found.unrecognized }
+unfoldable pub found_with : Profile → Attribute → Found → Found
+found_with p a found = record {
+  origin = if a.kind == 1 then Some (origin_of (slice_index a.value 0)) else found.origin;
+  path = if a.kind == 2 then result_ok (path_at (width_of p.as4) a.value) else found.path;
+  next_hop = if a.kind == 3 then Some (big_number 4 a.value) else found.next_hop;
+  med = if a.kind == 4 then Some (big_number 4 a.value) else found.med;
+  local_pref = if a.kind == 5 then Some (big_number 4 a.value) else found.local_pref;
+  atomic = if a.kind == 6 then true else found.atomic;
+  aggregator = if a.kind == 7 then Some (aggregator_of p.as4 a) else found.aggregator;
+  originator = if p.reflect && a.kind == 9 then Some (big_number 4 a.value) else found.originator;
+  clusters = if p.reflect && a.kind == 10 then clusters_at a.value else found.clusters;
+  unrecognized = if is_unrecognized p a.kind then placed (record { kind = a.kind; value = a.value }) found.unrecognized else found.unrecognized;
+}
 
 -- only an attribute that is kept changes what is found
 abbrev pub after : Verdict → Found → Found → Found
@@ -57,30 +60,32 @@ is_withdraw Discard = false
 is_withdraw Withdraw = true
 
 -- an attribute was judged and taken
-abbrev pub Takes : Bool → Attribute → Found → Found → Result Verdict Refusal → Result Verdict Notice → Type 0
-Takes as4 a old new (Ok verdict) judged = (judged ≡ Ok verdict) × (new ≡ after verdict (found_with as4 a old) old)
-Takes as4 a old new (Err e) judged = Fails e judged
+abbrev pub Takes : Profile → Attribute → Found → Found → Result Verdict Refusal → Result Verdict Notice → Type 0
+Takes p a old new (Ok verdict) judged = (judged ≡ Ok verdict) × (new ≡ after verdict (found_with p a old) old)
+Takes p a old new (Err e) judged = Fails e judged
 
 -- what is found is what the kept attributes say
-pub record Gathers (as4 : Bool) (kept : List Attribute) (found : Found) : Type 0 where
+pub record Gathers (p : Profile) (kept : List Attribute) (found : Found) : Type 0 where
   pub origin : found.origin ≡ option_map (λ a. origin_of (slice_index a.value 0)) (kept_of 1 kept)
-  pub path : found.path ≡ option_and_then (λ a. result_ok (path_at (width_of as4) a.value)) (kept_of 2 kept)
+  pub path : found.path ≡ option_and_then (λ a. result_ok (path_at (width_of p.as4) a.value)) (kept_of 2 kept)
   pub next_hop : found.next_hop ≡ number_of 3 kept
   pub med : found.med ≡ number_of 4 kept
   pub local_pref : found.local_pref ≡ number_of 5 kept
   pub atomic : found.atomic ≡ is_some (kept_of 6 kept)
-  pub aggregator : found.aggregator ≡ option_map (aggregator_of as4) (kept_of 7 kept)
-  pub unrecognized : AreUnrecognized kept found.unrecognized
+  pub aggregator : found.aggregator ≡ option_map (aggregator_of p.as4) (kept_of 7 kept)
+  pub originator : found.originator ≡ (if p.reflect then number_of 9 kept else None)
+  pub clusters : found.clusters ≡ (if p.reflect then clusters_of (kept_of 10 kept) else [])
+  pub unrecognized : AreUnrecognized p kept found.unrecognized
 
 -- whether a type has come
 abbrev pub has_type : TypeSet → ℕ → Bool
 has_type types kind = slice_index_or types.has kind false
 
 -- so far: the types that came, and what was kept
-pub record IsGathered (as4 : Bool) (seen : List ℕ) (kept : Kept) (g : Gathered) : Type 0 where
+pub record IsGathered (p : Profile) (seen : List ℕ) (kept : Kept) (g : Gathered) : Type 0 where
   pub types : (kind : ℕ) → has_type g.seen kind ≡ list_any (λ k. k == kind) seen
   pub new : (kind : ℕ) → list_any (λ k. k == kind) seen ≡ false → kept_of kind kept.0 ≡ None
-  pub found : Gathers as4 kept.0 g.found
+  pub found : Gathers p kept.0 g.found
   pub withdraw : g.withdraw ≡ kept.1
 
 -- an attribute at the end of what is kept so far
@@ -92,14 +97,14 @@ added Withdraw a k = (k.0, true)
 -- one more attribute was judged and gathered, whatever was before
 abbrev pub GathersOne : Profile → Bool → Attribute → Gathered → Gathered → Type 0
 GathersOne p external a old new =
-    (seen : List ℕ) (kept : Kept) → IsGathered p.as4 seen kept old → (verdict : Verdict) × (judgement p external seen a ≡ Ok verdict) × IsGathered p.as4 (seen ++ a.kind ∷ []) (added verdict a kept) new
+    (seen : List ℕ) (kept : Kept) → IsGathered p seen kept old → (verdict : Verdict) × (judgement p external seen a ≡ Ok verdict) × IsGathered p (seen ++ a.kind ∷ []) (added verdict a kept) new
 
 abbrev pub RefusesOne : Profile → Bool → Attribute → Gathered → Refusal → Type 0
-RefusesOne p external a old e = (seen : List ℕ) (kept : Kept) → IsGathered p.as4 seen kept old → Fails e (judgement p external seen a)
+RefusesOne p external a old e = (seen : List ℕ) (kept : Kept) → IsGathered p seen kept old → Fails e (judgement p external seen a)
 
 -- the attributes were gathered to the end
 abbrev pub IsGatheredTo : Profile → Bool → List ℕ → Result Gathered Refusal → Type 0
-IsGatheredTo p external bytes (Ok g) = (kept : Kept) × (attributes_at p external [] bytes ≡ Ok kept) × Gathers p.as4 kept.0 g.found × (g.withdraw ≡ kept.1)
+IsGatheredTo p external bytes (Ok g) = (kept : Kept) × (attributes_at p external [] bytes ≡ Ok kept) × Gathers p kept.0 g.found × (g.withdraw ≡ kept.1)
 IsGatheredTo p external bytes (Err e) = Fails e (attributes_at p external [] bytes)
 
 -- the lowest of ORIGIN, AS_PATH and NEXT_HOP that wasn't found
@@ -124,6 +129,7 @@ attrs_by external found (Some origin) (Some path) (Some next_hop) = Some (record
   local_pref = if external then None else found.local_pref;
   atomic = found.atomic;
   aggregator = found.aggregator;
+  reflection = record { originator = found.originator; clusters = found.clusters };
   unrecognized = found.unrecognized;
 })
 attrs_by external found origin path next_hop = None

@@ -73,10 +73,10 @@ abbrev pub without : List Network → List Network → List Network
 without others ps = filter (λ p. not (list_any (λ other. same_prefix other p) others)) ps
 
 -- attributes are there exactly where a prefix is announced
-abbrev pub AreAttrsFor : Bool → Bool → List Attribute → List Network → Option Attrs → Type 0
-AreAttrsFor as4 external kept [] attrs = attrs ≡ None
-AreAttrsFor as4 external kept (p ∷ ps) None = ⊥
-AreAttrsFor as4 external kept (p ∷ ps) (Some attrs) = AreAttrs as4 external kept attrs
+abbrev pub AreAttrsFor : Profile → Bool → List Attribute → List Network → Option Attrs → Type 0
+AreAttrsFor p external kept [] attrs = attrs ≡ None
+AreAttrsFor p external kept (n ∷ ns) None = ⊥
+AreAttrsFor p external kept (n ∷ ns) (Some attrs) = AreAttrs p external kept attrs
 
 -- an UPDATE by what it holds. One that is a withdraw announces nothing, and all its prefixes are withdrawn (RFC 7606, section 2)
 pub record IsWithdraw (r : Reading) (u : Update) : Type 0 where
@@ -84,23 +84,23 @@ pub record IsWithdraw (r : Reading) (u : Update) : Type 0 where
   pub announced : u.announced ≡ []
   pub attrs : u.attrs ≡ None
 
-pub record IsPlain (as4 external : Bool) (r : Reading) (u : Update) : Type 0 where
+pub record IsPlain (p : Profile) (external : Bool) (r : Reading) (u : Update) : Type 0 where
   pub withdrawn : u.withdrawn ≡ r.withdrawn
   pub announced : u.announced ≡ r.announced
-  pub attrs : AreAttrsFor as4 external r.kept r.announced u.attrs
+  pub attrs : AreAttrsFor p external r.kept r.announced u.attrs
 
-abbrev pub IsUpdateBy : Bool → Bool → Reading → Bool → Update → Type 0
-IsUpdateBy as4 external r true u = IsWithdraw r u
-IsUpdateBy as4 external r false u = IsPlain as4 external r u
+abbrev pub IsUpdateBy : Profile → Bool → Reading → Bool → Update → Type 0
+IsUpdateBy p external r true u = IsWithdraw r u
+IsUpdateBy p external r false u = IsPlain p external r u
 
 -- an UPDATE was read, or its first fault
 abbrev pub GivesUpdate : Profile → Bool → Result Update Refusal → Result Reading Notice → Type 0
-GivesUpdate p external (Ok u) read = (r : Reading) × (read ≡ Ok r) × IsUpdateBy p.as4 external r r.withdraw u
+GivesUpdate p external (Ok u) read = (r : Reading) × (read ≡ Ok r) × IsUpdateBy p external r r.withdraw u
 GivesUpdate p external (Err e) read = Fails e read
 
 -- the message by what the octets hold
 abbrev pub IsMessageBy : Profile → Bool → Content → Message → Type 0
-IsMessageBy p external (update r) (messages.Update u) = IsUpdateBy p.as4 external r r.withdraw u
+IsMessageBy p external (update r) (messages.Update u) = IsUpdateBy p external r r.withdraw u
 IsMessageBy p external keepalive messages.Keepalive = Unit {0}
 IsMessageBy p external notification messages.Notification = Unit {0}
 IsMessageBy p external opening messages.Skip = Unit {0}
@@ -114,7 +114,7 @@ GivesMessage p external (Err e) read = Fails e read
 
 -- the message that octets are. A fault is none
 abbrev pub Reads : Profile → Bool → List ℕ → Message → Type 0
-Reads p external bytes (messages.Update u) = (r : Reading) × IsReading p external bytes r × IsUpdateBy p.as4 external r r.withdraw u
+Reads p external bytes (messages.Update u) = (r : Reading) × IsReading p external bytes r × IsUpdateBy p external r r.withdraw u
 Reads p external bytes messages.Keepalive = Holds p external bytes keepalive
 Reads p external bytes messages.Notification = Holds p external bytes notification
 Reads p external bytes messages.Skip = Holds p external bytes opening
@@ -123,11 +123,11 @@ Reads p external bytes (messages.Notify n) = ⊥
 
 -- what is answered to octets: the message that they are, or their first fault
 abbrev pub Answers : Profile → Bool → List ℕ → Message → Type 0
-Answers p external bytes (messages.Notify n) = fault p bytes ≡ Some n
+Answers p external bytes (messages.Notify n) = fault p external bytes ≡ Some n
 Answers p external bytes message = Reads p external bytes message
 
 -- one message and no fault, or a fault and no message
 abbrev pub OneAnswer : Profile → Bool → List ℕ → Type 0
 OneAnswer p external bytes =
-    ((fault p bytes ≡ None) × ((m : Message) × Reads p external bytes m × ((other : Message) → Reads p external bytes other → m ≡ other)))
-    ⊎ ((n : Notice) × (fault p bytes ≡ Some n) × ((m : Message) → Reads p external bytes m → ⊥))
+    ((fault p external bytes ≡ None) × ((m : Message) × Reads p external bytes m × ((other : Message) → Reads p external bytes other → m ≡ other)))
+    ⊎ ((n : Notice) × (fault p external bytes ≡ Some n) × ((m : Message) → Reads p external bytes m → ⊥))

@@ -1,5 +1,5 @@
 -- What can be said in an UPDATE so that a peer reads it as it was said.
-use Rattle.std.specs.Prelude.{◌≡◌, ℕ, ◌+◌, ◌<◌, ◌≤◌, ◌/◌, ◌^◌, List, [], ◌∷◌, length, All, Some, None, Bool, true, false}
+use Rattle.std.specs.Prelude.{◌≡◌, ℕ, ◌+◌, ◌<◌, ◌≤◌, ◌/◌, ◌^◌, List, [], ◌∷◌, length, All, Some, None, Bool, true, false, not, ◌&&◌}
 use Rattle.std.specs.Option.{ForSome}
 use Rattle.addr4.specs.Prefixes.{Network, IsMasked}
 use Rattle.bgp_attr.specs.declared.attrs.Attrs.{Attrs}
@@ -28,15 +28,22 @@ pub record IsHost (address : ℕ) : Type 0 where
   pub fits : address < 2 ^ 32
   pub first : is_no_host (address / 2 ^ 24) ≡ false
 
--- attributes that a peer reads as they are, which is external or internal to who sends them. From an external one a peer reads no LOCAL_PREF
+-- who reads ORIGINATOR_ID and CLUSTER_LIST: a route reflector, from an internal peer
+abbrev pub reads_reflection : Profile → Bool → Bool
+reads_reflection p external = p.reflect && not external
+
+-- attributes that a peer reads as they are, which is external or internal to who sends them. From an external one a peer reads no LOCAL_PREF,
+-- and nothing that reflectors added
 pub record IsReadable (p : Profile) (external : Bool) (a : Attrs) : Type 0 where
   pub path : All (IsReadableSegment p.as4) a.path
   pub next_hop : IsHost a.next_hop
   pub med : ForSome a.med (λ n. n < 2 ^ 32)
   pub local_pref : ForSome a.local_pref (λ n. (external ≡ false) × (n < 2 ^ 32))
   pub aggregator : ForSome a.aggregator (λ g. (g.asn < 256 ^ width_of p.as4) × (g.addr < 2 ^ 32))
+  pub originator : ForSome a.reflection.originator (λ n. (reads_reflection p external ≡ true) × (n < 2 ^ 32))
+  pub clusters : All (λ n. (reads_reflection p external ≡ true) × (n < 2 ^ 32)) a.reflection.clusters
   pub order : AscendsFrom 0 a.unrecognized
-  pub types : All (λ u. (is_unrecognized u.kind ≡ true) × (is_old_form p u.kind ≡ false)) a.unrecognized
+  pub types : All (λ u. (is_unrecognized p u.kind ≡ true) × (is_old_form p u.kind ≡ false)) a.unrecognized
 
 -- one prefix is withdrawn
 abbrev pub withdrawal : Network → Update

@@ -1,13 +1,14 @@
 -- What the kept attributes say of a route.
-use Rattle.std.specs.Prelude.{◌≡◌, ℕ, suc, ◌≤◌, List, [], ◌∷◌, find, drop, slice_index, IsSomeAnd, Option, Some, None, is_some, option_map, Bool, nat_lt, ◌==◌, ◌||◌, if◌then◌else◌}
+use Rattle.std.specs.Prelude.{◌≡◌, ℕ, suc, ◌/◌, ◌≤◌, List, [], ◌∷◌, length, find, drop, slice_index, IsSomeAnd, Option, Some, None, is_some, option_map, Bool, nat_lt, ◌==◌, ◌||◌, ◌&&◌, not, if◌then◌else◌}
 use Rattle.byteorder.specs.Endian.{big_number}
 use Rattle.bgp_attr.specs.declared.attrs.Aggregator.{Aggregator}
 use Rattle.bgp_attr.specs.declared.attrs.Attrs.{Attrs}
 use Rattle.bgp_attr.specs.declared.attrs.Origin.{Origin}
 use Rattle.bgp_attr.specs.declared.attrs.Origin.TheVariants.{Igp, Egp, Incomplete}
+use Rattle.bgp_attr.specs.declared.speaker.Profile.{Profile}
 use Rattle.bgp_attr.specs.declared.unrecognized.Unrecognized.{Unrecognized}
-use Rattle.bgp_wire.specs.Paths.{width_of, IsPath}
-use Rattle.bgp_wire.specs.Attributes.{Attribute, is_partial}
+use Rattle.bgp_wire.specs.Paths.{width_of, numbers_at, IsPath}
+use Rattle.bgp_wire.specs.Attributes.{Attribute, is_partial, is_reflection}
 
 -- the kept attribute of a type
 abbrev pub kept_of : ℕ → List Attribute → Option Attribute
@@ -25,9 +26,17 @@ code_of_origin Incomplete = 2
 abbrev pub aggregator_of : Bool → Attribute → Aggregator
 aggregator_of as4 a = record { asn = big_number (width_of as4) a.value; addr = big_number 4 (drop (width_of as4) a.value); partial = is_partial a }
 
--- the recognized types are 1 to 7
-abbrev pub is_unrecognized : ℕ → Bool
-is_unrecognized kind = kind == 0 || nat_lt 7 kind
+-- the identifiers of a CLUSTER_LIST, each of four octets
+abbrev pub clusters_at : List ℕ → List ℕ
+clusters_at value = numbers_at 4 (length value / 4) value
+
+abbrev pub clusters_of : Option Attribute → List ℕ
+clusters_of None = []
+clusters_of (Some a) = clusters_at a.value
+
+-- the recognized types are 1 to 7, and 9 and 10 where this speaker is a route reflector
+abbrev pub is_unrecognized : Profile → ℕ → Bool
+is_unrecognized p kind = kind == 0 || (nat_lt 7 kind && not (is_reflection p kind))
 
 -- types from n on, each above the one before
 abbrev pub AscendsFrom : ℕ → List Unrecognized → Type 0
@@ -40,17 +49,20 @@ value_of kind [] = None
 value_of kind (u ∷ us) = if u.kind == kind then Some u.value else value_of kind us
 
 -- the unrecognized attributes that are kept, by ascending type
-pub record AreUnrecognized (kept : List Attribute) (us : List Unrecognized) : Type 0 where
+pub record AreUnrecognized (p : Profile) (kept : List Attribute) (us : List Unrecognized) : Type 0 where
   pub order : AscendsFrom 0 us
-  pub values : (kind : ℕ) → value_of kind us ≡ (if is_unrecognized kind then option_map (λ a. a.value) (kept_of kind kept) else None)
+  pub values : (kind : ℕ) → value_of kind us ≡ (if is_unrecognized p kind then option_map (λ a. a.value) (kept_of kind kept) else None)
 
--- ORIGIN, AS_PATH and NEXT_HOP are there; the others may be, LOCAL_PREF only from an internal peer
-pub record AreAttrs (as4 external : Bool) (kept : List Attribute) (attrs : Attrs) : Type 0 where
+-- ORIGIN, AS_PATH and NEXT_HOP are there; the others may be, LOCAL_PREF only from an internal peer. (So are ORIGINATOR_ID and CLUSTER_LIST:
+-- from an external one none is kept.)
+pub record AreAttrs (p : Profile) (external : Bool) (kept : List Attribute) (attrs : Attrs) : Type 0 where
   pub origin : option_map (λ a. slice_index a.value 0) (kept_of 1 kept) ≡ Some (code_of_origin attrs.origin)
-  pub path : IsSomeAnd (kept_of 2 kept) (λ a. IsPath (width_of as4) a.value attrs.path)
+  pub path : IsSomeAnd (kept_of 2 kept) (λ a. IsPath (width_of p.as4) a.value attrs.path)
   pub next_hop : number_of 3 kept ≡ Some attrs.next_hop
   pub med : attrs.med ≡ number_of 4 kept
   pub local_pref : attrs.local_pref ≡ (if external then None else number_of 5 kept)
   pub atomic : attrs.atomic ≡ is_some (kept_of 6 kept)
-  pub aggregator : attrs.aggregator ≡ option_map (aggregator_of as4) (kept_of 7 kept)
-  pub unrecognized : AreUnrecognized kept attrs.unrecognized
+  pub aggregator : attrs.aggregator ≡ option_map (aggregator_of p.as4) (kept_of 7 kept)
+  pub originator : attrs.reflection.originator ≡ (if p.reflect then number_of 9 kept else None)
+  pub clusters : attrs.reflection.clusters ≡ (if p.reflect then clusters_of (kept_of 10 kept) else [])
+  pub unrecognized : AreUnrecognized p kept attrs.unrecognized

@@ -1,14 +1,16 @@
 -- The octets that are sent: of all that read alike, one spelling (RFC 4271, sections 4.1, 4.3, 4.5 and 5).
-use Rattle.std.specs.Prelude.{◌≡◌, ℕ, ◌+◌, ◌≤◌, ◌<◌, List, [], ◌∷◌, ◌++◌, length, take, map, filter, replicate, All, Option, Some, None, Bool, true, false, nat_lt, ◌==◌, if◌then◌else◌}
+use Rattle.std.specs.Prelude.{◌≡◌, ℕ, ◌+◌, ◌≤◌, ◌<◌, List, [], ◌∷◌, ◌++◌, length, take, map, filter, replicate, All, Option, Some, None, Bool, true, false, nat_lt, ◌==◌, not, ◌||◌, if◌then◌else◌}
 use Rattle.std.specs.List.{flat_map}
 use Rattle.std.specs.Option.{ForSome}
-use mathlib.Core.Bool.{beq}
 use Rattle.byteorder.specs.Endian.{big_bytes}
 use Rattle.addr4.specs.Prefixes.{Network}
 use Rattle.bgp_attr.specs.declared.attrs.Aggregator.{Aggregator}
 use Rattle.bgp_attr.specs.declared.attrs.Attrs.{Attrs}
 use Rattle.bgp_attr.specs.declared.path.Segment.{Segment}
 use Rattle.bgp_attr.specs.declared.unrecognized.Unrecognized.{Unrecognized}
+use Rattle.bgp_attr.specs.Reflections.{Reflected}
+use Rattle.bgp_wire.specs.declared.writing.attributes.Place.{Place}
+use Rattle.bgp_wire.specs.declared.writing.attributes.Place.TheVariants.{First, Middle, Last}
 use Rattle.bgp_wire.specs.declared.message.Update.{Update}
 use Rattle.bgp_wire.specs.Prefixes.{octets_for}
 use Rattle.bgp_wire.specs.Paths.{width_of, code_of}
@@ -56,13 +58,28 @@ aggregator_value as4 g = big_bytes (width_of as4) g.asn ++ big_bytes 4 g.addr
 abbrev pub aggregator_flags : Bool → ℕ
 aggregator_flags partial = if partial then 224 else 192
 
--- whether a type stands before ORIGIN
-abbrev pub comes_first : Unrecognized → Bool
-comes_first u = u.kind == 0
+-- whether a type stands in this place: before ORIGIN, between AGGREGATOR and ORIGINATOR_ID, or behind both
+abbrev pub stands_in : Place → ℕ → Bool
+stands_in First kind = kind == 0
+stands_in Middle kind = kind == 8
+stands_in Last kind = not (kind == 0 || kind == 8)
 
--- the unrecognized ones that stand before ORIGIN, or the others
-abbrev pub unrecognized_attributes : Bool → List Unrecognized → List Attribute
-unrecognized_attributes first us = map (λ u. spelled 224 u.kind u.value) (filter (λ u. beq (comes_first u) first) us)
+-- an unrecognized one: it has passed a speaker that doesn't recognize it, so it is partial
+abbrev pub unrecognized_attribute : Unrecognized → Attribute
+unrecognized_attribute u = spelled 224 u.kind u.value
+
+-- the unrecognized ones of a place
+abbrev pub unrecognized_attributes : Place → List Unrecognized → List Attribute
+unrecognized_attributes place us = map unrecognized_attribute (filter (λ u. stands_in place u.kind) us)
+
+-- CLUSTER_LIST, if there is a cluster
+abbrev pub clusters_attributes : List ℕ → List Attribute
+clusters_attributes [] = []
+clusters_attributes (c ∷ cs) = spelled 128 10 (flat_map (big_bytes 4) (c ∷ cs)) ∷ []
+
+-- ORIGINATOR_ID and CLUSTER_LIST, if they are there
+abbrev pub reflection_attributes : Reflected → List Attribute
+reflection_attributes r = optional (λ n. spelled 128 9 (big_bytes 4 n)) r.originator ++ clusters_attributes r.clusters
 
 -- ORIGIN, AS_PATH and NEXT_HOP
 abbrev pub mandatory_attributes : Bool → Attrs → List Attribute
@@ -80,10 +97,12 @@ further_attributes as4 a =
 -- all by ascending type
 abbrev pub sent_attributes : Bool → Attrs → List Attribute
 sent_attributes as4 a =
-    unrecognized_attributes true a.unrecognized
+    unrecognized_attributes First a.unrecognized
     ++ mandatory_attributes as4 a
     ++ further_attributes as4 a
-    ++ unrecognized_attributes false a.unrecognized
+    ++ unrecognized_attributes Middle a.unrecognized
+    ++ reflection_attributes a.reflection
+    ++ unrecognized_attributes Last a.unrecognized
 
 abbrev pub octets_of : List Attribute → List ℕ
 octets_of attributes = flat_map (λ a. a.octets) attributes

@@ -117,6 +117,6 @@ content_for p external bytes kind =
 unfoldable pub content_at : Profile → Bool → List ℕ → Result Content Notice
 content_at p external bytes = header_at bytes >>= λ kind. content_for p external bytes kind
 
--- the first fault of a message, or none; it is the same from an internal and an external peer
-abbrev pub fault : Profile → List ℕ → Option Notice
-fault p bytes = err_of (content_at p false bytes)
+-- the first fault of a message, or none, from a peer that is external or internal
+abbrev pub fault : Profile → Bool → List ℕ → Option Notice
+fault p external bytes = err_of (content_at p external bytes)

@@ -2,7 +2,7 @@
 
 ghost use Rattle.std.specs.Prelude.{◌≡◌, ◌^◌, ◌<◌, IfSome, option_map, slice_index};
 ghost use Rattle.bgp_wire.specs.Faults.{Gives, notice, code_of, subcode_of};
-ghost use Rattle.bgp_wire.specs.Attributes.{attribute_of, has_wrong_flags, has_wrong_size, is_old_form, judge_unrecognized, is_no_host, attribute_at, milder, rule, rule_of, size_at};
+ghost use Rattle.bgp_wire.specs.Attributes.{attribute_of, has_wrong_flags, has_wrong_size, is_old_form, judge_unrecognized, is_no_host, attribute_at, milder, rule, is_reflection, reflection_rule, rule_of, size_at};
 
 use crate::notice::{FaultKind, Refusal, refused};
 use bgp_attr::Profile;
@@ -21,6 +21,10 @@ pub(crate) const LOCAL_PREF: u8 = 5;
 pub(crate) const ATOMIC_AGGREGATE: u8 = 6;
 
 pub(crate) const AGGREGATOR: u8 = 7;
+
+pub(crate) const ORIGINATOR_ID: u8 = 9;
+
+pub(crate) const CLUSTER_LIST: u8 = 10;
 
 const AS4_PATH: u8 = 17;
 
@@ -88,13 +92,23 @@ pub(crate) fn read_attribute(bytes: &[u8]) -> Option<(RawAttribute<'_>, &[u8])>
     ))
 }
 
+/// How many octets the value of a type may have.
+#[derive(Clone, Copy)]
+pub(crate) enum Size {
+    /// Any number.
+    Any,
+    /// So many.
+    Fixed(usize),
+    /// Four, or a multiple of four.
+    Fours,
+}
+
 /// What is asked of a recognized type.
 #[derive(Clone, Copy)]
 pub(crate) struct TypeRule {
     optional: bool,
     transitive: bool,
-    /// The length of its value in octets, where it is fixed.
-    size: Option<usize>,
+    size: Size,
 }
 
 /// What becomes of an attribute.
@@ -120,7 +134,7 @@ impl Verdict {
     }
 }
 
-fn rule(optional: bool, transitive: bool, size: Option<usize>) -> Option<TypeRule>
+fn rule(optional: bool, transitive: bool, size: Size) -> Option<TypeRule>
     ensures { result ≡ rule optional transitive size }
 {
     Some(TypeRule {
@@ -130,20 +144,41 @@ fn rule(optional: bool, transitive: bool, size: Option<usize>) -> Option<TypeRul
     })
 }
 
-/// The recognized types (RFC 4271, section 5).
+/// ORIGINATOR_ID and CLUSTER_LIST, where this speaker is a route reflector (RFC 4456, section 8).
+fn is_reflection(profile: Profile, kind: u8) -> bool
+    ensures { result ≡ is_reflection profile kind }
+{
+    profile.reflect && (kind == ORIGINATOR_ID || kind == CLUSTER_LIST)
+}
+
+/// The types that a route reflector recognizes, from an internal peer alone (RFC 4456, section 8).
+fn reflection_rule(profile: Profile, external: bool, kind: u8) -> Option<TypeRule>
+    ensures { result ≡ reflection_rule profile external kind }
+{
+    if !is_reflection(profile, kind) || external {
+        return None;
+    }
+    if kind == ORIGINATOR_ID {
+        rule(true, false, Size::Fixed(4))
+    } else {
+        rule(true, false, Size::Fours)
+    }
+}
+
+/// The recognized types (RFC 4271, section 5; RFC 4456, section 8).
 #[tactic(auto, unfolding(crate::specs::Attributes::rule_of))]
-pub(crate) fn rule_of(as4: bool, kind: u8) -> Option<TypeRule>
-    ensures { result ≡ rule_of as4 kind }
+pub(crate) fn rule_of(profile: Profile, external: bool, kind: u8) -> Option<TypeRule>
+    ensures { result ≡ rule_of profile external kind }
 {
     match kind {
-        ORIGIN => rule(false, true, Some(1)),
-        AS_PATH => rule(false, true, None),
-        NEXT_HOP => rule(false, true, Some(4)),
-        MULTI_EXIT_DISC => rule(true, false, Some(4)),
-        LOCAL_PREF => rule(false, true, Some(4)),
-        ATOMIC_AGGREGATE => rule(false, true, Some(0)),
-        AGGREGATOR => rule(true, true, Some(if as4 { 8 } else { 6 })),
-        _ => None,
+        ORIGIN => rule(false, true, Size::Fixed(1)),
+        AS_PATH => rule(false, true, Size::Any),
+        NEXT_HOP => rule(false, true, Size::Fixed(4)),
+        MULTI_EXIT_DISC => rule(true, false, Size::Fixed(4)),
+        LOCAL_PREF => rule(false, true, Size::Fixed(4)),
+        ATOMIC_AGGREGATE => rule(false, true, Size::Fixed(0)),
+        AGGREGATOR => rule(true, true, Size::Fixed(if profile.as4 { 8 } else { 6 })),
+        _ => reflection_rule(profile, external, kind),
     }
 }
 
@@ -176,8 +211,9 @@ pub(crate) fn has_wrong_size(rule: TypeRule, value: &[u8]) -> bool
     ensures { result ≡ has_wrong_size rule.size value.now }
 {
     match rule.size {
-        None => false,
-        Some(size) => value.len() != size,
+        Size::Any => false,
+        Size::Fixed(size) => value.len() != size,
+        Size::Fours => value.is_empty() || value.len() % 4 != 0,
     }
 }
 
@@ -188,7 +224,8 @@ fn is_old_form(profile: Profile, kind: u8) -> bool
     profile.as4 && (kind == AS4_PATH || kind == AS4_AGGREGATOR)
 }
 
-/// What becomes of an unrecognized attribute (RFC 4271, section 5).
+/// What becomes of an unrecognized attribute (RFC 4271, section 5). To a route reflector ORIGINATOR_ID and CLUSTER_LIST of an external
+/// peer are such, and are dropped.
 pub(crate) fn judge_unrecognized(
     alloc: Global,
     profile: Profile,
@@ -201,7 +238,8 @@ pub(crate) fn judge_unrecognized(
         return Err(refused(alloc, FaultKind::UnrecognizedWellKnown, raw.octets));
     }
     let transitive = raw.flags / 64 % 2 == 1;
-    if transitive && !is_old_form(profile, raw.kind) {
+    let means_nothing = is_old_form(profile, raw.kind) || is_reflection(profile, raw.kind);
+    if transitive && !means_nothing {
         Ok(Verdict::Keep)
     } else {
         Ok(Verdict::Discard)

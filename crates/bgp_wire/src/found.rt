@@ -3,20 +3,24 @@
 ghost use Rattle.std.specs.Prelude.{◌≡◌, ◌+◌, ◌≤◌, length, true, false, Bool, [], IfOk, IfErr, IfSome, position, OnOk, OnErr, insert, unwrap_or, slice_index, IsTrue, nat_lt, ◌<◌, ◌&&◌, ℕ, ◌==◌, ◌||◌};
 ghost use Rattle.bgp_wire.specs.Faults.{Gives, notice};
 ghost use Rattle.bgp_wire.specs.Paths.{width_of};
-ghost use Rattle.bgp_wire.specs.Attributes.{attribute_of, judge_value, judge_unrecognized, judge_recognized, judge_by, judgement, rule_of, value_fault};
+ghost use Rattle.bgp_attr.specs.declared.speaker.Profile.{Profile as HowRead};
+ghost use Rattle.bgp_wire.specs.Attributes.{attribute_of, is_reflection, judge_value, judge_unrecognized, judge_recognized, judge_by, judgement, rule_of, value_fault};
 ghost use Rattle.bgp_wire.specs.Routes.{aggregator_of};
 ghost use Rattle.bgp_wire.specs.Found.{has_type, placed, origin_of, found_with, Takes, Gathers, IsGathered, GathersOne, RefusesOne, IsGatheredTo};
 
 use crate::attributes::{
     AGGREGATOR, AS_PATH, ATOMIC_AGGREGATE, LOCAL_PREF, MULTI_EXIT_DISC, NEXT_HOP, ORIGIN,
-    RawAttribute, TypeRule, Verdict, has_wrong_flags, has_wrong_size, is_no_host,
+    ORIGINATOR_ID, RawAttribute, TypeRule, Verdict, has_wrong_flags, has_wrong_size, is_no_host,
     judge_unrecognized, milder, read_attribute, rule_of,
 };
+use crate::clusters::read_clusters;
 use crate::notice::{FaultKind, Refusal, refused};
 use crate::numbers::{as_number, four_octets, width};
 use crate::path::read_path;
-use addr4::Addr;
-use bgp_attr::{Aggregator, AsPath, Octets, Origin, Profile, Unrecognized, UnrecognizedAttrs};
+use addr4::{Addr, Memory};
+use bgp_attr::{
+    Aggregator, AsPath, ClusterList, Octets, Origin, Profile, Unrecognized, UnrecognizedAttrs,
+};
 use std::alloc::Global;
 use std::marker::Model;
 
@@ -88,10 +92,10 @@ impl Ascending {
         Ok(())
     }
 
-    pub(crate) fn into_attrs(self) -> UnrecognizedAttrs
-        ensures { result ≡ self }
+    pub(crate) fn into_attrs(self, alloc: Global) -> Result<UnrecognizedAttrs, Memory>
+        ensures { IfOk result (λ attrs. attrs ≡ self) }
     {
-        UnrecognizedAttrs::from_vec(self.items)
+        UnrecognizedAttrs::from_vec(alloc, self.items)
     }
 }
 
@@ -105,6 +109,10 @@ pub(crate) struct Found {
     pub(crate) local_pref: Option<u32>,
     pub(crate) atomic: bool,
     pub(crate) aggregator: Option<Aggregator>,
+    /// ORIGINATOR_ID.
+    pub(crate) originator: Option<Addr>,
+    /// CLUSTER_LIST.
+    pub(crate) clusters: ClusterList,
     pub(crate) unrecognized: Ascending,
 }
 
@@ -148,7 +156,7 @@ fn aggregator_of(as4: bool, raw: &RawAttribute) -> Aggregator
 
 impl Found {
     fn new(alloc: Global) -> Found
-        ensures { (as4 : Bool) → Gathers as4 [] result }
+        ensures { (p : HowRead) → Gathers p [] result }
     {
         Found {
             origin: None,
@@ -158,6 +166,8 @@ impl Found {
             local_pref: None,
             atomic: false,
             aggregator: None,
+            originator: None,
+            clusters: ClusterList::new(alloc),
             unrecognized: Ascending::new(alloc),
         }
     }
@@ -170,7 +180,7 @@ impl Found {
         raw: &RawAttribute,
     ) -> Result<Verdict, Refusal>
         requires { raw.now.kind ≡ 2 }
-        ensures { Takes profile.as4 (attribute_of raw.now) self.old self.new result (judge_value profile (value_fault profile.as4 (attribute_of raw.now))) }
+        ensures { Takes profile (attribute_of raw.now) self.old self.new result (judge_value profile (value_fault profile.as4 (attribute_of raw.now))) }
     {
         match read_path(alloc, profile.as4, raw.value) {
             Ok(path) => {
@@ -190,9 +200,9 @@ impl Found {
         profile: Profile,
         raw: &RawAttribute,
     ) -> Result<Verdict, Refusal>
-        requires recognized { IsTrue (nat_lt 0 raw.now.kind && nat_lt raw.now.kind 8) }
+        requires recognized { IsTrue ((nat_lt 0 raw.now.kind && nat_lt raw.now.kind 8) || is_reflection profile raw.now.kind) }
         requires aggregator { raw.now.kind ≡ 7 → width_of profile.as4 ≤ length raw.now.value.now }
-        ensures { Takes profile.as4 (attribute_of raw.now) self.old self.new result (judge_value profile (value_fault profile.as4 (attribute_of raw.now))) }
+        ensures { Takes profile (attribute_of raw.now) self.old self.new result (judge_value profile (value_fault profile.as4 (attribute_of raw.now))) }
     {
         if raw.kind == ORIGIN {
             let code = first_octet(raw.value);
@@ -225,8 +235,12 @@ impl Found {
             self.local_pref = Some(four_octets(raw.value));
         } else if raw.kind == ATOMIC_AGGREGATE {
             self.atomic = true;
-        } else {
+        } else if raw.kind == AGGREGATOR {
             self.aggregator = Some(aggregator_of(profile.as4, raw));
+        } else if raw.kind == ORIGINATOR_ID {
+            self.originator = Some(Addr::new(four_octets(raw.value)));
+        } else {
+            self.clusters = read_clusters(alloc, raw.value)?;
         }
         Ok(Verdict::Keep)
     }
@@ -240,8 +254,8 @@ impl Found {
         raw: &RawAttribute,
         rule: TypeRule,
     ) -> Result<Verdict, Refusal>
-        requires { rule_of profile.as4 raw.now.kind ≡ Some rule }
-        ensures { Takes profile.as4 (attribute_of raw.now) self.old self.new result (judge_recognized profile external (attribute_of raw.now) rule) }
+        requires { rule_of profile external raw.now.kind ≡ Some rule }
+        ensures { Takes profile (attribute_of raw.now) self.old self.new result (judge_recognized profile external (attribute_of raw.now) rule) }
     {
         if profile.revised && external && raw.kind == LOCAL_PREF {
             return Ok(Verdict::Discard);
@@ -271,10 +285,11 @@ impl Found {
         &mut self,
         alloc: Global,
         profile: Profile,
+        external: bool,
         raw: &RawAttribute,
     ) -> Result<Verdict, Refusal>
-        requires { rule_of profile.as4 raw.now.kind ≡ None }
-        ensures { Takes profile.as4 (attribute_of raw.now) self.old self.new result (judge_unrecognized profile (attribute_of raw.now)) }
+        requires { rule_of profile external raw.now.kind ≡ None }
+        ensures { Takes profile (attribute_of raw.now) self.old self.new result (judge_unrecognized profile (attribute_of raw.now)) }
     {
         match judge_unrecognized(alloc, profile, raw)? {
             Verdict::Keep => {
@@ -296,18 +311,18 @@ impl Found {
         external: bool,
         raw: &RawAttribute,
     ) -> Result<Verdict, Refusal>
-        ensures { Takes profile.as4 (attribute_of raw.now) self.old self.new result (judge_by profile external (attribute_of raw.now) (rule_of profile.as4 raw.now.kind)) }
+        ensures { Takes profile (attribute_of raw.now) self.old self.new result (judge_by profile external (attribute_of raw.now) (rule_of profile external raw.now.kind)) }
     {
-        match rule_of(profile.as4, raw.kind) {
+        match rule_of(profile, external, raw.kind) {
             Some(rule) => self.take_recognized(alloc, profile, external, raw, rule),
-            None => self.take_unrecognized(alloc, profile, raw),
+            None => self.take_unrecognized(alloc, profile, external, raw),
         }
     }
 }
 
 impl Gathered {
     fn new(alloc: Global) -> Gathered
-        ensures { (as4 : Bool) → IsGathered as4 [] ([], false) result }
+        ensures { (p : HowRead) → IsGathered p [] ([], false) result }
     {
         Gathered {
             seen: TypeSet::new(),

@@ -2,8 +2,7 @@
 
 ghost use Rattle.std.specs.Prelude.{◌≡◌, Bool, List, Some, ℕ};
 ghost use Rattle.bgp_attr.specs.declared.speaker.Profile.{Profile};
-ghost use Rattle.bgp_wire.specs.Faults.{err_of};
-ghost use Rattle.bgp_wire.specs.Updates.{content_at, fault};
+ghost use Rattle.bgp_wire.specs.Updates.{fault};
 ghost use Rattle.bgp_wire.specs.Grammar.{OneAnswer};
 ghost use Rattle.bgp_wire.specs.Notices.{FitsMessage};
 ghost use Rattle.bgp_wire.specs.declared.notice.Notice.{Notice};
@@ -13,12 +12,7 @@ pub fn one_of_message_and_fault()
     ensures { (p : Profile) (external : Bool) (bytes : List ℕ) → OneAnswer p external bytes }
 {}
 
-/// The first fault is the same from an internal and an external peer.
-pub fn one_fault_for_both()
-    ensures { (p : Profile) (external : Bool) (bytes : List ℕ) → err_of (content_at p external bytes) ≡ fault p bytes }
-{}
-
 /// The NOTIFICATION that answers a fault fits into a message.
 pub fn notices_fit()
-    ensures { (p : Profile) (bytes : List ℕ) (n : Notice) → fault p bytes ≡ Some n → FitsMessage n }
+    ensures { (p : Profile) (external : Bool) (bytes : List ℕ) (n : Notice) → fault p external bytes ≡ Some n → FitsMessage n }
 {}

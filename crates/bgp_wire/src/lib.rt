@@ -18,6 +18,7 @@
 #![tactic(auto)]
 
 mod attributes;
+mod clusters;
 mod found;
 mod header;
 mod laws;
@@ -29,7 +30,7 @@ mod prefixes;
 mod reading;
 mod writing;
 
-pub use laws::{notices_fit, one_fault_for_both, one_of_message_and_fault};
+pub use laws::{notices_fit, one_of_message_and_fault};
 pub use message::{Message, Prefixes, RouteRefresh, Update};
 pub use notice::Notice;
 pub use reading::read_message;

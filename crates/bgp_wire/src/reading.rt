@@ -20,7 +20,7 @@ use crate::notice::{FaultKind, Refusal, refused};
 use crate::numbers::two_octets;
 use crate::prefixes::read_prefixes;
 use addr4::{Memory, Prefix};
-use bgp_attr::{Attrs, Profile};
+use bgp_attr::{Attrs, Profile, Reflection};
 use std::alloc::{AllocError, Global};
 use std::collections::BTreeSet;
 
@@ -64,8 +64,8 @@ fn lacks(
 }
 
 /// The attributes of a route, where ORIGIN, AS_PATH and NEXT_HOP were found.
-fn into_attrs(found: Found, external: bool) -> Option<Attrs>
-    ensures { result ≡ attrs_from external found }
+fn into_attrs(alloc: Global, found: Found, external: bool) -> Result<Option<Attrs>, Memory>
+    ensures { IfOk result (λ attrs. attrs ≡ attrs_from external found) }
 {
     let Found {
         origin,
@@ -75,31 +75,39 @@ fn into_attrs(found: Found, external: bool) -> Option<Attrs>
         local_pref,
         atomic,
         aggregator,
+        originator,
+        clusters,
         unrecognized,
     } = found;
-    match (origin, path, next_hop) {
-        (Some(origin), Some(path), Some(next_hop)) => Some(Attrs {
-            origin,
-            path,
-            next_hop,
-            med,
-            local_pref: if external { None } else { local_pref },
-            atomic,
-            aggregator,
-            unrecognized: unrecognized.into_attrs(),
-        }),
-        _ => None,
-    }
+    let (Some(origin), Some(path), Some(next_hop)) = (origin, path, next_hop) else {
+        return Ok(None);
+    };
+    Ok(Some(Attrs {
+        origin,
+        path,
+        next_hop,
+        med,
+        local_pref: if external { None } else { local_pref },
+        atomic,
+        aggregator,
+        reflection: Reflection::new(alloc, originator, clusters)?,
+        unrecognized: unrecognized.into_attrs(alloc)?,
+    }))
 }
 
 /// The same; none where no route is announced.
-fn attrs_for(found: Found, external: bool, announced: &[Prefix]) -> Option<Attrs>
-    ensures { result ≡ attrs_for external found announced.now }
+fn attrs_for(
+    alloc: Global,
+    found: Found,
+    external: bool,
+    announced: &[Prefix],
+) -> Result<Option<Attrs>, Memory>
+    ensures { IfOk result (λ attrs. attrs ≡ attrs_for external found announced.now) }
 {
     if announced.is_empty() {
-        return None;
+        return Ok(None);
     }
-    into_attrs(found, external)
+    into_attrs(alloc, found, external)
 }
 
 /// The prefixes as a set.
@@ -155,13 +163,13 @@ fn update_of(
     withdrawn: Vec<Prefix>,
     announced: Vec<Prefix>,
     found: Found,
-) -> Result<Update, AllocError>
+) -> Result<Update, Memory>
     ensures { IfOk result (λ update. update ≡ update_of external withdraw withdrawn.items announced.items found) }
 {
     if withdraw {
-        return withdrawal_of(alloc, withdrawn, announced);
+        return Ok(withdrawal_of(alloc, withdrawn, announced)?);
     }
-    let attrs = attrs_for(found, external, announced.as_slice());
+    let attrs = attrs_for(alloc, found, external, announced.as_slice())?;
     Ok(Update {
         withdrawn: Prefixes::from_vec(withdrawn),
         announced: Prefixes::from_vec(announced),

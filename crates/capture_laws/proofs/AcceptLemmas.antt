@@ -225,7 +225,7 @@ module _ (as4 : Bool) (w : Written) (d : Declaration) (g : Agrees as4 w d) where
       by_test true = refl
       by_test false = refl
 
-  may_declare : (k asn addr : ℕ) → k ≡ length w.peers + 1 → k ≤ 64 → place_of addr w.peers ≡ None → IsForeign addr w.local → refusal_by g.me d.peers (events.Peer k (speaker asn addr)) ≡ None
+  may_declare : (k asn addr : ℕ) → k ≡ length w.peers + 1 → k ≤ 64 → place_of addr w.peers ≡ None → IsForeign addr w.local → refusal_by g.me d.peers (events.Peer k (speaker asn addr) false) ≡ None
   may_declare k asn addr next few new foreign =
       let number : is_none (peer_at k d.peers) ≡ true = ap is_none (no_peer 1 k w.peers d.peers g.peers (omega (arith, next))) in
       let address : has_addr addr d.peers ≡ false = no_addr 1 addr w.peers d.peers g.peers (others addr w.peers new) in
@@ -247,19 +247,19 @@ module _ (as4 : Bool) (w : Written) (d : Declaration) (g : Agrees as4 w d) where
   unfolding refusal
   may l asks = ap (λ (s : Option Speaker). refusal_at d.profile s d.peers (event_of_line l)) g.speaker_is ∙ may_by l asks
 
-  is_read : (l : Line) → Asks as4 w l → read_event d.profile.as4 (line_bytes l) ≡ Ok (event_of_line l)
-  is_read l asks = subst (λ (b : Bool). read_event b (line_bytes l) ≡ Ok (event_of_line l)) (sym g.wide) (reads as4 w l g.few asks)
+  is_read : (l : Line) → Asks as4 w l → read_event d.profile (line_bytes l) ≡ Ok (event_of_line l)
+  is_read l asks = reads d.profile w l g.few (subst (λ (b : Bool). Asks b w l) (sym g.wide) asks)
 
   -- ---- and behind it they agree again
 
   same_sessions : (ps : List WrittenPeer) (qs : List DeclaredPeer) → length ps ≤ 64 → Match 1 ps qs → Agrees as4 (record { local = w.local; peers = ps }) (record { profile = d.profile; speaker = d.speaker; peers = qs })
   same_sessions ps qs few m = record { me = g.me; wide = g.wide; speaker_is = g.speaker_is; local_is = g.local_is; few = few; peers = m }
 
-  one_peer_more : (k asn addr : ℕ) → k ≡ length w.peers + 1 → k ≤ 64 → Agrees as4 (sessions.after w (lines.Peer k asn addr)) (with_peer d k (speaker asn addr))
+  one_peer_more : (k asn addr : ℕ) → k ≡ length w.peers + 1 → k ≤ 64 → Agrees as4 (sessions.after w (lines.Peer k asn addr)) (with_peer d k (speaker asn addr) false)
   one_peer_more k asn addr next few =
-      same_sessions (w.peers ++ unseen addr ∷ []) (d.peers ++ record { words = words_of d.speaker k (speaker asn addr); session = 0; up = false } ∷ [])
+      same_sessions (w.peers ++ unseen addr ∷ []) (d.peers ++ record { words = words_of d.speaker k (speaker asn addr) false; session = 0; up = false } ∷ [])
       (omega (arith, next, few, length-append w.peers (unseen addr ∷ [])))
-      (match_more 1 w.peers d.peers (unseen addr) (record { words = words_of d.speaker k (speaker asn addr); session = 0; up = false }) g.peers (omega (arith, next)) refl (omega arith))
+      (match_more 1 w.peers d.peers (unseen addr) (record { words = words_of d.speaker k (speaker asn addr) false; session = 0; up = false }) g.peers (omega (arith, next)) refl (omega arith))
 
 module _ (after : Declaration → Event → Declaration) (makes : Declares after) (as4 : Bool) where
   either : (w : Written) (d x y : Declaration) → (d ≡ x) ⊎ (d ≡ y) → Agrees as4 w x → Agrees as4 w y → Agrees as4 w d
@@ -305,7 +305,7 @@ module _ (after : Declaration → Event → Declaration) (makes : Declares after
         few = omega arith;
         peers = subst (Match 1 []) (sym none) tt;
       } in (
-        subst (λ (b : Bool). read_event b (line_bytes (lines.Local asn addr)) ≡ Ok (events.Local me)) (sym wide) (local_read as4 asn addr is),
+        local_read d.profile asn addr (subst (λ (b : Bool). IsSpeaker b asn addr) (sym wide) is),
         ap (λ (s : Option Speaker). refusal_at d.profile s d.peers (events.Local me)) first,
         accepted (sessions.after nothing_written (lines.Local asn addr)) (after d (events.Local me)) more (subst (Agrees as4 (sessions.after nothing_written (lines.Local asn addr))) (sym (makes.local d me)) agrees) order,
       )
@@ -315,7 +315,7 @@ unfolding refusal
 opening_accepted after makes false asn addr more order = opens after makes false no_declaration asn addr more refl refl refl order.0.1 order.1
 opening_accepted after makes true asn addr more order =
     let e = makes.as4 no_declaration in (
-      as4_read false,
+      as4_read no_declaration.profile,
       refl,
       opens after makes true (after no_declaration events.As4) asn addr more (ap (λ d. d.profile.as4) e) (ap (λ d. d.speaker) e) (ap (λ d. d.peers) e) order.1.0.1 order.1.1,
     )

@@ -10,12 +10,13 @@ use Rattle.hex.proofs.HexLemmas.{decode_of-encode_lower, length-encode_with}
 use Rattle.addr4.specs.Texts.{addr_of, addr_text, dotted}
 use Rattle.bgp_attr.specs.Hosts.{is_host}
 use Rattle.bgp_attr.specs.Speakers.{asn_bound}
+use Rattle.bgp_attr.specs.declared.speaker.Profile.{Profile}
 use Rattle.policy_rules.specs.Words.{◌>>=◌, is_word, words_among, words}
 use Rattle.journal_text.specs.declared.line.Code.TheVariants.{E1}
 use Rattle.journal_check.proofs.InkLemmas.{AreInk, inky, both_true, ink_by, ink_decimal, ink_hex, words_parted, line_passes, printable}
 use Rattle.journal_check.proofs.PrefixBack.{number_back, addr_back, ink_addr}
 use Rattle.event_text.specs.declared.event.Event.TheVariants as events
-use Rattle.event_text.specs.Words.{is_clean, from_one, speaker_of, octets_of}
+use Rattle.event_text.specs.Words.{is_clean, from_one, speaker_by, speaker_of, client_of, octets_of}
 use Rattle.event_text.specs.Events.{local_of, peer_of, one_number, bgp_of, profile_event, interior_event, plain_event, named_event, event_of, in_grammar, read_event}
 use Rattle.mrt_reader.specs.Records.{AreBytes}
 use Rattle.mrt_reader.specs.Lines.{Line, line_words}
@@ -66,12 +67,12 @@ clean w ws h few =
     both_yes (nat_le (length line) 16384) (list_all printable line) short (line_passes w ws (inks (w ∷ ws) h))
 
 -- a line is read as its words are
-line_read : (as4 : Bool) (w : List ℕ) (ws : List (List ℕ)) → AllByRecursion IsShown (w ∷ ws) → length w + further ws ≤ 16384 → read_event as4 (join_with_byte 32 (w ∷ ws)) ≡ in_grammar (event_of as4 (w ∷ ws))
+line_read : (p : Profile) (w : List ℕ) (ws : List (List ℕ)) → AllByRecursion IsShown (w ∷ ws) → length w + further ws ≤ 16384 → read_event p (join_with_byte 32 (w ∷ ws)) ≡ in_grammar (event_of p (w ∷ ws))
 unfolding read_event words
-line_read as4 w ws h few =
+line_read p w ws h few =
     let line = join_with_byte 32 (w ∷ ws) in
-    ap (λ b. cond b (in_grammar (event_of as4 (words line))) (Err E1)) (clean w ws h few)
-    ∙ ap (λ l. in_grammar (event_of as4 l)) (ap words_among (words_parted w ws (inks (w ∷ ws) h)) ∙ all_words (w ∷ ws) h)
+    ap (λ b. cond b (in_grammar (event_of p (words line))) (Err E1)) (clean w ws h few)
+    ∙ ap (λ l. in_grammar (event_of p l)) (ap words_among (words_parted w ws (inks (w ∷ ws) h)) ∙ all_words (w ∷ ws) h)
 
 -- ---- numbers
 
@@ -135,8 +136,8 @@ asn_fits false asn addr s = s.narrow refl
 speaks : (a i h : Bool) → a ≡ false → i ≡ false → h ≡ true → (a || i || not h) ≡ false
 speaks a i h ha hi hh = cc
 
-speaker_told : (as4 : Bool) (asn addr : ℕ) → IsSpeaker as4 asn addr → speaker_of as4 (decimal asn ∷ addr_text addr ∷ addr_text addr ∷ []) ≡ Some (speaker asn addr)
-unfolding speaker_of
+speaker_told : (as4 : Bool) (asn addr : ℕ) → IsSpeaker as4 asn addr → speaker_by as4 (decimal asn) (addr_text addr) (addr_text addr) ≡ Some (speaker asn addr)
+unfolding speaker_by
 speaker_told as4 asn addr s =
     let fits = host_fits addr s.host in
     let some = s.some in
@@ -166,55 +167,55 @@ shown_octets octets bytes some =
 
 -- ---- lines
 
-pub as4_read : (as4 : Bool) → read_event as4 (line_bytes lines.As4) ≡ Ok events.As4
+pub as4_read : (p : Profile) → read_event p (line_bytes lines.As4) ≡ Ok events.As4
 unfolding line_words event_of named_event plain_event interior_event profile_event
-as4_read as4 = line_read as4 (codes "as4") [] (shown_by (codes "as4") refl (omega arith), tt) (omega arith) ∙ refl
+as4_read p = line_read p (codes "as4") [] (shown_by (codes "as4") refl (omega arith), tt) (omega arith) ∙ refl
 
-idle_read : (as4 : Bool) → read_event as4 (line_bytes lines.Idle) ≡ Ok events.Idle
+idle_read : (p : Profile) → read_event p (line_bytes lines.Idle) ≡ Ok events.Idle
 unfolding line_words event_of named_event plain_event
-idle_read as4 = line_read as4 (codes "idle") [] (shown_by (codes "idle") refl (omega arith), tt) (omega arith) ∙ refl
+idle_read p = line_read p (codes "idle") [] (shown_by (codes "idle") refl (omega arith), tt) (omega arith) ∙ refl
 
-pub local_read : (as4 : Bool) (asn addr : ℕ) → IsSpeaker as4 asn addr → read_event as4 (line_bytes (lines.Local asn addr)) ≡ Ok (events.Local (speaker asn addr))
-unfolding line_words event_of named_event local_of
-local_read as4 asn addr s =
-    line_read as4 (codes "local") (decimal asn ∷ addr_text addr ∷ addr_text addr ∷ [])
+pub local_read : (p : Profile) (asn addr : ℕ) → IsSpeaker p.as4 asn addr → read_event p (line_bytes (lines.Local asn addr)) ≡ Ok (events.Local (speaker asn addr))
+unfolding line_words event_of named_event local_of speaker_of
+local_read p asn addr s =
+    line_read p (codes "local") (decimal asn ∷ addr_text addr ∷ addr_text addr ∷ [])
     (shown_by (codes "local") refl (omega arith), (shown_number asn s.wide, (shown_addr addr, (shown_addr addr, tt)))) (omega (arith, number_short asn s.wide, addr_short addr))
-    ∙ ap in_grammar (ap (λ o. o >>= λ x. Some (events.Local x)) (speaker_told as4 asn addr s))
+    ∙ ap in_grammar (ap (λ o. o >>= λ x. Some (events.Local x)) (speaker_told p.as4 asn addr s))
 
-peer_read : (as4 : Bool) (k asn addr : ℕ) → 0 < k → k < 2 ^ 32 → IsSpeaker as4 asn addr → read_event as4 (line_bytes (lines.Peer k asn addr)) ≡ Ok (events.Peer k (speaker asn addr))
-unfolding line_words event_of named_event peer_of
-peer_read as4 k asn addr some small s =
-    line_read as4 (codes "peer") (decimal k ∷ decimal asn ∷ addr_text addr ∷ addr_text addr ∷ [])
+peer_read : (p : Profile) (k asn addr : ℕ) → 0 < k → k < 2 ^ 32 → IsSpeaker p.as4 asn addr → read_event p (line_bytes (lines.Peer k asn addr)) ≡ Ok (events.Peer k (speaker asn addr) false)
+unfolding line_words event_of named_event peer_of client_of
+peer_read p k asn addr some small s =
+    line_read p (codes "peer") (decimal k ∷ decimal asn ∷ addr_text addr ∷ addr_text addr ∷ [])
     (shown_by (codes "peer") refl (omega arith), (shown_number k small, (shown_number asn s.wide, (shown_addr addr, (shown_addr addr, tt))))) (omega (arith, number_short k small, number_short asn s.wide, addr_short addr))
-    ∙ ap in_grammar (ap (λ o. o >>= λ n. speaker_of as4 (decimal asn ∷ addr_text addr ∷ addr_text addr ∷ []) >>= λ x. Some (events.Peer n x)) (from_one_told k some small)
-    ∙ ap (λ o. o >>= λ x. Some (events.Peer k x)) (speaker_told as4 asn addr s))
+    ∙ ap in_grammar (ap (λ o. o >>= λ n. speaker_by p.as4 (decimal asn) (addr_text addr) (addr_text addr) >>= λ x. Some (events.Peer n x false)) (from_one_told k some small)
+    ∙ ap (λ o. o >>= λ x. Some (events.Peer k x false)) (speaker_told p.as4 asn addr s))
 
-up_read : (as4 : Bool) (k : ℕ) → 0 < k → k < 2 ^ 32 → read_event as4 (line_bytes (lines.Up k)) ≡ Ok (events.Up k)
+up_read : (p : Profile) (k : ℕ) → 0 < k → k < 2 ^ 32 → read_event p (line_bytes (lines.Up k)) ≡ Ok (events.Up k)
 unfolding line_words event_of named_event plain_event one_number
-up_read as4 k some small =
-    line_read as4 (codes "up") (decimal k ∷ []) (shown_by (codes "up") refl (omega arith), (shown_number k small, tt)) (omega (arith, number_short k small))
+up_read p k some small =
+    line_read p (codes "up") (decimal k ∷ []) (shown_by (codes "up") refl (omega arith), (shown_number k small, tt)) (omega (arith, number_short k small))
     ∙ ap in_grammar (ap (λ o. o >>= λ n. Some (events.Up n)) (from_one_told k some small))
 
-down_read : (as4 : Bool) (k : ℕ) → 0 < k → k < 2 ^ 32 → read_event as4 (line_bytes (lines.Down k)) ≡ Ok (events.Down k)
+down_read : (p : Profile) (k : ℕ) → 0 < k → k < 2 ^ 32 → read_event p (line_bytes (lines.Down k)) ≡ Ok (events.Down k)
 unfolding line_words event_of named_event plain_event one_number
-down_read as4 k some small =
-    line_read as4 (codes "down") (decimal k ∷ []) (shown_by (codes "down") refl (omega arith), (shown_number k small, tt)) (omega (arith, number_short k small))
+down_read p k some small =
+    line_read p (codes "down") (decimal k ∷ []) (shown_by (codes "down") refl (omega arith), (shown_number k small, tt)) (omega (arith, number_short k small))
     ∙ ap in_grammar (ap (λ o. o >>= λ n. Some (events.Down n)) (from_one_told k some small))
 
-bgp_read : (as4 : Bool) (k : ℕ) (octets : List ℕ) → 0 < k → k < 2 ^ 32 → 0 < length octets → length octets ≤ 4096 → AreBytes octets → read_event as4 (line_bytes (lines.Bgp k octets)) ≡ Ok (events.Bgp k octets)
+bgp_read : (p : Profile) (k : ℕ) (octets : List ℕ) → 0 < k → k < 2 ^ 32 → 0 < length octets → length octets ≤ 4096 → AreBytes octets → read_event p (line_bytes (lines.Bgp k octets)) ≡ Ok (events.Bgp k octets)
 unfolding line_words event_of named_event bgp_of
-bgp_read as4 k octets some small present short bytes =
-    line_read as4 (codes "bgp") (decimal k ∷ encode_lower octets ∷ [])
+bgp_read p k octets some small present short bytes =
+    line_read p (codes "bgp") (decimal k ∷ encode_lower octets ∷ [])
     (shown_by (codes "bgp") refl (omega arith), (shown_number k small, (shown_octets octets bytes present, tt))) (omega (arith, number_short k small, length-encode_with lower_digits octets, short))
     ∙ ap in_grammar (ap (λ o. o >>= λ n. octets_of (encode_lower octets) >>= λ os. Some (events.Bgp n os)) (from_one_told k some small)
     ∙ ap (λ o. o >>= λ os. Some (events.Bgp k os)) (octets_told octets bytes present))
 
 -- each line that may stand there
-pub reads : (as4 : Bool) (w : Written) (l : Line) → length w.peers ≤ 64 → Asks as4 w l → read_event as4 (line_bytes l) ≡ Ok (event_of_line l)
-reads as4 w lines.As4 few asks = as4_read as4
-reads as4 w (lines.Local asn addr) few asks = local_read as4 asn addr asks.1
-reads as4 w (lines.Peer k asn addr) few asks = peer_read as4 k asn addr (omega (arith, asks.0)) (omega (arith, asks.1)) asks.4
-reads as4 w (lines.Up k) few asks = up_read as4 k asks.0.least (omega (arith, asks.0.most, few))
-reads as4 w (lines.Down k) few asks = down_read as4 k asks.0.least (omega (arith, asks.0.most, few))
-reads as4 w (lines.Bgp k octets) few asks = bgp_read as4 k octets asks.0.least (omega (arith, asks.0.most, few)) asks.2 asks.3 asks.4
-reads as4 w lines.Idle few asks = idle_read as4
+pub reads : (p : Profile) (w : Written) (l : Line) → length w.peers ≤ 64 → Asks p.as4 w l → read_event p (line_bytes l) ≡ Ok (event_of_line l)
+reads p w lines.As4 few asks = as4_read p
+reads p w (lines.Local asn addr) few asks = local_read p asn addr asks.1
+reads p w (lines.Peer k asn addr) few asks = peer_read p k asn addr (omega (arith, asks.0)) (omega (arith, asks.1)) asks.4
+reads p w (lines.Up k) few asks = up_read p k asks.0.least (omega (arith, asks.0.most, few))
+reads p w (lines.Down k) few asks = down_read p k asks.0.least (omega (arith, asks.0.most, few))
+reads p w (lines.Bgp k octets) few asks = bgp_read p k octets asks.0.least (omega (arith, asks.0.most, few)) asks.2 asks.3 asks.4
+reads p w lines.Idle few asks = idle_read p

@@ -1,11 +1,13 @@
 -- Texts cut into lines.
-use Rattle.std.proofs.Common.{◌≡◌, ℕ, suc, ◌+◌, ◌-◌, ◌<◌, ◌≤◌, Bool, true, false, cond, List, [], ◌∷◌, ◌++◌, length, take, get_or, nat_eq, refl, ap, ◌∙◌, arith, append_assoc, length-append, length-take}
-use Rattle.std.proofs.lemmas.List.Splits.{slice_split_at, slice_split_none, slice_split-cons_no, length-slice_split}
+use Rattle.std.proofs.Common.{◌≡◌, ℕ, suc, ◌+◌, ◌-◌, ◌<◌, ◌≤◌, Bool, true, false, cond, List, [], ◌∷◌, ◌++◌, length, take, get_or, nat_eq, Option, None, Some, refl, sym, ap, subst, ◌∙◌, arith, append_assoc, length-append, length-take}
+use Rattle.std.proofs.lemmas.List.Splits.{slice_split_at, slice_split_none, slice_split-cons_no, length-slice_split, join_with_byte-slice_split}
+use Rattle.std.proofs.lemmas.List.{append-nil}
+use Rattle.std.proofs.lemmas.List.Elements.{All-cons}
 use Rattle.std.proofs.lemmas.Bool.Decides.{nat_tests}
-use Rattle.std.specs.List.{AllByRecursion, flat_map, onto_first}
+use Rattle.std.specs.List.{AllByRecursion, flat_map, join_with_byte, onto_first}
 use Rattle.std.specs.Str.Lines.{lines_of_parts, strip_carriage_return}
-use Rattle.addr4.specs.Texts.{parts}
-use Rattle.check_run.specs.Lines.{IsPart, ended, lines_of, lines_in}
+use Rattle.addr4.specs.Texts.{parts, parts_after}
+use Rattle.check_run.specs.Lines.{IsPart, after_part, ended, lines_of, lines_in}
 
 parts_some : (text : List ℕ) → 0 < length (parts 10 text)
 parts_some text = omega (arith, length-slice_split (λ b. nat_eq b 10) text)
@@ -80,3 +82,32 @@ goes_into line more some part = by_parts (parts 10 more) refl (parts_some more)
 
 pub no_bytes : IsPart []
 no_bytes = λ k d below. absurd (omega arith)
+
+-- the first part, and its LF with what follows it
+pub cut_first : (text part : List ℕ) (rest : Option (List ℕ)) → parts 10 text ≡ part ∷ parts_after 10 rest → text ≡ part ++ after_part rest
+cut_first text part rest is = sym (join_with_byte-slice_split 10 text) ∙ ap (join_with_byte 10) is ∙ joined rest
+  where
+    some_more : (more : List (List ℕ)) → 0 < length more → join_with_byte 10 (part ∷ more) ≡ part ++ 10 ∷ join_with_byte 10 more
+    some_more [] some = absurd (omega arith)
+    some_more (next ∷ more) some = refl
+
+    joined : (rest : Option (List ℕ)) → join_with_byte 10 (part ∷ parts_after 10 rest) ≡ part ++ after_part rest
+    joined None = sym (append-nil part)
+    joined (Some rest) = some_more (parts 10 rest) (parts_some rest) ∙ ap (λ r. part ++ 10 ∷ r) (join_with_byte-slice_split 10 rest)
+
+abbrev first_of : List (List ℕ) → List ℕ
+first_of [] = []
+first_of (part ∷ more) = part
+
+one_more : (b : ℕ) (ps : List (List ℕ)) (ends : Bool) → nat_eq b 10 ≡ ends → IsPart (first_of ps) → IsPart (first_of (cond ends ([] ∷ ps) (onto_first b ps)))
+one_more b ps true is part = no_bytes
+one_more b [] false is part = All-cons (λ c. nat_eq c 10 ≡ false) b [] is no_bytes
+one_more b (p ∷ ps) false is part = All-cons (λ c. nat_eq c 10 ≡ false) b p is part
+
+part_in_front : (text : List ℕ) → IsPart (first_of (parts 10 text))
+part_in_front [] = no_bytes
+part_in_front (b ∷ text) = one_more b (parts 10 text) (nat_eq b 10) refl (part_in_front text)
+
+-- no LF stands in the first part
+pub first_is_part : (text part : List ℕ) (more : List (List ℕ)) → parts 10 text ≡ part ∷ more → IsPart part
+first_is_part text part more is = subst IsPart (ap first_of is) (part_in_front text)

@@ -3,6 +3,7 @@ use Rattle.std.proofs.Common.{◌≡◌, ℕ, zero, suc, ◌+◌, ◌/◌, ◌%�
 use Rattle.event_text.specs.declared.event.Event.{Event}
 use Rattle.event_text.specs.declared.event.Event.TheVariants as events
 use Rattle.event_text.specs.Events.{read_event}
+use Rattle.event_text.specs.Declarations.{plain}
 use Rattle.event_gen.specs.Draws.{next_draws, behind_draws}
 use Rattle.event_gen.specs.Events.{kind_of, peer_of, block_of, origin_of, host_event, work_of, other_event, event_of, events_from}
 use Rattle.event_gen.specs.Lines.{host, announce_octets, withdraw_octets, event_words, event_line, opening}
@@ -71,14 +72,14 @@ is_drawn d =
 
 -- ---- what is read
 
-work_is_read : (task : Work) (n : ℕ) → IsWork task → n < 2 ^ 32 → read_event false (event_line (drawn.Work task n)) ≡ Ok (events.Work (task_meant task) n)
+work_is_read : (task : Work) (n : ℕ) → IsWork task → n < 2 ^ 32 → read_event plain (event_line (drawn.Work task n)) ≡ Ok (events.Work (task_meant task) n)
 unfolding IsWork event_words
 work_is_read works.ReadRib n h small = rib_read n small
 work_is_read (works.Out k) n h small = out_read k n h small
 work_is_read (works.NextHops k) n h small = nh_read k n h small
 work_is_read (works.Filter k) n h small = fin_read k n h small
 
-is_read : (e : Drawn) → IsDrawn e → read_event false (event_line e) ≡ Ok (meant e)
+is_read : (e : Drawn) → IsDrawn e → read_event plain (event_line e) ≡ Ok (meant e)
 unfolding IsDrawn event_words
 is_read (drawn.Announce k x origin med) h =
     let long = announce_long k x origin med in

@@ -27,6 +27,7 @@ use Rattle.journal_check.proofs.PrefixBack.{number_back, printed_back}
 use Rattle.event_text.specs.declared.event.Event.TheVariants as events
 use Rattle.event_text.specs.Words.{from_one, octets_of, way_out, interior_of}
 use Rattle.event_text.specs.Events.{one_number, bgp_of, filter_on, filter_of, route_add_of, route_del_of, route_of, interior_event, work_of, plain_event, named_event, event_of, in_grammar, read_event}
+use Rattle.event_text.specs.Declarations.{plain}
 use Rattle.event_gen.specs.Lines.{host}
 use Rattle.event_gen.proofs.OctetLemmas.{AreOctets, bytes}
 use Rattle.event_gen.proofs.WordLemmas.{IsPlain, plain_by, plain_decimal, plain_hex, plain_prefix, octet_short, line_read}
@@ -70,19 +71,19 @@ host_is k small = ((omega arith, omega arith), omega arith)
 
 -- ---- events by their words
 
-up_told : (k : ℕ) → IsCount k → event_of false (codes "up" ∷ decimal k ∷ []) ≡ Some (events.Up k)
+up_told : (k : ℕ) → IsCount k → event_of plain (codes "up" ∷ decimal k ∷ []) ≡ Some (events.Up k)
 unfolding event_of named_event plain_event one_number
 up_told k h = ap (λ o. o >>= λ n. Some (events.Up n)) (from_one_told k h)
 
-down_told : (k : ℕ) → IsCount k → event_of false (codes "down" ∷ decimal k ∷ []) ≡ Some (events.Down k)
+down_told : (k : ℕ) → IsCount k → event_of plain (codes "down" ∷ decimal k ∷ []) ≡ Some (events.Down k)
 unfolding event_of named_event plain_event one_number
 down_told k h = ap (λ o. o >>= λ n. Some (events.Down n)) (from_one_told k h)
 
-idle_told : event_of false (codes "idle" ∷ []) ≡ Some events.Idle
+idle_told : event_of plain (codes "idle" ∷ []) ≡ Some events.Idle
 unfolding event_of named_event plain_event
 idle_told = refl
 
-bgp_told : (k : ℕ) (octets : List ℕ) → IsCount k → AreOctets octets → 0 < length octets → event_of false (codes "bgp" ∷ decimal k ∷ encode_lower octets ∷ []) ≡ Some (events.Bgp k octets)
+bgp_told : (k : ℕ) (octets : List ℕ) → IsCount k → AreOctets octets → 0 < length octets → event_of plain (codes "bgp" ∷ decimal k ∷ encode_lower octets ∷ []) ≡ Some (events.Bgp k octets)
 unfolding event_of named_event bgp_of
 bgp_told k octets h small some =
     ap (λ o. o >>= λ n. octets_of (encode_lower octets) >>= λ os. Some (events.Bgp n os)) (from_one_told k h)
@@ -92,7 +93,7 @@ rules_told : (n : ℕ) → n < 2 ^ 32 → rules_of false (codes "any" ∷ codes 
 unfolding rules_of verdict_of setting_of
 rules_told n small = ap (λ o. (o >>= λ m. Some (Pref m)) >>= λ a. behind false Any (a ∷ []) (codes "accept" ∷ [])) (number_told n small)
 
-filter_told : (k n : ℕ) → IsCount k → n < 2 ^ 32 → event_of false (codes "filter" ∷ codes "in" ∷ decimal k ∷ codes "any" ∷ codes "pref" ∷ decimal n ∷ codes "accept" ∷ []) ≡ Some (events.FilterIn k (record { condition = Any; actions = Pref n ∷ []; verdict = Accept } ∷ []))
+filter_told : (k n : ℕ) → IsCount k → n < 2 ^ 32 → event_of plain (codes "filter" ∷ codes "in" ∷ decimal k ∷ codes "any" ∷ codes "pref" ∷ decimal n ∷ codes "accept" ∷ []) ≡ Some (events.FilterIn k (record { condition = Any; actions = Pref n ∷ []; verdict = Accept } ∷ []))
 unfolding event_of named_event filter_of filter_on
 filter_told k n h small =
     ap (λ o. o >>= λ m. rules_of false (codes "any" ∷ codes "pref" ∷ decimal n ∷ codes "accept" ∷ []) >>= λ rules. Some (events.FilterIn m rules)) (from_one_told k h)
@@ -106,13 +107,13 @@ interior_told : (n : ℕ) → n < 2 ^ 32 → interior_of Static (codes "direct" 
 unfolding interior_of way_out
 interior_told n small = ap (λ o. o >>= λ m. Some (host_row m)) (number_told n small)
 
-add_told : (p : Network) (n : ℕ) → IsPrefix p → n < 2 ^ 32 → event_of false (codes "route" ∷ codes "add" ∷ codes "static" ∷ prefix_text p ∷ codes "direct" ∷ codes "eth1" ∷ decimal n ∷ []) ≡ Some (events.RouteAdd p (host_row n))
+add_told : (p : Network) (n : ℕ) → IsPrefix p → n < 2 ^ 32 → event_of plain (codes "route" ∷ codes "add" ∷ codes "static" ∷ prefix_text p ∷ codes "direct" ∷ codes "eth1" ∷ decimal n ∷ []) ≡ Some (events.RouteAdd p (host_row n))
 unfolding event_of named_event plain_event interior_event route_of route_add_of proto_of
 add_told p n h small =
     ap (λ o. o >>= λ q. interior_of Static (codes "direct" ∷ codes "eth1" ∷ decimal n ∷ []) >>= λ row. Some (events.RouteAdd q row)) (prefix_told p h)
     ∙ ap (λ o. o >>= λ row. Some (events.RouteAdd p row)) (interior_told n small)
 
-del_told : (p : Network) → IsPrefix p → event_of false (codes "route" ∷ codes "del" ∷ codes "static" ∷ prefix_text p ∷ []) ≡ Some (events.RouteDel Static p)
+del_told : (p : Network) → IsPrefix p → event_of plain (codes "route" ∷ codes "del" ∷ codes "static" ∷ prefix_text p ∷ []) ≡ Some (events.RouteDel Static p)
 unfolding event_of named_event plain_event interior_event route_of route_del_of proto_of
 del_told p h = ap (λ o. o >>= λ q. Some (events.RouteDel Static q)) (prefix_told p h)
 
@@ -147,7 +148,7 @@ rib_told : task_of (codes "rd.rib") ≡ Some ReadRib
 unfolding task_from_parts task_of_two
 rib_told = refl
 
-work_told : (word : List ℕ) (task : Task) (n : ℕ) → task_of word ≡ Some task → n < 2 ^ 32 → event_of false (codes "work" ∷ word ∷ decimal n ∷ []) ≡ Some (events.Work task n)
+work_told : (word : List ℕ) (task : Task) (n : ℕ) → task_of word ≡ Some task → n < 2 ^ 32 → event_of plain (codes "work" ∷ word ∷ decimal n ∷ []) ≡ Some (events.Work task n)
 unfolding event_of named_event plain_event work_of
 work_told word task n told small =
     ap (λ o. o >>= λ t. number_of (decimal n) >>= λ m. Some (events.Work t m)) told
@@ -158,33 +159,33 @@ work_told word task n told small =
 plain_count : (k : ℕ) → IsCount k → IsPlain (decimal k)
 plain_count k h = plain_decimal k (omega (arith, h))
 
-pub up_read : (k : ℕ) → IsCount k → read_event false (join_with_byte 32 (codes "up" ∷ decimal k ∷ [])) ≡ Ok (events.Up k)
+pub up_read : (k : ℕ) → IsCount k → read_event plain (join_with_byte 32 (codes "up" ∷ decimal k ∷ [])) ≡ Ok (events.Up k)
 up_read k h = line_read (codes "up") (decimal k ∷ []) (plain_by (codes "up") refl, (plain_count k h, tt)) (omega arith) ∙ ap in_grammar (up_told k h)
 
-pub down_read : (k : ℕ) → IsCount k → read_event false (join_with_byte 32 (codes "down" ∷ decimal k ∷ [])) ≡ Ok (events.Down k)
+pub down_read : (k : ℕ) → IsCount k → read_event plain (join_with_byte 32 (codes "down" ∷ decimal k ∷ [])) ≡ Ok (events.Down k)
 down_read k h = line_read (codes "down") (decimal k ∷ []) (plain_by (codes "down") refl, (plain_count k h, tt)) (omega arith) ∙ ap in_grammar (down_told k h)
 
-pub idle_read : read_event false (join_with_byte 32 (codes "idle" ∷ [])) ≡ Ok events.Idle
+pub idle_read : read_event plain (join_with_byte 32 (codes "idle" ∷ [])) ≡ Ok events.Idle
 idle_read = line_read (codes "idle") [] (plain_by (codes "idle") refl, tt) (omega arith) ∙ ap in_grammar idle_told
 
-pub bgp_read : (k : ℕ) (octets : List ℕ) → IsCount k → AreOctets octets → 0 < length octets → length octets ≤ 100 → read_event false (join_with_byte 32 (codes "bgp" ∷ decimal k ∷ encode_lower octets ∷ [])) ≡ Ok (events.Bgp k octets)
+pub bgp_read : (k : ℕ) (octets : List ℕ) → IsCount k → AreOctets octets → 0 < length octets → length octets ≤ 100 → read_event plain (join_with_byte 32 (codes "bgp" ∷ decimal k ∷ encode_lower octets ∷ [])) ≡ Ok (events.Bgp k octets)
 bgp_read k octets h small some few =
     line_read (codes "bgp") (decimal k ∷ encode_lower octets ∷ []) (plain_by (codes "bgp") refl, (plain_count k h, (plain_hex octets small some few, tt))) (omega arith)
     ∙ ap in_grammar (bgp_told k octets h small some)
 
-pub filter_read : (k n : ℕ) → IsCount k → n < 2 ^ 32 → read_event false (join_with_byte 32 (codes "filter" ∷ codes "in" ∷ decimal k ∷ codes "any" ∷ codes "pref" ∷ decimal n ∷ codes "accept" ∷ [])) ≡ Ok (events.FilterIn k (record { condition = Any; actions = Pref n ∷ []; verdict = Accept } ∷ []))
+pub filter_read : (k n : ℕ) → IsCount k → n < 2 ^ 32 → read_event plain (join_with_byte 32 (codes "filter" ∷ codes "in" ∷ decimal k ∷ codes "any" ∷ codes "pref" ∷ decimal n ∷ codes "accept" ∷ [])) ≡ Ok (events.FilterIn k (record { condition = Any; actions = Pref n ∷ []; verdict = Accept } ∷ []))
 filter_read k n h small =
     line_read (codes "filter") (codes "in" ∷ decimal k ∷ codes "any" ∷ codes "pref" ∷ decimal n ∷ codes "accept" ∷ [])
     (plain_by (codes "filter") refl, (plain_by (codes "in") refl, (plain_count k h, (plain_by (codes "any") refl, (plain_by (codes "pref") refl, (plain_decimal n small, (plain_by (codes "accept") refl, tt))))))) (omega arith)
     ∙ ap in_grammar (filter_told k n h small)
 
-pub add_read : (p : Network) (n : ℕ) → IsPrefix p → n < 2 ^ 32 → read_event false (join_with_byte 32 (codes "route" ∷ codes "add" ∷ codes "static" ∷ prefix_text p ∷ codes "direct" ∷ codes "eth1" ∷ decimal n ∷ [])) ≡ Ok (events.RouteAdd p (host_row n))
+pub add_read : (p : Network) (n : ℕ) → IsPrefix p → n < 2 ^ 32 → read_event plain (join_with_byte 32 (codes "route" ∷ codes "add" ∷ codes "static" ∷ prefix_text p ∷ codes "direct" ∷ codes "eth1" ∷ decimal n ∷ [])) ≡ Ok (events.RouteAdd p (host_row n))
 add_read p n h small =
     line_read (codes "route") (codes "add" ∷ codes "static" ∷ prefix_text p ∷ codes "direct" ∷ codes "eth1" ∷ decimal n ∷ [])
     (plain_by (codes "route") refl, (plain_by (codes "add") refl, (plain_by (codes "static") refl, (plain_prefix p h, (plain_by (codes "direct") refl, (plain_by (codes "eth1") refl, (plain_decimal n small, tt))))))) (omega arith)
     ∙ ap in_grammar (add_told p n h small)
 
-pub del_read : (p : Network) → IsPrefix p → read_event false (join_with_byte 32 (codes "route" ∷ codes "del" ∷ codes "static" ∷ prefix_text p ∷ [])) ≡ Ok (events.RouteDel Static p)
+pub del_read : (p : Network) → IsPrefix p → read_event plain (join_with_byte 32 (codes "route" ∷ codes "del" ∷ codes "static" ∷ prefix_text p ∷ [])) ≡ Ok (events.RouteDel Static p)
 del_read p h =
     line_read (codes "route") (codes "del" ∷ codes "static" ∷ prefix_text p ∷ [])
     (plain_by (codes "route") refl, (plain_by (codes "del") refl, (plain_by (codes "static") refl, (plain_prefix p h, tt)))) (omega arith)
@@ -205,19 +206,19 @@ plain_out k h =
     let number = plain_count k h in
     record { ink = all_append IsInk (codes "out.") (decimal k) (ink_by (codes "out.") refl) number.ink; some = omega arith; short = omega (arith, octet_short k (omega (arith, h))) }
 
-work_read : (word : List ℕ) (task : Task) (n : ℕ) → IsPlain word → task_of word ≡ Some task → n < 2 ^ 32 → read_event false (join_with_byte 32 (codes "work" ∷ word ∷ decimal n ∷ [])) ≡ Ok (events.Work task n)
-work_read word task n plain told small =
-    line_read (codes "work") (word ∷ decimal n ∷ []) (plain_by (codes "work") refl, (plain, (plain_decimal n small, tt))) (omega arith)
+work_read : (word : List ℕ) (task : Task) (n : ℕ) → IsPlain word → task_of word ≡ Some task → n < 2 ^ 32 → read_event plain (join_with_byte 32 (codes "work" ∷ word ∷ decimal n ∷ [])) ≡ Ok (events.Work task n)
+work_read word task n shape told small =
+    line_read (codes "work") (word ∷ decimal n ∷ []) (plain_by (codes "work") refl, (shape, (plain_decimal n small, tt))) (omega arith)
     ∙ ap in_grammar (work_told word task n told small)
 
-pub fin_read : (k n : ℕ) → IsCount k → n < 2 ^ 32 → read_event false (join_with_byte 32 (codes "work" ∷ (codes "fin." ++ decimal k) ∷ decimal n ∷ [])) ≡ Ok (events.Work (Fin k) n)
+pub fin_read : (k n : ℕ) → IsCount k → n < 2 ^ 32 → read_event plain (join_with_byte 32 (codes "work" ∷ (codes "fin." ++ decimal k) ∷ decimal n ∷ [])) ≡ Ok (events.Work (Fin k) n)
 fin_read k n h small = work_read (codes "fin." ++ decimal k) (Fin k) n (plain_fin k h) (fin_told k h) small
 
-pub nh_read : (k n : ℕ) → IsCount k → n < 2 ^ 32 → read_event false (join_with_byte 32 (codes "work" ∷ (codes "nh." ++ decimal k) ∷ decimal n ∷ [])) ≡ Ok (events.Work (Nh k) n)
+pub nh_read : (k n : ℕ) → IsCount k → n < 2 ^ 32 → read_event plain (join_with_byte 32 (codes "work" ∷ (codes "nh." ++ decimal k) ∷ decimal n ∷ [])) ≡ Ok (events.Work (Nh k) n)
 nh_read k n h small = work_read (codes "nh." ++ decimal k) (Nh k) n (plain_nh k h) (nh_told k h) small
 
-pub out_read : (k n : ℕ) → IsCount k → n < 2 ^ 32 → read_event false (join_with_byte 32 (codes "work" ∷ (codes "out." ++ decimal k) ∷ decimal n ∷ [])) ≡ Ok (events.Work (Out k) n)
+pub out_read : (k n : ℕ) → IsCount k → n < 2 ^ 32 → read_event plain (join_with_byte 32 (codes "work" ∷ (codes "out." ++ decimal k) ∷ decimal n ∷ [])) ≡ Ok (events.Work (Out k) n)
 out_read k n h small = work_read (codes "out." ++ decimal k) (Out k) n (plain_out k h) (out_told k h) small
 
-pub rib_read : (n : ℕ) → n < 2 ^ 32 → read_event false (join_with_byte 32 (codes "work" ∷ codes "rd.rib" ∷ decimal n ∷ [])) ≡ Ok (events.Work ReadRib n)
+pub rib_read : (n : ℕ) → n < 2 ^ 32 → read_event plain (join_with_byte 32 (codes "work" ∷ codes "rd.rib" ∷ decimal n ∷ [])) ≡ Ok (events.Work ReadRib n)
 rib_read n small = work_read (codes "rd.rib") ReadRib n (plain_by (codes "rd.rib") refl) rib_told small

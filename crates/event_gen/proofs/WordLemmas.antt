@@ -16,6 +16,7 @@ use Rattle.journal_check.proofs.InkLemmas.{AreInk, inky, both_true, ink_by, ink_
 use Rattle.journal_check.proofs.PrefixBack.{ink_prefix}
 use Rattle.event_text.specs.Words.{is_clean}
 use Rattle.event_text.specs.Events.{event_of, in_grammar, read_event}
+use Rattle.event_text.specs.Declarations.{plain}
 use Rattle.event_gen.proofs.OctetLemmas.{AreOctets}
 
 -- printed bytes, at least one, and not many
@@ -24,11 +25,11 @@ pub record IsPlain (word : List ℕ) : Type 0 where
   pub some : 0 < length word
   pub short : length word ≤ 200
 
-abbrev pub plain : List ℕ → Bool
-plain word = list_all inky word && (nat_lt 0 (length word) && nat_le (length word) 200)
+abbrev pub is_plain : List ℕ → Bool
+is_plain word = list_all inky word && (nat_lt 0 (length word) && nat_le (length word) 200)
 
 -- by a test, as of a word that is written out
-pub plain_by : (word : List ℕ) → plain word ≡ true → IsPlain word
+pub plain_by : (word : List ℕ) → is_plain word ≡ true → IsPlain word
 plain_by word e =
     let t = both_true (list_all inky word) (nat_lt 0 (length word) && nat_le (length word) 200) e in
     let u = both_true (nat_lt 0 (length word)) (nat_le (length word) 200) t.1 in
@@ -106,9 +107,9 @@ clean w ws h few =
     clean_by (nat_le (length line) 16384) (list_all printable line) short (line_passes w ws (inks (w ∷ ws) h))
 
 -- a line is read as its words are
-pub line_read : (w : List ℕ) (ws : List (List ℕ)) → AllByRecursion IsPlain (w ∷ ws) → length (w ∷ ws) ≤ 10 → read_event false (join_with_byte 32 (w ∷ ws)) ≡ in_grammar (event_of false (w ∷ ws))
+pub line_read : (w : List ℕ) (ws : List (List ℕ)) → AllByRecursion IsPlain (w ∷ ws) → length (w ∷ ws) ≤ 10 → read_event plain (join_with_byte 32 (w ∷ ws)) ≡ in_grammar (event_of plain (w ∷ ws))
 unfolding read_event words
 line_read w ws h few =
     let line = join_with_byte 32 (w ∷ ws) in
-    ap (λ b. cond b (in_grammar (event_of false (words line))) (Err E1)) (clean w ws h few)
-    ∙ ap (λ l. in_grammar (event_of false l)) (ap words_among (words_parted w ws (inks (w ∷ ws) h)) ∙ all_words (w ∷ ws) h)
+    ap (λ b. cond b (in_grammar (event_of plain (words line))) (Err E1)) (clean w ws h few)
+    ∙ ap (λ l. in_grammar (event_of plain l)) (ap words_among (words_parted w ws (inks (w ∷ ws) h)) ∙ all_words (w ∷ ws) h)

@@ -42,6 +42,7 @@ announced k origin med = record {
   local_pref = None;
   atomic = false;
   aggregator = None;
+  reflection = record { originator = None; clusters = [] };
   unrecognized = [];
 }
 

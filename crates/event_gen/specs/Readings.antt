@@ -9,6 +9,7 @@ use Rattle.policy_rules.specs.declared.rule.Verdict.TheVariants.{Accept}
 use Rattle.event_text.specs.declared.event.Event.{Event}
 use Rattle.event_text.specs.declared.event.Event.TheVariants as events
 use Rattle.event_text.specs.Events.{read_event}
+use Rattle.event_text.specs.Declarations.{plain}
 use Rattle.event_gen.specs.Events.{events_from}
 use Rattle.event_gen.specs.Lines.{peer_addr, announce_octets, withdraw_octets, host, lines}
 use Rattle.event_gen.specs.declared.drawn.Work.{Work}
@@ -35,9 +36,9 @@ meant (drawn.DeleteHost k) = events.RouteDel Static (host k)
 meant (drawn.Work task n) = events.Work (task_meant task) n
 meant drawn.Idle = events.Idle
 
--- a peer's declaration: its AS, and 192.0.2.K as its identifier and address
+-- a peer's declaration: its AS, and 192.0.2.K as its identifier and address; it is no client
 abbrev pub declared : ℕ → ℕ → Event
-declared k asn = events.Peer k (record { asn = asn; id = peer_addr k; addr = peer_addr k })
+declared k asn = events.Peer k (record { asn = asn; id = peer_addr k; addr = peer_addr k }) false
 
 -- the events of the opening
 abbrev pub opening_events : List Event
@@ -51,10 +52,10 @@ opening_events =
 abbrev pub meanings : ℕ → ℕ → List Event
 meanings seed n = opening_events ++ map meant (events_from n seed ++ drawn.Idle ∷ [])
 
--- each line is read as its event, where AS numbers have two octets
+-- each line is read as its event, in a file without the lines that hold for the whole file
 abbrev pub AreReadAs : List (List ℕ) → List Event → Type 0
 AreReadAs [] [] = Unit {0}
-AreReadAs (line ∷ ls) (event ∷ es) = (read_event false line ≡ Ok event) × AreReadAs ls es
+AreReadAs (line ∷ ls) (event ∷ es) = (read_event plain line ≡ Ok event) × AreReadAs ls es
 AreReadAs ls es = ⊥
 
 -- Each line of a seed is read as the event that it is, whatever was drawn.

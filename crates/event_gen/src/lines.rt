@@ -9,7 +9,7 @@ ghost use Rattle.event_gen.specs.Lines.{block, peer_addr, path_as, announced, an
 
 use crate::drawn::{Drawn, Work};
 use addr4::{Addr, Memory, Prefix, push_hex, push_number, push_prefix};
-use bgp_attr::{AsPath, Attrs, Origin, Profile, UnrecognizedAttrs};
+use bgp_attr::{AsPath, Attrs, Origin, Profile, Reflection, UnrecognizedAttrs};
 use bgp_wire::{write_announcement, write_withdrawal};
 use std::alloc::Global;
 
@@ -17,6 +17,7 @@ use std::alloc::Global;
 const PROFILE: Profile = Profile {
     as4: false,
     revised: false,
+    reflect: false,
 };
 
 /// 10.0.0.0
@@ -75,7 +76,8 @@ fn announced(alloc: Global, peer: u8, origin: Origin, med: u8) -> Result<Attrs, 
         local_pref: None,
         atomic: false,
         aggregator: None,
-        unrecognized: UnrecognizedAttrs::new(alloc),
+        reflection: Reflection::none(),
+        unrecognized: UnrecognizedAttrs::none(),
     })
 }
 

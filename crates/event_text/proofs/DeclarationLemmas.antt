@@ -10,24 +10,24 @@ use Rattle.event_text.specs.WellFormed.{IsWellFormed}
 use Rattle.event_text.specs.Declarations.{Declaration, peer_at, has_addr, refusal, words_of, with_profile, with_speaker, with_peer, with_session, without_session, begun_at, ended_at, IsPeerOf, ArePeersOf, HaveOwnAddrs, AreDeclared, IsDeclaredBy, IsDeclaration}
 use Rattle.event_text.proofs.Sessions.{Addable, addable_by, counted_push, KeepsWords, begun_words, ended_words, counted_begun, counted_ended}
 
--- ---- `as4` and `revised`
+-- ---- `as4`, `revised` and `reflect`
 pub profile_kept : (d : Declaration) (profile : Profile) → IsDeclaration d → d.speaker ≡ None → IsDeclaration (with_profile d profile)
 profile_kept d profile declared none =
-    subst (λ o. IsDeclaredBy profile.as4 o d.peers) (sym none) (subst (λ o. IsDeclaredBy d.profile.as4 o d.peers) none declared)
+    subst (λ o. IsDeclaredBy profile o d.peers) (sym none) (subst (λ o. IsDeclaredBy d.profile o d.peers) none declared)
 
 -- ---- `local`
 pub speaker_kept : (d : Declaration) (s : Speaker) → IsDeclaration d → refusal d (events.Local s) ≡ None → IsSpeaker d.profile.as4 s → IsDeclaration (with_speaker d s)
 unfolding refusal
 speaker_kept d s declared refused ok = by_speaker d.speaker d.peers declared refused
   where
-    by_speaker : (o : Option Speaker) (peers : List DeclaredPeer) → IsDeclaredBy d.profile.as4 o peers → refusal (record { profile = d.profile; speaker = o; peers = peers }) (events.Local s) ≡ None → AreDeclared d.profile.as4 s peers
-    by_speaker None peers none refused = subst (AreDeclared d.profile.as4 s) (sym none) (record { speaker = ok; each = tt; counted = tt; addrs = tt })
+    by_speaker : (o : Option Speaker) (peers : List DeclaredPeer) → IsDeclaredBy d.profile o peers → refusal (record { profile = d.profile; speaker = o; peers = peers }) (events.Local s) ≡ None → AreDeclared d.profile s peers
+    by_speaker None peers none refused = subst (AreDeclared d.profile s) (sym none) (record { speaker = ok; each = tt; counted = tt; addrs = tt })
     by_speaker (Some local) peers declared refused = absurd (cc)
 
 -- ---- `peer`
-peers_push : (as4 : Bool) (local : Speaker) (ps : List DeclaredPeer) (q : DeclaredPeer) → ArePeersOf as4 local ps → IsPeerOf as4 local q → ArePeersOf as4 local (ps ++ q ∷ [])
-peers_push as4 local [] q each here = (here, tt)
-peers_push as4 local (p ∷ ps) q each here = (each.0, peers_push as4 local ps q each.1 here)
+peers_push : (profile : Profile) (local : Speaker) (ps : List DeclaredPeer) (q : DeclaredPeer) → ArePeersOf profile local ps → IsPeerOf profile local q → ArePeersOf profile local (ps ++ q ∷ [])
+peers_push profile local [] q each here = (here, tt)
+peers_push profile local (p ∷ ps) q each here = (each.0, peers_push profile local ps q each.1 here)
 
 or_false : (a b : Bool) → (a || b) ≡ false → (a ≡ false) × (b ≡ false)
 or_false true b e = absurd (cc)
@@ -48,33 +48,40 @@ addrs_push (p ∷ ps) q own none =
     let o = or_false (nat_eq p.words.addr q.words.addr) (has_addr q.words.addr ps) none in
     (addr_push p.words.addr ps q own.0 (other_way p.words.addr q.words.addr o.0), addrs_push ps q own.1 o.1)
 
-peer_added : (as4 : Bool) (local : Speaker) (peers : List DeclaredPeer) (k : ℕ) (s : Speaker) → AreDeclared as4 local peers → Addable local peers k s → 0 < k → IsSpeaker as4 s → AreDeclared as4 local (peers ++ record { words = words_of (Some local) k s; session = 0; up = false } ∷ [])
-peer_added as4 local peers k s declared a least ok =
-    let q : DeclaredPeer = record { words = words_of (Some local) k s; session = 0; up = false } in
-    let words : IsNeighbourOf as4 local q.words = record { neighbour = record { least = least; most = a.few; speaker = ok }; internal = refl; foreign = a.foreign } in
+peer_added : (profile : Profile) (local : Speaker) (peers : List DeclaredPeer) (k : ℕ) (s : Speaker) (client : Bool) → AreDeclared profile local peers → Addable local peers k s client → IsWellFormed profile (events.Peer k s client) → AreDeclared profile local (peers ++ record { words = words_of (Some local) k s client; session = 0; up = false } ∷ [])
+peer_added profile local peers k s client declared a ok =
+    let q : DeclaredPeer = record { words = words_of (Some local) k s client; session = 0; up = false } in
+    let words : IsNeighbourOf profile local q.words =
+    record {
+      neighbour = record { least = ok.0.least; most = a.few; speaker = ok.1 };
+      internal = refl;
+      client = a.own;
+      reflected = ok.2;
+      foreign = a.foreign;
+    } in
     record {
       speaker = declared.speaker;
-      each = peers_push as4 local peers q declared.each (record { words = words; begun = λ up. absurd (cc) });
+      each = peers_push profile local peers q declared.each (record { words = words; begun = λ up. absurd (cc) });
       counted = counted_push peers q declared.counted a.absent (omega arith);
       addrs = addrs_push peers q declared.addrs a.new;
     }
 
-pub peer_kept : (d : Declaration) (k : ℕ) (s : Speaker) → IsDeclaration d → refusal d (events.Peer k s) ≡ None → IsWellFormed d.profile.as4 (events.Peer k s) → IsDeclaration (with_peer d k s)
+pub peer_kept : (d : Declaration) (k : ℕ) (s : Speaker) (client : Bool) → IsDeclaration d → refusal d (events.Peer k s client) ≡ None → IsWellFormed d.profile (events.Peer k s client) → IsDeclaration (with_peer d k s client)
 unfolding refusal
-peer_kept d k s declared refused ok = by_speaker d.speaker d.peers declared refused
+peer_kept d k s client declared refused ok = by_speaker d.speaker d.peers declared refused
   where
-    by_speaker : (o : Option Speaker) (peers : List DeclaredPeer) → IsDeclaredBy d.profile.as4 o peers → refusal (record { profile = d.profile; speaker = o; peers = peers }) (events.Peer k s) ≡ None → IsDeclaredBy d.profile.as4 o (peers ++ record { words = words_of o k s; session = 0; up = false } ∷ [])
+    by_speaker : (o : Option Speaker) (peers : List DeclaredPeer) → IsDeclaredBy d.profile o peers → refusal (record { profile = d.profile; speaker = o; peers = peers }) (events.Peer k s client) ≡ None → IsDeclaredBy d.profile o (peers ++ record { words = words_of o k s client; session = 0; up = false } ∷ [])
     by_speaker None peers declared refused = absurd (cc)
-    by_speaker (Some local) peers declared refused = peer_added d.profile.as4 local peers k s declared (addable_by local peers k s refused) ok.0.least ok.1
+    by_speaker (Some local) peers declared refused = peer_added d.profile local peers k s client declared (addable_by local peers k s client refused) ok
 
 -- ---- `up` and `down`
 KeepsBegun : (DeclaredPeer → DeclaredPeer) → Type 0
 KeepsBegun f = (p : DeclaredPeer) → (p.up ≡ true → 0 < p.session) → (f p).up ≡ true → 0 < (f p).session
 
-peers_map : (f : DeclaredPeer → DeclaredPeer) → KeepsWords f → KeepsBegun f → (as4 : Bool) (local : Speaker) (ps : List DeclaredPeer) → ArePeersOf as4 local ps → ArePeersOf as4 local (map f ps)
+peers_map : (f : DeclaredPeer → DeclaredPeer) → KeepsWords f → KeepsBegun f → (profile : Profile) (local : Speaker) (ps : List DeclaredPeer) → ArePeersOf profile local ps → ArePeersOf profile local (map f ps)
 unfolding KeepsBegun
-peers_map f keeps begun as4 local [] each = tt
-peers_map f keeps begun as4 local (p ∷ ps) each = (record { words = subst (IsNeighbourOf as4 local) (sym (keeps p)) each.0.words; begun = begun p each.0.begun }, peers_map f keeps begun as4 local ps each.1)
+peers_map f keeps begun profile local [] each = tt
+peers_map f keeps begun profile local (p ∷ ps) each = (record { words = subst (IsNeighbourOf profile local) (sym (keeps p)) each.0.words; begun = begun p each.0.begun }, peers_map f keeps begun profile local ps each.1)
 
 addr_map : (f : DeclaredPeer → DeclaredPeer) → KeepsWords f → (a : ℕ) (ps : List DeclaredPeer) → has_addr a (map f ps) ≡ has_addr a ps
 addr_map f keeps a [] = refl
@@ -103,12 +110,12 @@ ended_begun k p h = by_test (nat_eq p.words.number k)
 pub session_kept : (d : Declaration) (k : ℕ) → IsDeclaration d → refusal d (events.Up k) ≡ None → IsDeclaration (with_session d k)
 session_kept d k declared refused = by_speaker d.speaker d.peers declared refused
   where
-    by_speaker : (o : Option Speaker) (peers : List DeclaredPeer) → IsDeclaredBy d.profile.as4 o peers → refusal (record { profile = d.profile; speaker = o; peers = peers }) (events.Up k) ≡ None → IsDeclaredBy d.profile.as4 o (map (begun_at k) peers)
+    by_speaker : (o : Option Speaker) (peers : List DeclaredPeer) → IsDeclaredBy d.profile o peers → refusal (record { profile = d.profile; speaker = o; peers = peers }) (events.Up k) ≡ None → IsDeclaredBy d.profile o (map (begun_at k) peers)
     by_speaker None peers none refused = ap (map (begun_at k)) none
     by_speaker (Some local) peers declared refused =
         record {
           speaker = declared.speaker;
-          each = peers_map (begun_at k) (begun_words k) (begun_begun k) d.profile.as4 local peers declared.each;
+          each = peers_map (begun_at k) (begun_words k) (begun_begun k) d.profile local peers declared.each;
           counted = counted_begun d.profile (Some local) peers k declared.counted refused;
           addrs = addrs_map (begun_at k) (begun_words k) peers declared.addrs;
         }
@@ -116,12 +123,12 @@ session_kept d k declared refused = by_speaker d.speaker d.peers declared refuse
 pub end_kept : (d : Declaration) (k : ℕ) → IsDeclaration d → IsDeclaration (without_session d k)
 end_kept d k declared = by_speaker d.speaker d.peers declared
   where
-    by_speaker : (o : Option Speaker) (peers : List DeclaredPeer) → IsDeclaredBy d.profile.as4 o peers → IsDeclaredBy d.profile.as4 o (map (ended_at k) peers)
+    by_speaker : (o : Option Speaker) (peers : List DeclaredPeer) → IsDeclaredBy d.profile o peers → IsDeclaredBy d.profile o (map (ended_at k) peers)
     by_speaker None peers none = ap (map (ended_at k)) none
     by_speaker (Some local) peers declared =
         record {
           speaker = declared.speaker;
-          each = peers_map (ended_at k) (ended_words k) (ended_begun k) d.profile.as4 local peers declared.each;
+          each = peers_map (ended_at k) (ended_words k) (ended_begun k) d.profile local peers declared.each;
           counted = counted_ended peers k declared.counted;
           addrs = addrs_map (ended_at k) (ended_words k) peers declared.addrs;
         }
@@ -136,6 +143,6 @@ found_by true q p k rest P e here holds later =
     subst (λ x. P x × (x.words.number ≡ k)) (some_is q p here) (holds, number)
 found_by false q p k rest P e there holds later = later there
 
-pub found_peer : (as4 : Bool) (local : Speaker) (ps : List DeclaredPeer) (k : ℕ) (p : DeclaredPeer) → ArePeersOf as4 local ps → peer_at k ps ≡ Some p → IsPeerOf as4 local p × (p.words.number ≡ k)
-found_peer as4 local [] k p each found = absurd (cc)
-found_peer as4 local (q ∷ ps) k p each found = found_by (nat_eq q.words.number k) q p k (peer_at k ps) (IsPeerOf as4 local) refl found each.0 (λ there. found_peer as4 local ps k p each.1 there)
+pub found_peer : (profile : Profile) (local : Speaker) (ps : List DeclaredPeer) (k : ℕ) (p : DeclaredPeer) → ArePeersOf profile local ps → peer_at k ps ≡ Some p → IsPeerOf profile local p × (p.words.number ≡ k)
+found_peer profile local [] k p each found = absurd (cc)
+found_peer profile local (q ∷ ps) k p each found = found_by (nat_eq q.words.number k) q p k (peer_at k ps) (IsPeerOf profile local) refl found each.0 (λ there. found_peer profile local ps k p each.1 there)

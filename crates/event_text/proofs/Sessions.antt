@@ -5,7 +5,7 @@ use Rattle.std.proofs.lemmas.Bool.Decides.{nat_tests}
 use Rattle.std.specs.List.{All}
 use Rattle.bgp_attr.specs.declared.speaker.Speaker.{Speaker}
 use Rattle.bgp_attr.specs.declared.speaker.Profile.{Profile}
-use Rattle.journal_text.specs.declared.line.Code.TheVariants.{E3, E6}
+use Rattle.journal_text.specs.declared.line.Code.TheVariants.{E3, E6, E8}
 use Rattle.event_text.specs.declared.event.Event.TheVariants as events
 use Rattle.event_text.specs.declared.declared.DeclaredPeer.{DeclaredPeer}
 use Rattle.event_text.specs.Declarations.{peer_at, has_addr, is_taken, refusal, refusal_by, IsCounted, begun_at, ended_at, session_refusal}
@@ -16,10 +16,16 @@ All-from_counted (p ∷ ps) counted zero d below = counted.0
 All-from_counted (p ∷ ps) counted (suc k) d below = All-from_counted ps counted.2 k d (omega (arith, below))
 
 -- ---- one more peer
-two_tests : (a b : Bool) → cond a (Some E3) (cond b None (Some E6)) ≡ None → (a ≡ false) × (b ≡ true)
-two_tests true b e = absurd (cc)
-two_tests false true e = (refl, refl)
-two_tests false false e = absurd (cc)
+three_tests : (a b c : Bool) → cond a (Some E3) (cond b (Some E8) (cond c None (Some E6))) ≡ None → (a ≡ false) × (b ≡ false) × (c ≡ true)
+three_tests true b c e = absurd (cc)
+three_tests false true c e = absurd (cc)
+three_tests false false true e = (refl, refl, refl)
+three_tests false false false e = absurd (cc)
+
+of_own : (client own : Bool) → (client && not own) ≡ false → client ≡ true → own ≡ true
+of_own client true e is = refl
+of_own true false e is = absurd (cc)
+of_own false false e is = absurd (cc)
 
 left_false : (a b : Bool) → (a || b) ≡ false → a ≡ false
 left_false true b e = absurd (cc)
@@ -34,27 +40,29 @@ none_there None e = refl
 none_there (Some p) e = absurd (cc)
 
 -- what it takes that a peer is declared
-pub record Addable (local : Speaker) (peers : List DeclaredPeer) (k : ℕ) (words : Speaker) : Type 0 where
+pub record Addable (local : Speaker) (peers : List DeclaredPeer) (k : ℕ) (words : Speaker) (client : Bool) : Type 0 where
   pub few : k ≤ 64
   pub absent : peer_at k peers ≡ None
   pub new : has_addr words.addr peers ≡ false
   pub foreign : nat_eq local.addr words.addr ≡ false
+  pub own : client ≡ true → nat_eq local.asn words.asn ≡ true
 
-pub addable_by : (local : Speaker) (peers : List DeclaredPeer) (k : ℕ) (words : Speaker) → refusal_by local peers (events.Peer k words) ≡ None → Addable local peers k words
-addable_by local peers k words e =
-    let t = two_tests (is_taken local peers k words) (nat_le k 64) e in
+pub addable_by : (local : Speaker) (peers : List DeclaredPeer) (k : ℕ) (words : Speaker) (client : Bool) → refusal_by local peers (events.Peer k words client) ≡ None → Addable local peers k words client
+addable_by local peers k words client e =
+    let t = three_tests (is_taken local peers k words) (client && not (nat_eq local.asn words.asn)) (nat_le k 64) e in
     let rest = right_false (not (is_none (peer_at k peers))) (has_addr words.addr peers || nat_eq local.addr words.addr) t.0 in
     record {
       few = grind (arith, nat_tests);
       absent = none_there _ (left_false _ _ t.0);
       new = left_false _ _ rest;
       foreign = right_false _ _ rest;
+      own = of_own client (nat_eq local.asn words.asn) t.1;
     }
 
-pub addable : (profile : Profile) (speaker : Option Speaker) (peers : List DeclaredPeer) (k : ℕ) (words : Speaker) → refusal (record { profile = profile; speaker = speaker; peers = peers }) (events.Peer k words) ≡ None → (k ≤ 64) × (peer_at k peers ≡ None)
+pub addable : (profile : Profile) (speaker : Option Speaker) (peers : List DeclaredPeer) (k : ℕ) (words : Speaker) (client : Bool) → refusal (record { profile = profile; speaker = speaker; peers = peers }) (events.Peer k words client) ≡ None → (k ≤ 64) × (peer_at k peers ≡ None)
 unfolding refusal
-addable profile None peers k words e = absurd (cc)
-addable profile (Some local) peers k words e = let a = addable_by local peers k words e in (a.few, a.absent)
+addable profile None peers k words client e = absurd (cc)
+addable profile (Some local) peers k words client e = let a = addable_by local peers k words client e in (a.few, a.absent)
 
 pub missed : (b : Bool) (p : DeclaredPeer) (o : Option DeclaredPeer) → cond b (Some p) o ≡ None → (b ≡ false) × (o ≡ None)
 missed true p o e = absurd (cc)

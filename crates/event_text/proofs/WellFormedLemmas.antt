@@ -1,5 +1,5 @@
 -- Each event that is read is well-formed.
-use Rattle.std.proofs.Common.{◌≡◌, ℕ, ◌^◌, ◌<◌, Bool, true, false, not, ◌||◌, List, [], ◌∷◌, length, Option, Some, None, Result, Ok, Err, cond, nat_eq, refl, subst, arith, IfSome, codes}
+use Rattle.std.proofs.Common.{◌≡◌, ℕ, ◌^◌, ◌<◌, Bool, true, false, not, ◌&&◌, ◌||◌, List, [], ◌∷◌, length, Option, Some, None, Result, Ok, Err, cond, nat_eq, refl, subst, arith, IfSome, codes}
 use Rattle.std.proofs.lemmas.Bool.Decides.{nat_tests}
 use Rattle.std.proofs.lemmas.List.{get_or_default}
 use Rattle.std.specs.List.{All, starts_with}
@@ -22,8 +22,9 @@ use Rattle.policy_rules.specs.Grammar.{rules_of}
 use Rattle.policy_rules.proofs.RangeLemmas.{and_then, either, below, addr_fits, prefix_ok, rules_ok}
 use Rattle.addr4.specs.Prefixes.{Network, IsMasked}
 use Rattle.bgp_attr.specs.Hosts.{is_host}
-use Rattle.bgp_attr.specs.Speakers.{IsSpeaker, asn_bound}
-use Rattle.event_text.specs.Words.{from_one, speaker_of, octets_of, way_out, way_over, interior_of, switch_of}
+use Rattle.bgp_attr.specs.Speakers.{IsSpeaker, MayBeClient, asn_bound}
+use Rattle.bgp_attr.specs.declared.speaker.Profile.{Profile}
+use Rattle.event_text.specs.Words.{from_one, speaker_by, speaker_of, client_of, octets_of, way_out, way_over, interior_of, switch_of}
 use Rattle.event_text.specs.Events.{local_of, peer_of, one_number, bgp_of, filter_on, filter_of, route_add_of, route_del_of, route_of, lost_of, redist_of, cover_of, profile_event, interior_event, work_of, ask_of, show_of, settled_of, plain_event, named_event, event_of}
 use Rattle.event_text.specs.WellFormed.{IsNumber, IsMessage, IsPrefix, IsGateway, IsInterior, IsTask, IsWellFormed}
 
@@ -45,17 +46,31 @@ speaker_told as4 a i h fa fi fh false false false ea ei eh = tt
 speaker_told as4 a i h fa fi fh false false true ea ei eh =
     record { asn_least = grind (arith, nat_tests); asn_most = fa; id_least = grind (arith, nat_tests); id_fits = fi; host = eh; addr_fits = fh }
 
-pub speaker_ok : (as4 : Bool) (ws : List (List ℕ)) → IfSome (speaker_of as4 ws) (IsSpeaker as4)
-unfolding speaker_of
-speaker_ok as4 [] = tt
-speaker_ok as4 (asn ∷ []) = tt
-speaker_ok as4 (asn ∷ id ∷ []) = tt
-speaker_ok as4 (asn ∷ id ∷ addr ∷ []) =
+speaker_by_ok : (as4 : Bool) (asn id addr : List ℕ) → IfSome (speaker_by as4 asn id addr) (IsSpeaker as4)
+unfolding speaker_by
+speaker_by_ok as4 asn id addr =
     and_then (number_below (asn_bound as4) asn) _ (λ n. n < asn_bound as4) (IsSpeaker as4) (below (asn_bound as4) asn) (λ a fa.
     and_then (addr_of id) _ (λ n. n < 2 ^ 32) (IsSpeaker as4) (addr_fits id) (λ i fi.
     and_then (addr_of addr) _ (λ n. n < 2 ^ 32) (IsSpeaker as4) (addr_fits addr) (λ h fh.
     speaker_told as4 a i h fa fi fh (nat_eq a 0) (nat_eq i 0) (is_host h) refl refl refl)))
+
+speaker_ok : (as4 : Bool) (ws : List (List ℕ)) → IfSome (speaker_of as4 ws) (IsSpeaker as4)
+unfolding speaker_of
+speaker_ok as4 [] = tt
+speaker_ok as4 (asn ∷ []) = tt
+speaker_ok as4 (asn ∷ id ∷ []) = tt
+speaker_ok as4 (asn ∷ id ∷ addr ∷ []) = speaker_by_ok as4 asn id addr
 speaker_ok as4 (asn ∷ id ∷ addr ∷ x ∷ more) = tt
+
+both_true : (a b : Bool) → (a && b) ≡ true → a ≡ true
+both_true true b e = refl
+both_true false b e = absurd (cc)
+
+client_ok : (p : Profile) (ws : List (List ℕ)) → IfSome (client_of p ws) (MayBeClient p)
+unfolding client_of
+client_ok p [] = λ client. absurd (cc)
+client_ok p (word ∷ []) = told (p.reflect && bytes_eq word (codes "client")) (Some true) None (MayBeClient p) (λ e _. both_true _ _ e) (λ _. tt)
+client_ok p (word ∷ x ∷ more) = tt
 
 decoded : (digits : List ℕ) (r : Result (List ℕ) FromHexError) → decode_of digits ≡ r → IfSome (result_ok r) (λ bytes. All (λ b. b < 256) bytes)
 decoded digits (Err e) is = tt
@@ -154,15 +169,21 @@ task_ok : (word : List ℕ) → IfSome (task_of word) IsTask
 task_ok word = task_parts_ok (parts 46 word)
 
 -- ---- lines
-module _ (as4 : Bool) where
-  local_ok : (ws : List (List ℕ)) → IfSome (local_of as4 ws) (IsWellFormed as4)
+module _ (profile : Profile) where
+  local_ok : (ws : List (List ℕ)) → IfSome (local_of profile.as4 ws) (IsWellFormed profile)
   unfolding local_of
-  local_ok ws = and_then (speaker_of as4 ws) _ (IsSpeaker as4) (IsWellFormed as4) (speaker_ok as4 ws) (λ s h. h)
+  local_ok ws = and_then (speaker_of profile.as4 ws) _ (IsSpeaker profile.as4) (IsWellFormed profile) (speaker_ok profile.as4 ws) (λ s h. h)
 
-  peer_ok : (ws : List (List ℕ)) → IfSome (peer_of as4 ws) (IsWellFormed as4)
+  peer_ok : (ws : List (List ℕ)) → IfSome (peer_of profile ws) (IsWellFormed profile)
   unfolding peer_of
   peer_ok [] = tt
-  peer_ok (k ∷ ws) = and_then (from_one k) _ IsNumber (IsWellFormed as4) (from_one_ok k) (λ n hn. and_then (speaker_of as4 ws) _ (IsSpeaker as4) (IsWellFormed as4) (speaker_ok as4 ws) (λ s hs. (hn, hs)))
+  peer_ok (k ∷ []) = tt
+  peer_ok (k ∷ asn ∷ []) = tt
+  peer_ok (k ∷ asn ∷ id ∷ []) = tt
+  peer_ok (k ∷ asn ∷ id ∷ addr ∷ ws) =
+      and_then (from_one k) _ IsNumber (IsWellFormed profile) (from_one_ok k) (λ n hn.
+      and_then (speaker_by profile.as4 asn id addr) _ (IsSpeaker profile.as4) (IsWellFormed profile) (speaker_by_ok profile.as4 asn id addr) (λ s hs.
+      and_then (client_of profile ws) _ (MayBeClient profile) (IsWellFormed profile) (client_ok profile ws) (λ client hc. (hn, hs, hc))))
 
   one_number_ok : (ws : List (List ℕ)) → IfSome (one_number ws) IsNumber
   unfolding one_number
@@ -170,134 +191,135 @@ module _ (as4 : Bool) where
   one_number_ok (k ∷ []) = from_one_ok k
   one_number_ok (k ∷ x ∷ more) = tt
 
-  bgp_ok : (ws : List (List ℕ)) → IfSome (bgp_of ws) (IsWellFormed as4)
+  bgp_ok : (ws : List (List ℕ)) → IfSome (bgp_of ws) (IsWellFormed profile)
   unfolding bgp_of
   bgp_ok [] = tt
   bgp_ok (k ∷ []) = tt
-  bgp_ok (k ∷ digits ∷ []) = and_then (from_one k) _ IsNumber (IsWellFormed as4) (from_one_ok k) (λ n hn. and_then (octets_of digits) _ IsMessage (IsWellFormed as4) (octets_ok digits) (λ octets ho. (hn, ho)))
+  bgp_ok (k ∷ digits ∷ []) = and_then (from_one k) _ IsNumber (IsWellFormed profile) (from_one_ok k) (λ n hn. and_then (octets_of digits) _ IsMessage (IsWellFormed profile) (octets_ok digits) (λ octets ho. (hn, ho)))
   bgp_ok (k ∷ digits ∷ x ∷ more) = tt
 
-  filter_on_ok : (side : List ℕ) (k : ℕ) (rules : List Rule) → IsNumber k → AreRules as4 rules → IfSome (filter_on side k rules) (IsWellFormed as4)
+  filter_on_ok : (side : List ℕ) (k : ℕ) (rules : List Rule) → IsNumber k → AreRules profile.as4 rules → IfSome (filter_on side k rules) (IsWellFormed profile)
   unfolding filter_on
   filter_on_ok side k rules hk hr =
-      either (bytes_eq side (codes "in")) (Some (events.FilterIn k rules)) _ (IsWellFormed as4) (hk, hr)
-      (either (bytes_eq side (codes "out")) (Some (events.FilterOut k rules)) None (IsWellFormed as4) (hk, hr) tt)
+      either (bytes_eq side (codes "in")) (Some (events.FilterIn k rules)) _ (IsWellFormed profile) (hk, hr)
+      (either (bytes_eq side (codes "out")) (Some (events.FilterOut k rules)) None (IsWellFormed profile) (hk, hr) tt)
 
-  filter_ok : (ws : List (List ℕ)) → IfSome (filter_of as4 ws) (IsWellFormed as4)
+  filter_ok : (ws : List (List ℕ)) → IfSome (filter_of profile.as4 ws) (IsWellFormed profile)
   unfolding filter_of
   filter_ok [] = tt
   filter_ok (side ∷ []) = tt
   filter_ok (side ∷ k ∷ ws) =
-      and_then (from_one k) _ IsNumber (IsWellFormed as4) (from_one_ok k) (λ n hn.
-      and_then (rules_of as4 ws) _ (AreRules as4) (IsWellFormed as4) (rules_ok as4 ws) (λ rules hr. filter_on_ok side n rules hn hr))
+      and_then (from_one k) _ IsNumber (IsWellFormed profile) (from_one_ok k) (λ n hn.
+      and_then (rules_of profile.as4 ws) _ (AreRules profile.as4) (IsWellFormed profile) (rules_ok profile.as4 ws) (λ rules hr. filter_on_ok side n rules hn hr))
 
-  route_add_ok : (ws : List (List ℕ)) → IfSome (route_add_of ws) (IsWellFormed as4)
+  route_add_ok : (ws : List (List ℕ)) → IfSome (route_add_of ws) (IsWellFormed profile)
   unfolding route_add_of
   route_add_ok [] = tt
   route_add_ok (proto ∷ []) = tt
   route_add_ok (proto ∷ p ∷ ws) =
-      and_then (proto_of proto) _ (λ _. Unit {0}) (IsWellFormed as4) (each (proto_of proto) (λ _. Unit {0}) (λ _ _. tt)) (λ o _.
-      and_then (prefix_of 32 p) _ IsPrefix (IsWellFormed as4) (is_prefix p) (λ n hn.
-      and_then (interior_of o ws) _ IsInterior (IsWellFormed as4) (interior_ok o ws) (λ row hr. (hn, hr))))
+      and_then (proto_of proto) _ (λ _. Unit {0}) (IsWellFormed profile) (each (proto_of proto) (λ _. Unit {0}) (λ _ _. tt)) (λ o _.
+      and_then (prefix_of 32 p) _ IsPrefix (IsWellFormed profile) (is_prefix p) (λ n hn.
+      and_then (interior_of o ws) _ IsInterior (IsWellFormed profile) (interior_ok o ws) (λ row hr. (hn, hr))))
 
-  route_del_ok : (ws : List (List ℕ)) → IfSome (route_del_of ws) (IsWellFormed as4)
+  route_del_ok : (ws : List (List ℕ)) → IfSome (route_del_of ws) (IsWellFormed profile)
   unfolding route_del_of
   route_del_ok [] = tt
   route_del_ok (proto ∷ []) = tt
   route_del_ok (proto ∷ p ∷ []) =
-      and_then (proto_of proto) _ (λ _. Unit {0}) (IsWellFormed as4) (each (proto_of proto) (λ _. Unit {0}) (λ _ _. tt)) (λ o _.
-      and_then (prefix_of 32 p) _ IsPrefix (IsWellFormed as4) (is_prefix p) (λ n hn. hn))
+      and_then (proto_of proto) _ (λ _. Unit {0}) (IsWellFormed profile) (each (proto_of proto) (λ _. Unit {0}) (λ _ _. tt)) (λ o _.
+      and_then (prefix_of 32 p) _ IsPrefix (IsWellFormed profile) (is_prefix p) (λ n hn. hn))
   route_del_ok (proto ∷ p ∷ x ∷ more) = tt
 
-  route_ok : (ws : List (List ℕ)) → IfSome (route_of ws) (IsWellFormed as4)
+  route_ok : (ws : List (List ℕ)) → IfSome (route_of ws) (IsWellFormed profile)
   unfolding route_of
   route_ok [] = tt
   route_ok (w ∷ ws) =
-      either (bytes_eq w (codes "add")) _ _ (IsWellFormed as4) (route_add_ok ws)
-      (either (bytes_eq w (codes "del")) _ None (IsWellFormed as4) (route_del_ok ws) tt)
+      either (bytes_eq w (codes "add")) _ _ (IsWellFormed profile) (route_add_ok ws)
+      (either (bytes_eq w (codes "del")) _ None (IsWellFormed profile) (route_del_ok ws) tt)
 
-  lost_ok : (ws : List (List ℕ)) → IfSome (lost_of ws) (IsWellFormed as4)
+  lost_ok : (ws : List (List ℕ)) → IfSome (lost_of ws) (IsWellFormed profile)
   unfolding lost_of
   lost_ok [] = tt
-  lost_ok (proto ∷ []) = and_then (proto_of proto) _ (λ _. Unit {0}) (IsWellFormed as4) (each (proto_of proto) (λ _. Unit {0}) (λ _ _. tt)) (λ o _. tt)
+  lost_ok (proto ∷ []) = and_then (proto_of proto) _ (λ _. Unit {0}) (IsWellFormed profile) (each (proto_of proto) (λ _. Unit {0}) (λ _ _. tt)) (λ o _. tt)
   lost_ok (proto ∷ x ∷ more) = tt
 
-  redist_ok : (ws : List (List ℕ)) → IfSome (redist_of ws) (IsWellFormed as4)
+  redist_ok : (ws : List (List ℕ)) → IfSome (redist_of ws) (IsWellFormed profile)
   unfolding redist_of
   redist_ok [] = tt
   redist_ok (proto ∷ []) = tt
   redist_ok (proto ∷ state ∷ []) =
-      and_then (proto_of proto) _ (λ _. Unit {0}) (IsWellFormed as4) (each (proto_of proto) (λ _. Unit {0}) (λ _ _. tt)) (λ o _.
-      and_then (switch_of state) _ (λ _. Unit {0}) (IsWellFormed as4) (each (switch_of state) (λ _. Unit {0}) (λ _ _. tt)) (λ on _. tt))
+      and_then (proto_of proto) _ (λ _. Unit {0}) (IsWellFormed profile) (each (proto_of proto) (λ _. Unit {0}) (λ _ _. tt)) (λ o _.
+      and_then (switch_of state) _ (λ _. Unit {0}) (IsWellFormed profile) (each (switch_of state) (λ _. Unit {0}) (λ _ _. tt)) (λ on _. tt))
   redist_ok (proto ∷ state ∷ x ∷ more) = tt
 
-  cover_ok : (ws : List (List ℕ)) → IfSome (cover_of ws) (IsWellFormed as4)
+  cover_ok : (ws : List (List ℕ)) → IfSome (cover_of ws) (IsWellFormed profile)
   unfolding cover_of
   cover_ok [] = tt
-  cover_ok (addr ∷ []) = and_then (addr_of addr) _ (λ a. a < 2 ^ 32) (IsWellFormed as4) (addr_fits addr) (λ a h. h)
+  cover_ok (addr ∷ []) = and_then (addr_of addr) _ (λ a. a < 2 ^ 32) (IsWellFormed profile) (addr_fits addr) (λ a h. h)
   cover_ok (addr ∷ x ∷ more) = tt
 
-  profile_ok : (w : List ℕ) (ws : List (List ℕ)) → IfSome (profile_event w ws) (IsWellFormed as4)
+  profile_ok : (w : List ℕ) (ws : List (List ℕ)) → IfSome (profile_event w ws) (IsWellFormed profile)
   unfolding profile_event
   profile_ok w ws =
-      either (bytes_eq w (codes "as4")) _ _ (IsWellFormed as4) (either (nat_eq (length ws) 0) (Some events.As4) None (IsWellFormed as4) tt tt)
-      (either (bytes_eq w (codes "revised")) _ None (IsWellFormed as4) (either (nat_eq (length ws) 0) (Some events.Revised) None (IsWellFormed as4) tt tt) tt)
+      either (bytes_eq w (codes "as4")) _ _ (IsWellFormed profile) (either (nat_eq (length ws) 0) (Some events.As4) None (IsWellFormed profile) tt tt)
+      (either (bytes_eq w (codes "revised")) _ _ (IsWellFormed profile) (either (nat_eq (length ws) 0) (Some events.Revised) None (IsWellFormed profile) tt tt)
+      (either (bytes_eq w (codes "reflect")) _ None (IsWellFormed profile) (either (nat_eq (length ws) 0) (Some events.Reflect) None (IsWellFormed profile) tt tt) tt))
 
-  interior_event_ok : (w : List ℕ) (ws : List (List ℕ)) → IfSome (interior_event w ws) (IsWellFormed as4)
+  interior_event_ok : (w : List ℕ) (ws : List (List ℕ)) → IfSome (interior_event w ws) (IsWellFormed profile)
   unfolding interior_event
   interior_event_ok w ws =
-      either (bytes_eq w (codes "route")) _ _ (IsWellFormed as4) (route_ok ws)
-      (either (bytes_eq w (codes "lost")) _ _ (IsWellFormed as4) (lost_ok ws)
-      (either (bytes_eq w (codes "redist")) _ _ (IsWellFormed as4) (redist_ok ws)
-      (either (bytes_eq w (codes "cover")) _ _ (IsWellFormed as4) (cover_ok ws) (profile_ok w ws))))
+      either (bytes_eq w (codes "route")) _ _ (IsWellFormed profile) (route_ok ws)
+      (either (bytes_eq w (codes "lost")) _ _ (IsWellFormed profile) (lost_ok ws)
+      (either (bytes_eq w (codes "redist")) _ _ (IsWellFormed profile) (redist_ok ws)
+      (either (bytes_eq w (codes "cover")) _ _ (IsWellFormed profile) (cover_ok ws) (profile_ok w ws))))
 
-  work_ok : (ws : List (List ℕ)) → IfSome (work_of ws) (IsWellFormed as4)
+  work_ok : (ws : List (List ℕ)) → IfSome (work_of ws) (IsWellFormed profile)
   unfolding work_of
   work_ok [] = tt
   work_ok (task ∷ []) = tt
-  work_ok (task ∷ turns ∷ []) = and_then (task_of task) _ IsTask (IsWellFormed as4) (task_ok task) (λ t ht. and_then (number_of turns) _ (λ n. n < 2 ^ 32) (IsWellFormed as4) (below (2 ^ 32) turns) (λ n hn. (ht, hn)))
+  work_ok (task ∷ turns ∷ []) = and_then (task_of task) _ IsTask (IsWellFormed profile) (task_ok task) (λ t ht. and_then (number_of turns) _ (λ n. n < 2 ^ 32) (IsWellFormed profile) (below (2 ^ 32) turns) (λ n hn. (ht, hn)))
   work_ok (task ∷ turns ∷ x ∷ more) = tt
 
-  ask_ok : (ws : List (List ℕ)) → IfSome (ask_of ws) (IsWellFormed as4)
+  ask_ok : (ws : List (List ℕ)) → IfSome (ask_of ws) (IsWellFormed profile)
   unfolding ask_of
   ask_ok [] = tt
   ask_ok (link ∷ []) = tt
-  ask_ok (link ∷ p ∷ []) = and_then (link_of link) _ IsNamed (IsWellFormed as4) (link_ok link) (λ l hl. and_then (prefix_of 32 p) _ IsPrefix (IsWellFormed as4) (is_prefix p) (λ n hn. (hl, hn)))
+  ask_ok (link ∷ p ∷ []) = and_then (link_of link) _ IsNamed (IsWellFormed profile) (link_ok link) (λ l hl. and_then (prefix_of 32 p) _ IsPrefix (IsWellFormed profile) (is_prefix p) (λ n hn. (hl, hn)))
   ask_ok (link ∷ p ∷ x ∷ more) = tt
 
-  show_ok : (ws : List (List ℕ)) → IfSome (show_of ws) (IsWellFormed as4)
+  show_ok : (ws : List (List ℕ)) → IfSome (show_of ws) (IsWellFormed profile)
   unfolding show_of
   show_ok [] = tt
-  show_ok (link ∷ []) = and_then (link_of link) _ IsNamed (IsWellFormed as4) (link_ok link) (λ l hl. hl)
+  show_ok (link ∷ []) = and_then (link_of link) _ IsNamed (IsWellFormed profile) (link_ok link) (λ l hl. hl)
   show_ok (link ∷ x ∷ more) = tt
 
-  settled_ok : (ws : List (List ℕ)) → IfSome (settled_of ws) (IsWellFormed as4)
+  settled_ok : (ws : List (List ℕ)) → IfSome (settled_of ws) (IsWellFormed profile)
   unfolding settled_of
   settled_ok [] = tt
-  settled_ok (p ∷ []) = and_then (prefix_of 32 p) _ IsPrefix (IsWellFormed as4) (is_prefix p) (λ n hn. hn)
+  settled_ok (p ∷ []) = and_then (prefix_of 32 p) _ IsPrefix (IsWellFormed profile) (is_prefix p) (λ n hn. hn)
   settled_ok (p ∷ x ∷ more) = tt
 
-  plain_ok : (w : List ℕ) (ws : List (List ℕ)) → IfSome (plain_event w ws) (IsWellFormed as4)
+  plain_ok : (w : List ℕ) (ws : List (List ℕ)) → IfSome (plain_event w ws) (IsWellFormed profile)
   unfolding plain_event
   plain_ok w ws =
-      either (bytes_eq w (codes "up")) _ _ (IsWellFormed as4) (and_then (one_number ws) _ IsNumber (IsWellFormed as4) (one_number_ok ws) (λ k h. h))
-      (either (bytes_eq w (codes "down")) _ _ (IsWellFormed as4) (and_then (one_number ws) _ IsNumber (IsWellFormed as4) (one_number_ok ws) (λ k h. h))
-      (either (bytes_eq w (codes "idle")) _ _ (IsWellFormed as4) (either (nat_eq (length ws) 0) (Some events.Idle) None (IsWellFormed as4) tt tt)
-      (either (bytes_eq w (codes "work")) _ _ (IsWellFormed as4) (work_ok ws)
-      (either (bytes_eq w (codes "ask")) _ _ (IsWellFormed as4) (ask_ok ws)
-      (either (bytes_eq w (codes "show")) _ _ (IsWellFormed as4) (show_ok ws)
-      (either (bytes_eq w (codes "settled")) _ _ (IsWellFormed as4) (settled_ok ws) (interior_event_ok w ws)))))))
+      either (bytes_eq w (codes "up")) _ _ (IsWellFormed profile) (and_then (one_number ws) _ IsNumber (IsWellFormed profile) (one_number_ok ws) (λ k h. h))
+      (either (bytes_eq w (codes "down")) _ _ (IsWellFormed profile) (and_then (one_number ws) _ IsNumber (IsWellFormed profile) (one_number_ok ws) (λ k h. h))
+      (either (bytes_eq w (codes "idle")) _ _ (IsWellFormed profile) (either (nat_eq (length ws) 0) (Some events.Idle) None (IsWellFormed profile) tt tt)
+      (either (bytes_eq w (codes "work")) _ _ (IsWellFormed profile) (work_ok ws)
+      (either (bytes_eq w (codes "ask")) _ _ (IsWellFormed profile) (ask_ok ws)
+      (either (bytes_eq w (codes "show")) _ _ (IsWellFormed profile) (show_ok ws)
+      (either (bytes_eq w (codes "settled")) _ _ (IsWellFormed profile) (settled_ok ws) (interior_event_ok w ws)))))))
 
-  named_ok : (w : List ℕ) (ws : List (List ℕ)) → IfSome (named_event as4 w ws) (IsWellFormed as4)
+  named_ok : (w : List ℕ) (ws : List (List ℕ)) → IfSome (named_event profile w ws) (IsWellFormed profile)
   unfolding named_event
   named_ok w ws =
-      either (bytes_eq w (codes "local")) _ _ (IsWellFormed as4) (local_ok ws)
-      (either (bytes_eq w (codes "peer")) _ _ (IsWellFormed as4) (peer_ok ws)
-      (either (bytes_eq w (codes "bgp")) _ _ (IsWellFormed as4) (bgp_ok ws)
-      (either (bytes_eq w (codes "filter")) _ _ (IsWellFormed as4) (filter_ok ws) (plain_ok w ws))))
+      either (bytes_eq w (codes "local")) _ _ (IsWellFormed profile) (local_ok ws)
+      (either (bytes_eq w (codes "peer")) _ _ (IsWellFormed profile) (peer_ok ws)
+      (either (bytes_eq w (codes "bgp")) _ _ (IsWellFormed profile) (bgp_ok ws)
+      (either (bytes_eq w (codes "filter")) _ _ (IsWellFormed profile) (filter_ok ws) (plain_ok w ws))))
 
   -- the event of a line's words is well-formed
-  pub event_ok : (ws : List (List ℕ)) → IfSome (event_of as4 ws) (IsWellFormed as4)
+  pub event_ok : (ws : List (List ℕ)) → IfSome (event_of profile ws) (IsWellFormed profile)
   unfolding event_of
   event_ok [] = tt
-  event_ok (w ∷ ws) = either (starts_with nat_eq w (codes "#")) (Some events.Nothing) (named_event as4 w ws) (IsWellFormed as4) tt (named_ok w ws)
+  event_ok (w ∷ ws) = either (starts_with nat_eq w (codes "#")) (Some events.Nothing) (named_event profile w ws) (IsWellFormed profile) tt (named_ok w ws)

@@ -6,7 +6,8 @@ use Rattle.rib_route.specs.declared.Proto.{Proto}
 use Rattle.rib_route.specs.declared.Proto.TheVariants.{Connected, Static, Ospf, Rip}
 use Rattle.journal_text.specs.Names.{proto_of}
 use Rattle.policy_rules.specs.Words.{words}
-use Rattle.event_text.specs.Words.{speaker_of, way_out}
+use Rattle.bgp_attr.specs.declared.speaker.Profile.{Profile}
+use Rattle.event_text.specs.Words.{speaker_of, client_of, way_out}
 use Rattle.event_text.specs.Events.{one_number, bgp_of, route_del_of, lost_of, redist_of, cover_of, work_of, ask_of, show_of, settled_of}
 
 four : (as4 : Bool) (a b c : List ℕ) (more : List (List ℕ)) → nat_eq (length more) 0 ≡ false → speaker_of as4 (a ∷ b ∷ c ∷ more) ≡ None
@@ -16,6 +17,14 @@ four as4 a b c (d ∷ more) some = refl
 
 pub no_fourth_word : (as4 : Bool) (a b c r : List ℕ) → nat_eq (length (words r)) 0 ≡ false → speaker_of as4 (a ∷ b ∷ c ∷ words r) ≡ None
 no_fourth_word as4 a b c r some = four as4 a b c (words r) some
+
+behind_client : (p : Profile) (a : List ℕ) (more : List (List ℕ)) → nat_eq (length more) 0 ≡ false → client_of p (a ∷ more) ≡ None
+unfolding client_of
+behind_client p a [] some = absurd (cc)
+behind_client p a (d ∷ more) some = refl
+
+pub no_word_behind_client : (p : Profile) (a r : List ℕ) → nat_eq (length (words r)) 0 ≡ false → client_of p (a ∷ words r) ≡ None
+no_word_behind_client p a r some = behind_client p a (words r) some
 
 behind_octets : (a b : List ℕ) (more : List (List ℕ)) → nat_eq (length more) 0 ≡ false → bgp_of (a ∷ b ∷ more) ≡ None
 unfolding bgp_of

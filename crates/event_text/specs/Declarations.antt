@@ -10,22 +10,26 @@ use Rattle.journal_text.specs.declared.link.Link.TheVariants as links
 use Rattle.journal_text.specs.declared.link.Task.{Task}
 use Rattle.journal_text.specs.declared.link.Task.TheVariants.{Del, Fin, Nh, ReadRib, Out, Rdel, Red, Ext, Ref}
 use Rattle.journal_text.specs.declared.line.Code.{Code}
-use Rattle.journal_text.specs.declared.line.Code.TheVariants.{E3, E4, E5, E6, E7}
+use Rattle.journal_text.specs.declared.line.Code.TheVariants.{E3, E4, E5, E6, E7, E8}
 use Rattle.event_text.specs.declared.event.Event.{Event}
-use Rattle.event_text.specs.declared.event.Event.TheVariants.{Nothing, As4, Revised, Local, Peer, Up, Down, Bgp, FilterIn, FilterOut, RouteAdd, RouteDel, Lose, Redist, Cover, Settled, Idle, Work, Ask, Show}
+use Rattle.event_text.specs.declared.event.Event.TheVariants.{Nothing, As4, Revised, Reflect, Local, Peer, Up, Down, Bgp, FilterIn, FilterOut, RouteAdd, RouteDel, Lose, Redist, Cover, Settled, Idle, Work, Ask, Show}
 use Rattle.event_text.specs.declared.declared.DeclaredPeer.{DeclaredPeer}
 
--- AS numbers have two octets, and errors in attributes are handled by RFC 4271, section 6.3
+-- AS numbers have two octets, errors in attributes are handled by RFC 4271, section 6.3, and this speaker is no route reflector
 abbrev pub plain : Profile
-plain = record { as4 = false; revised = false }
+plain = record { as4 = false; revised = false; reflect = false }
 
 -- behind `as4`: AS numbers have four octets (RFC 6793)
 abbrev pub with_four_octets : Profile → Profile
-with_four_octets p = record { as4 = true; revised = p.revised }
+with_four_octets p = record { as4 = true; revised = p.revised; reflect = p.reflect }
 
 -- behind `revised`: errors in attributes are handled by the revised table (RFC 7606)
 abbrev pub with_revised : Profile → Profile
-with_revised p = record { as4 = p.as4; revised = true }
+with_revised p = record { as4 = p.as4; revised = true; reflect = p.reflect }
+
+-- behind `reflect`: this speaker is a route reflector (RFC 4456)
+abbrev pub with_reflection : Profile → Profile
+with_reflection p = record { as4 = p.as4; revised = p.revised; reflect = true }
 
 -- what holds for the whole file, the words of `local`, and the peers in the order in which they were declared
 pub record Declaration : Type 0 where
@@ -108,13 +112,22 @@ link_refusal (links.Read j s) peers = undeclared (peer_at j peers)
 link_refusal (links.Outf j s) peers = undeclared (peer_at j peers)
 link_refusal (links.Adv j s) peers = undeclared (peer_at j peers)
 
+-- why a peer may not be declared: something of it is taken, it is a client of another AS, its number is too high
+abbrev pub peer_refusal : Speaker → List DeclaredPeer → ℕ → Speaker → Bool → Option Code
+peer_refusal local peers k words client =
+    if is_taken local peers k words then Some E3
+    else if client && not (local.asn == words.asn) then Some E8
+    else if nat_le k 64 then None
+    else Some E6
+
 -- where `local` was declared: what holds for the whole file is said too late
 abbrev pub refusal_by : Speaker → List DeclaredPeer → Event → Option Code
 refusal_by local peers Nothing = None
 refusal_by local peers As4 = Some E7
 refusal_by local peers Revised = Some E7
+refusal_by local peers Reflect = Some E7
 refusal_by local peers (Local words) = Some E3
-refusal_by local peers (Peer k words) = if is_taken local peers k words then Some E3 else if nat_le k 64 then None else Some E6
+refusal_by local peers (Peer k words client) = peer_refusal local peers k words client
 refusal_by local peers (Up k) = session_refusal (peer_at k peers)
 refusal_by local peers (Down k) = undeclared (peer_at k peers)
 refusal_by local peers (Bgp k octets) = undeclared (peer_at k peers)
@@ -136,8 +149,9 @@ abbrev pub refusal_first : Profile → Event → Option Code
 refusal_first profile Nothing = None
 refusal_first profile As4 = if profile.as4 then Some E7 else None
 refusal_first profile Revised = if profile.revised then Some E7 else None
+refusal_first profile Reflect = if profile.reflect then Some E7 else None
 refusal_first profile (Local words) = None
-refusal_first profile (Peer k words) = Some E4
+refusal_first profile (Peer k words client) = Some E4
 refusal_first profile (Up k) = Some E4
 refusal_first profile (Down k) = Some E4
 refusal_first profile (Bgp k octets) = Some E4
@@ -167,10 +181,10 @@ abbrev pub is_internal : Option Speaker → ℕ → Bool
 is_internal None asn = false
 is_internal (Some local) asn = local.asn == asn
 
-abbrev pub words_of : Option Speaker → ℕ → Speaker → Neighbour
-words_of local k s = record { number = k; asn = s.asn; id = s.id; addr = s.addr; internal = is_internal local s.asn }
+abbrev pub words_of : Option Speaker → ℕ → Speaker → Bool → Neighbour
+words_of local k s client = record { number = k; asn = s.asn; id = s.id; addr = s.addr; internal = is_internal local s.asn; client = client }
 
--- after `as4` or `revised`
+-- after `as4`, `revised` or `reflect`
 abbrev pub with_profile : Declaration → Profile → Declaration
 with_profile d profile = record { profile = profile; speaker = d.speaker; peers = d.peers }
 
@@ -179,8 +193,8 @@ abbrev pub with_speaker : Declaration → Speaker → Declaration
 with_speaker d s = record { profile = d.profile; speaker = Some s; peers = d.peers }
 
 -- after `peer`
-abbrev pub with_peer : Declaration → ℕ → Speaker → Declaration
-with_peer d k s = record { profile = d.profile; speaker = d.speaker; peers = d.peers ++ record { words = words_of d.speaker k s; session = 0; up = false } ∷ [] }
+abbrev pub with_peer : Declaration → ℕ → Speaker → Bool → Declaration
+with_peer d k s client = record { profile = d.profile; speaker = d.speaker; peers = d.peers ++ record { words = words_of d.speaker k s client; session = 0; up = false } ∷ [] }
 
 -- a peer's next session begins, unless one is up
 abbrev pub begun_at : ℕ → DeclaredPeer → DeclaredPeer
@@ -197,13 +211,13 @@ abbrev pub without_session : Declaration → ℕ → Declaration
 without_session d k = record { profile = d.profile; speaker = d.speaker; peers = map (ended_at k) d.peers }
 
 -- a peer that was declared after `local`; its session counts from 1
-pub record IsPeerOf (as4 : Bool) (local : Speaker) (p : DeclaredPeer) : Type 0 where
-  pub words : IsNeighbourOf as4 local p.words
+pub record IsPeerOf (profile : Profile) (local : Speaker) (p : DeclaredPeer) : Type 0 where
+  pub words : IsNeighbourOf profile local p.words
   pub begun : p.up ≡ true → 0 < p.session
 
-abbrev pub ArePeersOf : Bool → Speaker → List DeclaredPeer → Type 0
-ArePeersOf as4 local [] = Unit {0}
-ArePeersOf as4 local (p ∷ ps) = IsPeerOf as4 local p × ArePeersOf as4 local ps
+abbrev pub ArePeersOf : Profile → Speaker → List DeclaredPeer → Type 0
+ArePeersOf profile local [] = Unit {0}
+ArePeersOf profile local (p ∷ ps) = IsPeerOf profile local p × ArePeersOf profile local ps
 
 -- no two peers have the same address
 abbrev pub HaveOwnAddrs : List DeclaredPeer → Type 0
@@ -212,17 +226,17 @@ HaveOwnAddrs (p ∷ ps) = (has_addr p.words.addr ps ≡ false) × HaveOwnAddrs p
 
 -- What was declared since `local`. Numbers are from 1 to 64, each once; addresses stand once, none is the local one;
 -- sessions are at most 65535, and one that is up is at least the first.
-pub record AreDeclared (as4 : Bool) (local : Speaker) (peers : List DeclaredPeer) : Type 0 where
-  pub speaker : IsSpeaker as4 local
-  pub each : ArePeersOf as4 local peers
+pub record AreDeclared (profile : Profile) (local : Speaker) (peers : List DeclaredPeer) : Type 0 where
+  pub speaker : IsSpeaker profile.as4 local
+  pub each : ArePeersOf profile local peers
   pub counted : IsCounted peers
   pub addrs : HaveOwnAddrs peers
 
 -- peers stand only where `local` does
-abbrev pub IsDeclaredBy : Bool → Option Speaker → List DeclaredPeer → Type 0
-IsDeclaredBy as4 None peers = peers ≡ []
-IsDeclaredBy as4 (Some local) peers = AreDeclared as4 local peers
+abbrev pub IsDeclaredBy : Profile → Option Speaker → List DeclaredPeer → Type 0
+IsDeclaredBy profile None peers = peers ≡ []
+IsDeclaredBy profile (Some local) peers = AreDeclared profile local peers
 
 -- what events can have declared
 abbrev pub IsDeclaration : Declaration → Type 0
-IsDeclaration d = IsDeclaredBy d.profile.as4 d.speaker d.peers
+IsDeclaration d = IsDeclaredBy d.profile d.speaker d.peers

@@ -6,24 +6,26 @@ use Rattle.addr4.specs.Texts.{number_of, addr_of, prefix_of}
 use Rattle.journal_text.specs.Names.{proto_of, task_of, link_of}
 use Rattle.journal_text.specs.declared.line.Code.{Code}
 use Rattle.journal_text.specs.declared.line.Code.TheVariants.{E1, E2}
+use Rattle.bgp_attr.specs.declared.speaker.Profile.{Profile}
 use Rattle.policy_rules.specs.declared.rule.Rule.{Rule}
 use Rattle.policy_rules.specs.Words.{◌>>=◌, words}
 use Rattle.policy_rules.specs.Grammar.{rules_of}
 use Rattle.event_text.specs.declared.event.Event.{Event}
-use Rattle.event_text.specs.declared.event.Event.TheVariants.{Nothing, As4, Revised, Local, Peer, Up, Down, Bgp, FilterIn, FilterOut, RouteAdd, RouteDel, Lose, Redist, Cover, Settled, Idle, Work, Ask, Show}
-use Rattle.event_text.specs.Words.{is_clean, from_one, speaker_of, octets_of, interior_of, switch_of}
+use Rattle.event_text.specs.declared.event.Event.TheVariants.{Nothing, As4, Revised, Reflect, Local, Peer, Up, Down, Bgp, FilterIn, FilterOut, RouteAdd, RouteDel, Lose, Redist, Cover, Settled, Idle, Work, Ask, Show}
+use Rattle.event_text.specs.Words.{is_clean, from_one, speaker_by, speaker_of, client_of, octets_of, interior_of, switch_of}
 
 -- what follows `local`
 unfoldable pub local_of : Bool → List (List ℕ) → Option Event
 local_of as4 ws = speaker_of as4 ws >>= λ s. Some (Local s)
 
--- what follows `peer`
-unfoldable pub peer_of : Bool → List (List ℕ) → Option Event
-peer_of as4 [] = None
-peer_of as4 (k ∷ ws) = do
+-- what follows `peer`: its number, the words of a speaker, and perhaps `client`
+unfoldable pub peer_of : Profile → List (List ℕ) → Option Event
+peer_of p (k ∷ asn ∷ id ∷ addr ∷ ws) = do
   n ← from_one k
-  s ← speaker_of as4 ws
-  Some (Peer n s)
+  s ← speaker_by p.as4 asn id addr
+  client ← client_of p ws
+  Some (Peer n s client)
+peer_of p other = None
 
 -- the one word is a peer's number, as behind `up` and `down`
 unfoldable pub one_number : List (List ℕ) → Option ℕ
@@ -101,6 +103,7 @@ unfoldable pub profile_event : List ℕ → List (List ℕ) → Option Event
 profile_event w ws =
     if bytes_eq w (codes "as4") then (if length ws == 0 then Some As4 else None)
     else if bytes_eq w (codes "revised") then (if length ws == 0 then Some Revised else None)
+    else if bytes_eq w (codes "reflect") then (if length ws == 0 then Some Reflect else None)
     else None
 
 -- an event of the interior routes or of the whole file, by its first word and the others
@@ -151,23 +154,23 @@ plain_event w ws =
     else interior_event w ws
 
 -- an event by its first word and the others
-unfoldable pub named_event : Bool → List ℕ → List (List ℕ) → Option Event
-named_event as4 w ws =
-    if bytes_eq w (codes "local") then local_of as4 ws
-    else if bytes_eq w (codes "peer") then peer_of as4 ws
+unfoldable pub named_event : Profile → List ℕ → List (List ℕ) → Option Event
+named_event p w ws =
+    if bytes_eq w (codes "local") then local_of p.as4 ws
+    else if bytes_eq w (codes "peer") then peer_of p ws
     else if bytes_eq w (codes "bgp") then bgp_of ws
-    else if bytes_eq w (codes "filter") then filter_of as4 ws
+    else if bytes_eq w (codes "filter") then filter_of p.as4 ws
     else plain_event w ws
 
 -- a line without words, a comment, or an event
-unfoldable pub event_of : Bool → List (List ℕ) → Option Event
-event_of as4 [] = Some Nothing
-event_of as4 (w ∷ ws) = if starts_with nat_eq w (codes "#") then Some Nothing else named_event as4 w ws
+unfoldable pub event_of : Profile → List (List ℕ) → Option Event
+event_of p [] = Some Nothing
+event_of p (w ∷ ws) = if starts_with nat_eq w (codes "#") then Some Nothing else named_event p w ws
 
 abbrev pub in_grammar : Option Event → Result Event Code
 in_grammar None = Err E2
 in_grammar (Some event) = Ok event
 
--- what a line says, or the code with which it is refused, where AS numbers have four octets or two
-unfoldable pub read_event : Bool → List ℕ → Result Event Code
-read_event as4 line = if is_clean line then in_grammar (event_of as4 (words line)) else Err E1
+-- what a line says, or the code with which it is refused, behind the lines that hold for the whole file
+unfoldable pub read_event : Profile → List ℕ → Result Event Code
+read_event p line = if is_clean line then in_grammar (event_of p (words line)) else Err E1

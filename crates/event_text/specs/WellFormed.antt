@@ -2,7 +2,8 @@
 use Rattle.std.specs.Prelude.{◌≡◌, ℕ, ◌^◌, ◌<◌, Bool, List, length, Option, Some, None, true}
 use Rattle.std.specs.List.{All}
 use Rattle.addr4.specs.Prefixes.{Network, IsMasked}
-use Rattle.bgp_attr.specs.Speakers.{IsSpeaker}
+use Rattle.bgp_attr.specs.Speakers.{IsSpeaker, MayBeClient}
+use Rattle.bgp_attr.specs.declared.speaker.Profile.{Profile}
 use Rattle.rib_route.specs.Ifaces.{is_iface_name}
 use Rattle.rib_route.specs.declared.rows.Interior.{Interior}
 use Rattle.journal_text.specs.Names.{IsNamed}
@@ -49,25 +50,26 @@ IsTask (Out k) = IsNumber k
 IsTask (Ref k) = IsNumber k
 IsTask (Rdel proto n) = IsNumber n
 
--- its numbers, words, octets, prefix, link and task are what the grammar says, for AS numbers of four octets or of two
-abbrev pub IsWellFormed : Bool → Event → Type 0
-IsWellFormed as4 events.Nothing = Unit {0}
-IsWellFormed as4 events.As4 = Unit {0}
-IsWellFormed as4 events.Revised = Unit {0}
-IsWellFormed as4 (events.Local words) = IsSpeaker as4 words
-IsWellFormed as4 (events.Peer k words) = IsNumber k × IsSpeaker as4 words
-IsWellFormed as4 (events.Up k) = IsNumber k
-IsWellFormed as4 (events.Down k) = IsNumber k
-IsWellFormed as4 (events.Bgp k octets) = IsNumber k × IsMessage octets
-IsWellFormed as4 (events.FilterIn k rules) = IsNumber k × AreRules as4 rules
-IsWellFormed as4 (events.FilterOut k rules) = IsNumber k × AreRules as4 rules
-IsWellFormed as4 (events.RouteAdd p row) = IsPrefix p × IsInterior row
-IsWellFormed as4 (events.RouteDel proto p) = IsPrefix p
-IsWellFormed as4 (events.Lose proto) = Unit {0}
-IsWellFormed as4 (events.Redist proto on) = Unit {0}
-IsWellFormed as4 (events.Cover addr) = addr < 2 ^ 32
-IsWellFormed as4 (events.Settled p) = IsPrefix p
-IsWellFormed as4 events.Idle = Unit {0}
-IsWellFormed as4 (events.Work task n) = IsTask task × (n < 2 ^ 32)
-IsWellFormed as4 (events.Ask link p) = IsNamed link × IsPrefix p
-IsWellFormed as4 (events.Show link) = IsNamed link
+-- its numbers, words, octets, prefix, link and task are what the grammar says, behind the lines that hold for the whole file
+abbrev pub IsWellFormed : Profile → Event → Type 0
+IsWellFormed p events.Nothing = Unit {0}
+IsWellFormed p events.As4 = Unit {0}
+IsWellFormed p events.Revised = Unit {0}
+IsWellFormed p events.Reflect = Unit {0}
+IsWellFormed p (events.Local words) = IsSpeaker p.as4 words
+IsWellFormed p (events.Peer k words client) = IsNumber k × IsSpeaker p.as4 words × MayBeClient p client
+IsWellFormed p (events.Up k) = IsNumber k
+IsWellFormed p (events.Down k) = IsNumber k
+IsWellFormed p (events.Bgp k octets) = IsNumber k × IsMessage octets
+IsWellFormed p (events.FilterIn k rules) = IsNumber k × AreRules p.as4 rules
+IsWellFormed p (events.FilterOut k rules) = IsNumber k × AreRules p.as4 rules
+IsWellFormed p (events.RouteAdd n row) = IsPrefix n × IsInterior row
+IsWellFormed p (events.RouteDel proto n) = IsPrefix n
+IsWellFormed p (events.Lose proto) = Unit {0}
+IsWellFormed p (events.Redist proto on) = Unit {0}
+IsWellFormed p (events.Cover addr) = addr < 2 ^ 32
+IsWellFormed p (events.Settled n) = IsPrefix n
+IsWellFormed p events.Idle = Unit {0}
+IsWellFormed p (events.Work task n) = IsTask task × (n < 2 ^ 32)
+IsWellFormed p (events.Ask link n) = IsNamed link × IsPrefix n
+IsWellFormed p (events.Show link) = IsNamed link

@@ -8,6 +8,7 @@ use Rattle.addr4.specs.Texts.{number_of, number_below, addr_of}
 use Rattle.bgp_attr.specs.Hosts.{is_host}
 use Rattle.bgp_attr.specs.Speakers.{asn_bound}
 use Rattle.bgp_attr.specs.declared.speaker.Speaker.{Speaker}
+use Rattle.bgp_attr.specs.declared.speaker.Profile.{Profile}
 use Rattle.rib_route.specs.Ifaces.{iface_of}
 use Rattle.rib_route.specs.declared.Proto.{Proto}
 use Rattle.rib_route.specs.declared.rows.Interior.{Interior}
@@ -23,14 +24,24 @@ from_one word = do
   n ← number_of word
   if n == 0 then None else Some n
 
--- `AS ID ADDR`: an AS number from 1 that has its octets, four or two, an ID other than 0.0.0.0, and the address of a host
-unfoldable pub speaker_of : Bool → List (List ℕ) → Option Speaker
-speaker_of as4 (asn ∷ id ∷ addr ∷ []) = do
+-- the words `AS`, `ID` and `ADDR`: an AS number from 1 that has its octets, four or two, an ID other than 0.0.0.0, and the address of a host
+unfoldable pub speaker_by : Bool → List ℕ → List ℕ → List ℕ → Option Speaker
+speaker_by as4 asn id addr = do
   a ← number_below (asn_bound as4) asn
   i ← addr_of id
   h ← addr_of addr
   if a == 0 || i == 0 || not (is_host h) then None else Some (record { asn = a; id = i; addr = h })
+
+-- `AS ID ADDR` and no other word
+unfoldable pub speaker_of : Bool → List (List ℕ) → Option Speaker
+speaker_of as4 (asn ∷ id ∷ addr ∷ []) = speaker_by as4 asn id addr
 speaker_of as4 other = None
+
+-- whether a peer is a client, by the words behind its address: `client`, which only a route reflector has, or none
+unfoldable pub client_of : Profile → List (List ℕ) → Option Bool
+client_of p [] = Some false
+client_of p (word ∷ []) = if p.reflect && bytes_eq word (codes "client") then Some true else None
+client_of p other = None
 
 -- the octets that hex digits spell, at least one
 unfoldable pub octets_of : List ℕ → Option (List ℕ)

@@ -5,7 +5,7 @@ ghost use Rattle.std.specs.List.{All};
 ghost use Rattle.journal_text.specs.declared.line.Code.TheVariants.{E7};
 ghost use Rattle.event_text.specs.declared.event.Event.{Event};
 ghost use Rattle.event_text.specs.declared.event.Event.TheVariants as events;
-ghost use Rattle.event_text.specs.Declarations.{no_declaration, refusal, peer_at, with_profile, with_speaker, with_peer, with_session, without_session, IsDeclaration, IsCounted, begun_at, ended_at, has_addr, is_taken, is_internal, session_refusal, rules_refusal, undeclared, task_refusal, link_refusal, refusal_by, refusal_first};
+ghost use Rattle.event_text.specs.Declarations.{no_declaration, refusal, peer_at, with_profile, with_speaker, with_peer, with_session, without_session, IsDeclaration, IsCounted, begun_at, ended_at, has_addr, is_taken, is_internal, session_refusal, rules_refusal, undeclared, task_refusal, link_refusal, peer_refusal, refusal_by, refusal_first};
 ghost use Rattle.event_text.specs.WellFormed.{IsWellFormed};
 
 use crate::event::Event;
@@ -15,10 +15,11 @@ use journal_text::{Code, Link, Task};
 use std::alloc::Global;
 use std::marker::Model;
 
-/// AS numbers have two octets, and errors in attributes are handled by RFC 4271, section 6.3.
+/// AS numbers have two octets, errors in attributes are handled by RFC 4271, section 6.3, and this speaker is no route reflector.
 const PLAIN: Profile = Profile {
     as4: false,
     revised: false,
+    reflect: false,
 };
 
 /// A peer that was declared.
@@ -68,7 +69,8 @@ impl Declared {
         }
     }
 
-    /// Whether AS numbers have four octets, and whether errors in attributes are handled by the revised table.
+    /// Whether AS numbers have four octets, whether errors in attributes are handled by the revised
+    /// table, and whether this speaker is a route reflector.
     pub fn profile(&self) -> Profile
         ensures { result ≡ self.now.profile }
     {
@@ -96,7 +98,7 @@ impl Declared {
         peer_of(self.peers.as_slice(), number)
     }
 
-    /// `as4` or `revised` was said: this holds for the whole file. Takes no memory.
+    /// `as4`, `revised` or `reflect` was said: this holds for the whole file. Takes no memory.
     pub fn set_profile(&mut self, profile: Profile)
         ensures value { self.new ≡ with_profile self.old profile }
         ensures kept { IsDeclaration self.old → self.old.speaker ≡ None → IsDeclaration self.new }
@@ -107,17 +109,17 @@ impl Declared {
     /// `local` was declared. Takes no memory.
     pub fn set_speaker(&mut self, words: Speaker)
         ensures value { self.new ≡ with_speaker self.old words }
-        ensures kept { IsDeclaration self.old → refusal self.old (events.Local words) ≡ None → IsWellFormed self.old.profile.as4 (events.Local words) → IsDeclaration self.new }
+        ensures kept { IsDeclaration self.old → refusal self.old (events.Local words) ≡ None → IsWellFormed self.old.profile (events.Local words) → IsDeclaration self.new }
     {
         self.speaker = Some(words);
     }
 
     /// `peer` was declared: no session yet.
-    pub fn add_peer(&mut self, number: u32, words: Speaker) -> Result<(), Memory>
-        requires { refusal self.old (events.Peer number words) ≡ None }
-        ensures ok { OnOk result (self.new ≡ with_peer self.old number words) }
+    pub fn add_peer(&mut self, number: u32, words: Speaker, client: bool) -> Result<(), Memory>
+        requires { refusal self.old (events.Peer number words client) ≡ None }
+        ensures ok { OnOk result (self.new ≡ with_peer self.old number words client) }
         ensures memory { OnErr result (self.new ≡ self.old) }
-        ensures kept { IsDeclaration self.old → IsWellFormed self.old.profile.as4 (events.Peer number words) → IsDeclaration self.new }
+        ensures kept { IsDeclaration self.old → IsWellFormed self.old.profile (events.Peer number words client) → IsDeclaration self.new }
     {
         let internal = is_internal(self.speaker, words.asn);
         self.peers.push(DeclaredPeer {
@@ -127,6 +129,7 @@ impl Declared {
                 id: words.id,
                 addr: words.addr,
                 internal,
+                client,
             },
             session: 0,
             up: false,
@@ -256,11 +259,21 @@ fn rules_refusal(count: usize, peer: Option<DeclaredPeer>) -> Option<Code>
 }
 
 /// Why a peer may not be declared.
-fn peer_refusal(local: Speaker, peers: &[DeclaredPeer], number: u32, words: Speaker) -> Option<Code>
-    ensures { result ≡ refusal_by local peers.now (events.Peer number words) }
+fn peer_refusal(
+    local: Speaker,
+    peers: &[DeclaredPeer],
+    number: u32,
+    words: Speaker,
+    client: bool,
+) -> Option<Code>
+    ensures { result ≡ peer_refusal local peers.now number words client }
 {
+    let internal = local.asn == words.asn;
     if is_taken(local, peers, number, words) {
         return Some(Code::E3);
+    }
+    if client && !internal {
+        return Some(Code::E8);
     }
     if number <= 64 { None } else { Some(Code::E6) }
 }
@@ -318,6 +331,7 @@ fn refusal_first(profile: Profile, event: &Event) -> Option<Code>
         Event::Nothing | Event::Local(_) => None,
         Event::As4 => repeated(profile.as4),
         Event::Revised => repeated(profile.revised),
+        Event::Reflect => repeated(profile.reflect),
         _ => Some(Code::E4),
     }
 }
@@ -335,9 +349,11 @@ fn refusal_by(local: Speaker, peers: &[DeclaredPeer], event: &Event) -> Option<C
         | Event::Cover(_)
         | Event::Settled(_)
         | Event::Idle => None,
-        Event::As4 | Event::Revised => Some(Code::E7),
+        Event::As4 | Event::Revised | Event::Reflect => Some(Code::E7),
         Event::Local(_) => Some(Code::E3),
-        Event::Peer(number, words) => peer_refusal(local, peers, *number, *words),
+        Event::Peer(number, words, client) => {
+            peer_refusal(local, peers, *number, *words, *client)
+        }
         Event::Up(number) => session_refusal(peer_of(peers, *number)),
         Event::Down(number) => undeclared(peer_of(peers, *number)),
         Event::Bgp(number, _) => undeclared(peer_of(peers, *number)),
@@ -350,7 +366,7 @@ fn refusal_by(local: Speaker, peers: &[DeclaredPeer], event: &Event) -> Option<C
 }
 
 /// Why the event may not stand here: before `local` (E4), said of the whole file after `local` or twice (E7), declared twice
-/// (E3), of an undeclared peer (E5), past a limit (E6). None where it may.
+/// (E3), of an undeclared peer (E5), a client of another AS (E8), past a limit (E6). None where it may.
 #[tactic(auto, unfolding(crate::specs::Declarations::refusal))]
 pub fn admit(event: &Event, declared: &Declared) -> Option<Code>
     ensures { result ≡ refusal declared.now event.now }

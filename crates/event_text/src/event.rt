@@ -15,10 +15,12 @@ pub enum Event {
     As4,
     /// `revised`: errors in attributes are handled by the revised table.
     Revised,
+    /// `reflect`: this speaker is a route reflector, and its identifier is that of its cluster (RFC 4456).
+    Reflect,
     /// `local AS ID ADDR`
     Local(Speaker),
-    /// `peer K AS ID ADDR`
-    Peer(u32, Speaker),
+    /// `peer K AS ID ADDR`, and `client` behind it where the peer is a client of the route reflector.
+    Peer(u32, Speaker, bool),
     /// `up K`
     Up(u32),
     /// `down K`

@@ -6,7 +6,9 @@ ghost use Rattle.event_text.specs.Events.{local_of, peer_of, one_number, bgp_of,
 ghost use Rattle.event_text.specs.WellFormed.{IsWellFormed};
 
 use crate::event::Event;
-use crate::words::{from_one, interior, is_clean, is_end, octets, protocol, speaker, switch};
+use crate::words::{
+    client, from_one, interior, is_clean, is_end, octets, protocol, speaker, speaker_by, switch,
+};
 use addr4::{Memory, read_addr, read_number, read_prefix};
 use bgp_attr::Profile;
 use journal_text::{Code, Link, Task};
@@ -15,12 +17,12 @@ use std::alloc::Global;
 
 /// What a line says, without its end of line; or the code with which it is refused. E1 where it has more than 16,384 bytes
 /// or a byte that isn't printable ASCII (32 to 126), E2 where the grammar has no such line. Words stand between spaces, one
-/// or more; spaces may also stand at the start and the end. The profile tells which numbers an AS may have. Memory is taken for
-/// the octets of `bgp` and the rules of `filter` only.
+/// or more; spaces may also stand at the start and the end. The profile tells which numbers an AS may have, and whether a peer
+/// may be a client. Memory is taken for the octets of `bgp` and the rules of `filter` only.
 #[tactic(auto, unfolding(crate::specs::Events::read_event))]
 pub fn parse(alloc: Global, profile: Profile, line: &[u8]) -> Result<Result<Event, Code>, Memory>
-    ensures value { IfOk result (λ event. event ≡ read_event profile.as4 line.now) }
-    ensures words { IfOk result (λ event. IfOk event (IsWellFormed profile.as4)) }
+    ensures value { IfOk result (λ event. event ≡ read_event profile line.now) }
+    ensures words { IfOk result (λ event. IfOk event (IsWellFormed profile)) }
 {
     if !is_clean(line) {
         return Ok(Err(Code::E1));
@@ -34,7 +36,7 @@ pub fn parse(alloc: Global, profile: Profile, line: &[u8]) -> Result<Result<Even
 /// A line without words, a comment, or an event.
 #[tactic(auto, unfolding(crate::specs::Events::event_of))]
 fn event(alloc: Global, profile: Profile, line: &[u8]) -> Result<Option<Event>, Memory>
-    ensures { IfOk result (λ event. event ≡ event_of profile.as4 (words line.now)) }
+    ensures { IfOk result (λ event. event ≡ event_of profile (words line.now)) }
 {
     let Some((word, rest)) = first_word(line) else {
         return Ok(Some(Event::Nothing));
@@ -53,7 +55,7 @@ fn named_event(
     word: &[u8],
     rest: &[u8],
 ) -> Result<Option<Event>, Memory>
-    ensures { IfOk result (λ event. event ≡ named_event profile.as4 word.now (words rest.now)) }
+    ensures { IfOk result (λ event. event ≡ named_event profile word.now (words rest.now)) }
 {
     if word == b"local".as_slice() {
         return Ok(local(profile, rest));
@@ -82,12 +84,16 @@ fn local(profile: Profile, rest: &[u8]) -> Option<Event>
 /// What follows `peer`.
 #[tactic(auto, unfolding(crate::specs::Events::peer_of))]
 fn peer(profile: Profile, rest: &[u8]) -> Option<Event>
-    ensures { result ≡ peer_of profile.as4 (words rest.now) }
+    ensures { result ≡ peer_of profile (words rest.now) }
 {
     let (number, rest) = first_word(rest)?;
+    let (asn, rest) = first_word(rest)?;
+    let (id, rest) = first_word(rest)?;
+    let (addr, rest) = first_word(rest)?;
     let number = from_one(number)?;
-    let words = speaker(profile, rest)?;
-    Some(Event::Peer(number, words))
+    let words = speaker_by(profile, asn, id, addr)?;
+    let client = client(profile, rest)?;
+    Some(Event::Peer(number, words, client))
 }
 
 /// What follows `bgp`.
@@ -200,7 +206,7 @@ fn interior_event(word: &[u8], rest: &[u8]) -> Option<Event>
     profile_event(word, rest)
 }
 
-/// The events `as4` and `revised`: no word follows.
+/// The events `as4`, `revised` and `reflect`: no word follows.
 #[tactic(auto, unfolding(crate::specs::Events::profile_event))]
 fn profile_event(word: &[u8], rest: &[u8]) -> Option<Event>
     ensures { result ≡ profile_event word.now (words rest.now) }
@@ -212,6 +218,8 @@ fn profile_event(word: &[u8], rest: &[u8]) -> Option<Event>
         Some(Event::As4)
     } else if word == b"revised".as_slice() {
         Some(Event::Revised)
+    } else if word == b"reflect".as_slice() {
+        Some(Event::Reflect)
     } else {
         None
     }

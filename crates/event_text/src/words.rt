@@ -3,7 +3,7 @@
 ghost use Rattle.std.specs.Prelude.{◌≡◌, ◌==◌, length, IfOk};
 ghost use Rattle.journal_text.specs.Names.{proto_of};
 ghost use Rattle.policy_rules.specs.Words.{words};
-ghost use Rattle.event_text.specs.Words.{is_clean, from_one, speaker_of, octets_of, way_out, way_over, interior_of, switch_of};
+ghost use Rattle.event_text.specs.Words.{is_clean, from_one, speaker_by, speaker_of, client_of, octets_of, way_out, way_over, interior_of, switch_of};
 
 use addr4::{Addr, Memory, all_printable, read_addr, read_number, read_number_below};
 use bgp_attr::{Octets, Profile, Speaker, is_host};
@@ -36,7 +36,21 @@ pub fn from_one(word: &[u8]) -> Option<u32>
     if number == 0 { None } else { Some(number) }
 }
 
-/// The words `AS ID ADDR`, and no other. The profile tells which numbers an AS may have.
+/// The words `AS`, `ID` and `ADDR`. The profile tells which numbers an AS may have.
+#[tactic(auto, unfolding(crate::specs::Words::speaker_by))]
+pub fn speaker_by(profile: Profile, asn: &[u8], id: &[u8], addr: &[u8]) -> Option<Speaker>
+    ensures { result ≡ speaker_by profile.as4 asn.now id.now addr.now }
+{
+    let asn = read_number_below(asn, profile.asn_bound())?;
+    let id = read_addr(id).ok()?;
+    let addr = read_addr(addr).ok()?;
+    if asn == 0 || id.number() == 0 || !is_host(addr) {
+        return None;
+    }
+    Some(Speaker { asn, id, addr })
+}
+
+/// The words `AS ID ADDR`, and no other.
 #[tactic(auto, using(crate::proofs::WordLemmas::no_fourth_word), unfolding(crate::specs::Words::speaker_of))]
 pub fn speaker(profile: Profile, text: &[u8]) -> Option<Speaker>
     ensures { result ≡ speaker_of profile.as4 (words text.now) }
@@ -47,13 +61,25 @@ pub fn speaker(profile: Profile, text: &[u8]) -> Option<Speaker>
     if !is_end(rest) {
         return None;
     }
-    let asn = read_number_below(asn, profile.asn_bound())?;
-    let id = read_addr(id).ok()?;
-    let addr = read_addr(addr).ok()?;
-    if asn == 0 || id.number() == 0 || !is_host(addr) {
+    speaker_by(profile, asn, id, addr)
+}
+
+/// Whether a peer is a client: the word `client`, which only a route reflector has, or no word.
+#[tactic(auto, using(crate::proofs::WordLemmas::no_word_behind_client), unfolding(crate::specs::Words::client_of))]
+pub fn client(profile: Profile, text: &[u8]) -> Option<bool>
+    ensures { result ≡ client_of profile (words text.now) }
+{
+    let Some((word, rest)) = first_word(text) else {
+        return Some(false);
+    };
+    if !is_end(rest) {
         return None;
     }
-    Some(Speaker { asn, id, addr })
+    if profile.reflect && word == b"client".as_slice() {
+        Some(true)
+    } else {
+        None
+    }
 }
 
 /// The octets that hex digits spell, at least one.

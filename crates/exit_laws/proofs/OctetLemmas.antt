@@ -5,7 +5,6 @@ use Rattle.std.proofs.lemmas.Bool.Decides.{nat_tests}
 use Rattle.std.proofs.lemmas.Nat.{mod_below}
 use Rattle.std.specs.Int.{byte_at, bytes_high_first}
 use Rattle.std.specs.List.{AllByRecursion, flat_map}
-use mathlib.Core.Bool.{beq}
 use Rattle.addr4.specs.Prefixes.{Network}
 use Rattle.bgp_attr.specs.declared.attrs.Aggregator.{Aggregator}
 use Rattle.bgp_attr.specs.declared.attrs.Attrs.{Attrs}
@@ -15,12 +14,14 @@ use Rattle.bgp_attr.specs.declared.path.Segment.{Segment}
 use Rattle.bgp_attr.specs.declared.path.SegmentKind.{SegmentKind}
 use Rattle.bgp_attr.specs.declared.path.SegmentKind.TheVariants.{Set, Sequence}
 use Rattle.bgp_attr.specs.declared.unrecognized.Unrecognized.{Unrecognized}
+use Rattle.bgp_attr.specs.Reflections.{Reflected}
+use Rattle.bgp_wire.proofs.JudgedTypes.{Place, first, middle, last}
 use Rattle.bgp_wire.specs.Attributes.{Attribute}
 use Rattle.bgp_wire.specs.Paths.{width_of, code_of}
 use Rattle.bgp_wire.specs.Prefixes.{octets_for}
 use Rattle.bgp_wire.specs.Readable.{withdrawal, announcement}
 use Rattle.bgp_wire.specs.Routes.{code_of_origin}
-use Rattle.bgp_wire.specs.Spelling.{prefix_octets, segment_octets, path_octets, is_long, spelled_octets, spelled, optional, aggregator_value, aggregator_flags, comes_first, unrecognized_attributes, mandatory_attributes, further_attributes, sent_attributes, attrs_octets, prefixes_octets, framed, fields_octets, update_octets}
+use Rattle.bgp_wire.specs.Spelling.{prefix_octets, segment_octets, path_octets, is_long, spelled_octets, spelled, optional, aggregator_value, aggregator_flags, stands_in, clusters_attributes, reflection_attributes, unrecognized_attribute, unrecognized_attributes, mandatory_attributes, further_attributes, sent_attributes, attrs_octets, prefixes_octets, framed, fields_octets, update_octets}
 use Rattle.journal_check.proofs.InkLemmas.{all_append, all_flat}
 
 abbrev pub AreSmall : List ℕ → Type 0
@@ -136,14 +137,24 @@ further as4 a =
 abbrev pub IsKnown : Unrecognized → Type 0
 IsKnown u = (u.kind < 2 ^ 8) × AreSmall u.value
 
-unrecognized : (first : Bool) (us : List Unrecognized) → AllByRecursion IsKnown us → AllByRecursion IsSmall (unrecognized_attributes first us)
-unrecognized first [] known = tt
-unrecognized first (u ∷ us) known =
-    let rest = unrecognized first us known.1 in
-    elim (beq (comes_first u) first) as (λ (b : Bool). AllByRecursion IsSmall (map (λ (w : Unrecognized). spelled 224 w.kind w.value) (cond b (u ∷ filter (λ w. beq (comes_first w) first) us) (filter (λ w. beq (comes_first w) first) us)))) [
+unrecognized : (place : Place) (us : List Unrecognized) → AllByRecursion IsKnown us → AllByRecursion IsSmall (unrecognized_attributes place us)
+unrecognized place [] known = tt
+unrecognized place (u ∷ us) known =
+    let rest = unrecognized place us known.1 in
+    elim (stands_in place u.kind) as (λ (b : Bool). AllByRecursion IsSmall (map unrecognized_attribute (cond b (u ∷ filter (λ w. stands_in place w.kind) us) (filter (λ w. stands_in place w.kind) us)))) [
       | true ↦ (spelled_small 224 u.kind u.value (omega arith) known.0.0 known.0.1, rest)
       | false ↦ rest
     ]
+
+clusters : (cs : List ℕ) → AllByRecursion IsSmall (clusters_attributes cs)
+clusters [] = tt
+clusters (c ∷ cs) = (spelled_small 128 10 (flat_map (bytes_high_first 4) (c ∷ cs)) (omega arith) (omega arith) (numbers 4 (c ∷ cs)), tt)
+
+reflection : (r : Reflected) → AllByRecursion IsSmall (reflection_attributes r)
+reflection r =
+    all_append IsSmall (optional (λ n. spelled 128 9 (bytes_high_first 4 n)) r.originator) (clusters_attributes r.clusters)
+    (optional_small _ r.originator (λ n. spelled_small 128 9 (bytes_high_first 4 n) (omega arith) (omega arith) (number 4 n)))
+    (clusters r.clusters)
 
 -- the numbers of the segments have their count, and the unrecognized attributes are octets
 pub record CanBeSpelled (a : Attrs) : Type 0 where
@@ -152,14 +163,19 @@ pub record CanBeSpelled (a : Attrs) : Type 0 where
 
 attributes : (as4 : Bool) (a : Attrs) → CanBeSpelled a → AreSmall (attrs_octets as4 (Some a))
 attributes as4 a can =
-    let first = unrecognized_attributes true a.unrecognized in
-    let last = unrecognized_attributes false a.unrecognized in
-    let own = mandatory_attributes as4 a in
-    let more = further_attributes as4 a in
+    let us : (place : Place) → AllByRecursion IsSmall (unrecognized_attributes place a.unrecognized) = λ place. unrecognized place a.unrecognized can.unrecognized in
+    let before = unrecognized_attributes first a.unrecognized in
+    let own = before ++ mandatory_attributes as4 a in
+    let more = own ++ further_attributes as4 a in
+    let between = more ++ unrecognized_attributes middle a.unrecognized in
+    let added = between ++ reflection_attributes a.reflection in
     all_flat IsSmall (λ b. b < 2 ^ 8) (λ (x : Attribute). x.octets) (λ x is. is) (sent_attributes as4 a)
-    (all_append IsSmall ((first ++ own) ++ more) last
-    (all_append IsSmall (first ++ own) more (all_append IsSmall first own (unrecognized true a.unrecognized can.unrecognized) (mandatory as4 a can.path)) (further as4 a))
-    (unrecognized false a.unrecognized can.unrecognized))
+    (all_append IsSmall added (unrecognized_attributes last a.unrecognized)
+    (all_append IsSmall between (reflection_attributes a.reflection)
+    (all_append IsSmall more (unrecognized_attributes middle a.unrecognized)
+    (all_append IsSmall own (further_attributes as4 a)
+    (all_append IsSmall before (mandatory_attributes as4 a) (us first) (mandatory as4 a can.path)) (further as4 a))
+    (us middle)) (reflection a.reflection)) (us last))
 
 -- ---- messages
 frame : (body : List ℕ) → AreSmall body → AreSmall (framed 2 body)

@@ -67,21 +67,21 @@ use Rattle.exit_laws.proofs.KeptLemmas.{rows_read, taken_change, queue_taken, ea
 -- ---- what is sent of a row is the form of a route with its attributes
 pub record IsFormOfOne (exit : Exit) (row : Route) (a : Attrs) : Type 0 where
   pub route : Route
-  pub is : a ≡ sent_form exit.me exit.external route
+  pub is : a ≡ sent_form exit.profile exit.me exit.external route
   pub attrs : route.attrs ≡ row.attrs
 
 first_keeps : (peer : Neighbour) (row : Route) → (first_out peer row).attrs ≡ row.attrs
 first_keeps peer row = elim peer.internal as (λ (b : Bool). (cond b row (record row { med = None })).attrs ≡ row.attrs) [ true ↦ refl | false ↦ refl ]
 
 module _ (exit : Exit) (p : Network) (row : Route) (a : Attrs) where
-  pub of_fitting : (r : Route) (fits : Bool) → r.attrs ≡ row.attrs → cond fits (Some (sent_form exit.me exit.external r)) None ≡ Some a → IsFormOfOne exit row a
-  of_fitting r true keeps e = record { route = r; is = let same : Some (sent_form exit.me exit.external r) ≡ Some a = e in cc; attrs = keeps }
+  pub of_fitting : (r : Route) (fits : Bool) → r.attrs ≡ row.attrs → cond fits (Some (sent_form exit.profile exit.me exit.external r)) None ≡ Some a → IsFormOfOne exit row a
+  of_fitting r true keeps e = record { route = r; is = let same : Some (sent_form exit.profile exit.me exit.external r) ≡ Some a = e in cc; attrs = keeps }
   of_fitting r false keeps e = absurd (let clash : ◌≡◌ {A = Option Attrs} None (Some a) = e in cc)
 
   of_judged : (first : Route) (judged : Option Route) → first.attrs ≡ row.attrs → IfSome judged (KeepsSource first) → formed (form_of exit) p judged ≡ Some a → IsFormOfOne exit row a
   of_judged first None keeps judged e = absurd (let clash : ◌≡◌ {A = Option Attrs} None (Some a) = e in cc)
   of_judged first (Some r) keeps judged e =
-      of_fitting r (nat_le (announcement_length exit.profile.as4 p (sent_form exit.me exit.external r)) 4096) (judged.attrs ∙ keeps) e
+      of_fitting r (nat_le (announcement_length exit.profile.as4 p (sent_form exit.profile exit.me exit.external r)) 4096) (judged.attrs ∙ keeps) e
 
   of_rules : (first : Route) (rules : Option (List Rule)) → first.attrs ≡ row.attrs → formed (form_of exit) p (let_by rules p first) ≡ Some a → IsFormOfOne exit row a
   of_rules first None keeps e = absurd (let clash : ◌≡◌ {A = Option Attrs} None (Some a) = e in cc)

@@ -87,7 +87,7 @@ refresh_is_printed profile peers j e are = by_chain (chain_at j e) refl
 spelled_of : (peers : ℕ → Option Neighbour) (profile : Profile) (external : Bool) (p : Network) (a : Attrs) → IsSentOf profile external p a → IsPrintableSent peers p a → CanBeSpelled a
 spelled_of peers profile external p a of printed =
     let exit : Exit = record { profile = profile; me = of.me; external = external } in
-    let form : IsFormOfOne exit of.row a = of_fitting exit p of.row a of.row (nat_le (announcement_length profile.as4 p (sent_form of.me external of.row)) 4096) refl of.sent in
+    let form : IsFormOfOne exit of.row a = of_fitting exit p of.row a of.row (nat_le (announcement_length profile.as4 p (sent_form profile of.me external of.row)) 4096) refl of.sent in
     let r = form.route in
     let few = sent_few profile.as4 external (1 + r.prepend) of.me.asn r.attrs.path of.sender.asn (subst (λ (x : Attrs). All (IsReadableSegment profile.as4) x.path) (sym form.attrs) of.heard.path) in
     record { path = subst (λ (x : Attrs). AllByRecursion HasFewNumbers x.path) (sym form.is) few; unrecognized = printed.printed.well_told.ranges.unrecognized }

@@ -1,10 +1,11 @@
--- The incoming filter of a peer (RFC 4271, sections 5.1.3 and 9.1.1): the route that a peer's attributes make, where it is accepted.
+-- The incoming filter of a peer (RFC 4271, sections 5.1.3 and 9.1.1; RFC 4456, section 8): the route that a peer's attributes make, where it is accepted.
 use Rattle.std.specs.Prelude.{ℕ, ◌==◌, ◌||◌, cond, Bool, true, false, List, Option, Some, None}
 use Rattle.addr4.specs.Prefixes.{Network}
 use Rattle.bgp_attr.specs.declared.attrs.Attrs.{Attrs}
 use Rattle.bgp_attr.specs.declared.route.Route.{Route}
 use Rattle.bgp_attr.specs.declared.speaker.Speaker.{Speaker}
 use Rattle.bgp_attr.specs.declared.speaker.Neighbour.{Neighbour}
+use Rattle.bgp_attr.specs.Reflections.{has_been_at}
 use Rattle.link_change.specs.Rows.{Rows}
 use Rattle.link_change.specs.declared.change.Change.{Change}
 use Rattle.policy_rules.specs.declared.rule.Rule.{Rule}
@@ -34,9 +35,14 @@ first_route peer attrs = record {
   from = Some peer;
 }
 
--- this speaker has the route already, or would forward to itself: the local AS is in the path, or the next hop is the local address
+-- this speaker has the route already: the local AS is in the path, or reflectors say that this speaker brought the route into the AS
+-- or that it went through this speaker's cluster
+abbrev pub has_been_here : Speaker → Attrs → Bool
+has_been_here me attrs = has_as attrs.path me.asn || has_been_at attrs.reflection me.id
+
+-- the route has been here, or this speaker would forward to itself: the next hop is the local address
 abbrev pub is_own : Speaker → Attrs → Bool
-is_own me attrs = has_as attrs.path me.asn || attrs.next_hop == me.addr
+is_own me attrs = has_been_here me attrs || attrs.next_hop == me.addr
 
 -- what the filter makes of the attributes at a prefix, by rules
 abbrev pub filtered : Speaker → Neighbour → List Rule → Network → Option Attrs → Option Route

@@ -9,7 +9,7 @@ use Rattle.link_change.specs.Rows.{Rows, no_rows}
 use Rattle.policy_rules.specs.declared.rule.Rule.{Rule}
 use Rattle.pass_core.specs.Split.{MakesNone}
 use Rattle.pass_core.specs.Turns.{passed_rows}
-use Rattle.filter_bank.specs.Outgoing.{Form, outgoing, first_walk}
+use Rattle.filter_bank.specs.Outgoing.{Form, is_reflected, outgoing, first_walk}
 
 -- Where no row is above, none is sent: so what holds of all walks holds of these.
 abbrev pub NothingOfNothing : Type 0
@@ -23,7 +23,7 @@ NothingAtFirst =
 -- the peer may get the route
 pub record MayGo (peer : Neighbour) (p : Network) (r : Route) : Type 0 where
   pub not_back : (from : Neighbour) → r.from ≡ Some from → from.number ≢ peer.number
-  pub not_inside : (from : Neighbour) → r.from ≡ Some from → peer.internal ≡ true → from.internal ≢ true
+  pub reflected_inside : (from : Neighbour) → r.from ≡ Some from → peer.internal ≡ true → from.internal ≡ true → is_reflected from peer ≡ true
   pub of_hosts : is_host_prefix p ≡ true
 
 -- Whatever the rules, only such routes are sent.

@@ -1,4 +1,4 @@
--- The outgoing filter to a peer (RFC 4271, sections 5.1.4, 9.1.3 and 9.2): which routes the peer gets, and in which form.
+-- The outgoing filter to a peer (RFC 4271, sections 5.1.4, 9.1.3 and 9.2; RFC 4456, section 6): which routes the peer gets, and in which form.
 use Rattle.std.specs.Prelude.{◌==◌, not, ◌&&◌, ◌||◌, Bool, false, if◌then◌else◌, List, Option, Some, None}
 use Rattle.addr4.specs.Prefixes.{Network}
 use Rattle.bgp_attr.specs.Hosts.{is_host_prefix}
@@ -12,10 +12,14 @@ use Rattle.pass_core.specs.Passed.{Passed, begun}
 abbrev pub Form : Type 0 → Type 0
 Form R = Network → Route → Option R
 
--- the route came from the peer itself, or from another internal peer where this one is internal too (section 9.2)
+-- a route of one goes to the other inside the AS: this speaker reflects it, since one of them is its client (RFC 4456, section 6)
+abbrev pub is_reflected : Neighbour → Neighbour → Bool
+is_reflected from to = from.client || to.client
+
+-- the route came from the peer itself, or from another internal peer where this one is internal too (section 9.2), unless it is reflected
 abbrev pub is_kept_from : Neighbour → Option Neighbour → Bool
 is_kept_from peer None = false
-is_kept_from peer (Some from) = from.number == peer.number || (from.internal && peer.internal)
+is_kept_from peer (Some from) = from.number == peer.number || (from.internal && peer.internal && not (is_reflected from peer))
 
 -- the peer may get the route, if the rules let it: it isn't kept from the peer, and its prefix is one of hosts
 abbrev pub may_go : Neighbour → Network → Route → Bool

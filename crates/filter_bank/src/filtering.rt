@@ -1,7 +1,7 @@
 //! What the filter makes of one route.
 
 ghost use Rattle.std.specs.Prelude.{◌≡◌, Some, option_map};
-ghost use Rattle.filter_bank.specs.Filtered.{filtered, first_pref, first_route, is_own, route_hop};
+ghost use Rattle.filter_bank.specs.Filtered.{filtered, first_pref, first_route, has_been_here, is_own, route_hop};
 
 use addr4::{Addr, Prefix};
 use bgp_attr::{Attrs, Neighbour, Route, SharedAttrs, Speaker};
@@ -33,11 +33,19 @@ fn first_route(peer: &Neighbour, attrs: SharedAttrs) -> Route
     }
 }
 
-/// Whether the local AS is in the path, or the next hop is the local address.
+/// Whether the local AS is in the path (RFC 4271, section 9.1.2), or reflectors say that the route has been here (RFC 4456,
+/// section 8).
+fn has_been_here(me: &Speaker, attrs: &Attrs) -> bool
+    ensures { result ≡ has_been_here me.now attrs.now }
+{
+    attrs.path.has(me.asn) || attrs.reflection.has_been_at(me.id)
+}
+
+/// Whether the route has been here, or the next hop is the local address.
 fn is_own(me: &Speaker, attrs: &Attrs) -> bool
     ensures { result ≡ is_own me.now attrs.now }
 {
-    attrs.path.has(me.asn) || attrs.next_hop == me.addr
+    has_been_here(me, attrs) || attrs.next_hop == me.addr
 }
 
 /// The next hop of what the rules make of a row above; none where they let none through. Takes no memory.

@@ -30,7 +30,8 @@ pub fn nothing_is_sent_at_first()
     ensures first { NothingAtFirst }
 {}
 
-/// Whatever the rules, no route goes back to its peer, or from an internal peer to another, and only prefixes of hosts go out.
+/// Whatever the rules, no route goes back to its peer, or from an internal peer to another of which neither is a client, and only
+/// prefixes of hosts go out.
 pub fn what_goes_out()
     ensures { OnlyWhatMayGo }
 {}

@@ -2,7 +2,7 @@
 
 ghost use Rattle.std.specs.Prelude.{◌≡◌, IfOk};
 ghost use Rattle.link_change.specs.Changes.{IsChangeOf};
-ghost use Rattle.filter_bank.specs.Outgoing.{is_kept_from, may_go, first_out, let_out, outgoing};
+ghost use Rattle.filter_bank.specs.Outgoing.{is_reflected, is_kept_from, may_go, first_out, let_out, outgoing};
 
 use crate::sent::Sent;
 use addr4::{Memory, Prefix, Row};
@@ -10,13 +10,23 @@ use bgp_attr::{Neighbour, Route, is_host_prefix};
 use link_change::Change;
 use policy_rules::{Rules, judge};
 
+/// Whether a route of one peer goes to the other inside the AS, since one of them is a client (RFC 4456, section 6).
+fn is_reflected(from: &Neighbour, to: &Neighbour) -> bool
+    ensures { result ≡ is_reflected from.now to.now }
+{
+    from.client || to.client
+}
+
 /// Whether a route from there is kept from the peer.
 fn is_kept_from(peer: &Neighbour, from: Option<Neighbour>) -> bool
     ensures { result ≡ is_kept_from peer.now from }
 {
     match from {
         None => false,
-        Some(from) => from.number == peer.number || from.internal && peer.internal,
+        Some(from) => {
+            from.number == peer.number
+                || from.internal && peer.internal && !is_reflected(&from, peer)
+        }
     }
 }
 

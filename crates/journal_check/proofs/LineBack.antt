@@ -19,6 +19,7 @@ use Rattle.bgp_attr.specs.declared.attrs.Aggregator.{Aggregator}
 use Rattle.bgp_attr.specs.declared.unrecognized.Unrecognized.{Unrecognized}
 use Rattle.bgp_attr.specs.declared.attrs.Attrs.{Attrs}
 use Rattle.bgp_attr.specs.declared.route.Route.{Route}
+use Rattle.bgp_attr.specs.Reflections.{Reflected}
 use Rattle.rib_route.specs.declared.Proto.{Proto}
 use Rattle.rib_route.specs.declared.protocol.FibProto.{FibProto}
 use Rattle.rib_route.specs.declared.protocol.FibProto.TheVariants.{Connected, Static, Ospf, Rip, Ebgp, Ibgp}
@@ -28,7 +29,7 @@ use Rattle.rib_route.specs.declared.rows.FibRow.{FibRow}
 use Rattle.rib_route.specs.Distances.{fib_proto, external_proto}
 use Rattle.rib_route.specs.Ifaces.{is_name_byte, is_iface_name}
 use Rattle.journal_text.specs.Names.{IsNameNumber, IsNamed, IsNamedTask, link_of}
-use Rattle.journal_text.specs.Texts.{origin_number, bracketed, segment_text, path_text, lettered, aggregator_text, unrecognized_text, required_text, optional_text, attrs_text, sender_number, field_text, known_text, route_text, fib_proto_text, proto_text, gateway_text, with_colons, interior_text, external_text, fib_text, value_text, match_text, dot_number, link_text, task_text, held_words, words_line, answer_text, entry_words, code_text, line_words, line_text}
+use Rattle.journal_text.specs.Texts.{origin_number, bracketed, segment_text, path_text, lettered, aggregator_text, addresses_text, originator_text, clusters_text, reflection_text, unrecognized_text, required_text, optional_text, attrs_text, sender_number, field_text, known_text, route_text, fib_proto_text, proto_text, gateway_text, with_colons, interior_text, external_text, fib_text, value_text, match_text, dot_number, link_text, task_text, held_words, words_line, answer_text, entry_words, code_text, line_words, line_text}
 use Rattle.journal_text.specs.declared.link.Link.{Link}
 use Rattle.journal_text.specs.declared.link.Link.TheVariants.{In, Peer, Filt, Res, Org, Lost, Low, Dyn, Int, Red, Best, ReadRib, Ebgp as EbgpLink, Ibgp as IbgpLink, Ext, Fib, Read as ReadLink, Outf, Adv}
 use Rattle.journal_text.specs.declared.link.Task.{Task}
@@ -38,7 +39,7 @@ use Rattle.journal_text.specs.declared.value.Value.TheVariants as values
 use Rattle.journal_text.specs.declared.entry.Entry.{Entry}
 use Rattle.journal_text.specs.declared.entry.Entry.TheVariants.{Begin, Inherit, Add, Delete, Replace, Asked, Weld, End}
 use Rattle.journal_text.specs.declared.line.Code.{Code}
-use Rattle.journal_text.specs.declared.line.Code.TheVariants.{E1, E2, E3, E4, E5, E6, E7}
+use Rattle.journal_text.specs.declared.line.Code.TheVariants.{E1, E2, E3, E4, E5, E6, E7, E8}
 use Rattle.journal_text.specs.declared.line.Line.{Line}
 use Rattle.journal_text.specs.declared.line.Line.TheVariants.{Journal, Out, Note, Row, Rows, Cover, Settled, Work, Bound, Idle, Ignored, Absent, Refused}
 use Rattle.journal_text.proofs.ReadBack.{link_back}
@@ -142,6 +143,24 @@ aggregator_ink (Some g) h =
     (both (44 ∷ 103 ∷ decimal g.asn) (47 ∷ addr_text g.addr) (ink 44 refl (103 ∷ decimal g.asn) (ink 103 refl (decimal g.asn) (ink_decimal g.asn (omega arith)))) (ink 47 refl (addr_text g.addr) (ink_addr g.addr)))
     (partial_ink g.partial)
 
+originator_ink : (originator : Option ℕ) → AreInk (originator_text originator)
+unfolding originator_text
+originator_ink None = tt
+originator_ink (Some id) = ink 44 refl (114 ∷ addr_text id) (ink 114 refl (addr_text id) (ink_addr id))
+
+addresses_ink : (addresses : List ℕ) → AreInk (addresses_text addresses)
+addresses_ink [] = tt
+addresses_ink (a ∷ []) = ink_addr a
+addresses_ink (a ∷ b ∷ addresses) = both (addr_text a) (59 ∷ addresses_text (b ∷ addresses)) (ink_addr a) (ink 59 refl (addresses_text (b ∷ addresses)) (addresses_ink (b ∷ addresses)))
+
+clusters_ink : (clusters : List ℕ) → AreInk (clusters_text clusters)
+unfolding clusters_text
+clusters_ink [] = tt
+clusters_ink (c ∷ cs) = ink 44 refl (99 ∷ addresses_text (c ∷ cs)) (ink 99 refl (addresses_text (c ∷ cs)) (addresses_ink (c ∷ cs)))
+
+reflection_ink : (r : Reflected) → AreInk (reflection_text r)
+reflection_ink r = both (originator_text r.originator) (clusters_text r.clusters) (originator_ink r.originator) (clusters_ink r.clusters)
+
 unrecognized_ink : (u : Unrecognized) → HasOctets u → AreInk (unrecognized_text u)
 unfolding unrecognized_text
 unrecognized_ink u h =
@@ -177,8 +196,9 @@ optional_ink a h =
 attrs_ink : (a : Attrs) → HasRanges a → AreInk (attrs_text a)
 unfolding attrs_text
 attrs_ink a h =
-    both (required_text a ++ optional_text a) (flat_map unrecognized_text a.unrecognized)
-    (both (required_text a) (optional_text a) (required_ink a h) (optional_ink a h)) (all_flat HasOctets IsInk unrecognized_text unrecognized_ink a.unrecognized h.unrecognized)
+    both (required_text a ++ optional_text a ++ reflection_text a.reflection) (flat_map unrecognized_text a.unrecognized)
+    (both (required_text a ++ optional_text a) (reflection_text a.reflection)
+    (both (required_text a) (optional_text a) (required_ink a h) (optional_ink a h)) (reflection_ink a.reflection)) (all_flat HasOctets IsInk unrecognized_text unrecognized_ink a.unrecognized h.unrecognized)
 
 field_ink : (n : ℕ) → n < 2 ^ 32 → AreInk (field_text n)
 field_ink n small = both (decimal n) (58 ∷ []) (ink_decimal n (omega arith)) (ink_by (58 ∷ []) refl)
@@ -442,6 +462,7 @@ code_ink E4 = ink_by (code_text E4) refl
 code_ink E5 = ink_by (code_text E5) refl
 code_ink E6 = ink_by (code_text E6) refl
 code_ink E7 = ink_by (code_text E7) refl
+code_ink E8 = ink_by (code_text E8) refl
 
 line_has : (line : Line) → IsLine line → HasWords (line_words line) (said line)
 unfolding is_skipped

@@ -1,14 +1,13 @@
 //! Reading a line of a journal.
 
-ghost use Rattle.std.specs.Prelude.{◌≡◌, ◌∷◌, IfOk, option_map};
-ghost use Rattle.addr4.specs.Texts.{parts, parts_after};
+ghost use Rattle.std.specs.Prelude.{◌≡◌, IfOk, option_map};
+ghost use Rattle.addr4.specs.Texts.{parts};
 ghost use Rattle.journal_text.specs.declared.entry.Entry.TheVariants as entries;
 ghost use Rattle.journal_check.specs.Readings.{answer_of, entry_from, entry_of_five, entry_of_four, entry_of_three, entry_of_two, entry_on_both, entry_on_row, entry_on_two, is_clean, is_skipped, printed_prefix, reading_of, value_of};
 
 use crate::text::Text;
 use addr4::{Memory, Prefix, all_printable, first_part, read_addr, read_number_below};
 use journal_text::{Entry, Link};
-use memchr::memchr;
 use std::alloc::Global;
 
 /// What a line of a journal says.
@@ -265,16 +264,6 @@ fn entry_on_both(
     }
 }
 
-// The part before the first space, and what follows it, as `first_part`, but found by blocks of bytes: for parts that are long.
-fn long_part(text: &[u8]) -> (&[u8], Option<&[u8]>)
-    ensures { parts 32 text.now ≡ result.0.now ∷ parts_after 32 (option_map (λ r. r.now) result.1) }
-{
-    match memchr(b' ', text) {
-        Some(at) => (&text[..at], Some(&text[at + 1..])),
-        None => (text, None),
-    }
-}
-
 // The entry of the words of a line.
 #[tactic(auto, using(crate::proofs::WordLemmas::no_sixth_word), unfolding(crate::specs::Readings::entry_from))]
 fn entry(alloc: Global, line: &[u8]) -> Result<Option<Entry<Text>>, Memory>
@@ -292,11 +281,11 @@ fn entry(alloc: Global, line: &[u8]) -> Result<Option<Entry<Text>>, Memory>
     let Some(rest) = rest else {
         return Ok(entry_of_three(command, link, prefix));
     };
-    let (old, rest) = long_part(rest);
+    let (old, rest) = first_part(rest, b' ');
     let Some(rest) = rest else {
         return entry_of_four(alloc, command, link, prefix, old);
     };
-    let (new, more) = long_part(rest);
+    let (new, more) = first_part(rest, b' ');
     if let Some(_more) = more {
         return Ok(None);
     }

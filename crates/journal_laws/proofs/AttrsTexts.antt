@@ -10,12 +10,12 @@ use Rattle.bgp_attr.specs.declared.attrs.Origin.TheVariants.{Igp, Egp, Incomplet
 use Rattle.bgp_attr.specs.declared.attrs.Aggregator.{Aggregator}
 use Rattle.bgp_attr.specs.declared.attrs.Attrs.{Attrs}
 use Rattle.bgp_attr.specs.declared.unrecognized.Unrecognized.{Unrecognized}
-use Rattle.journal_text.specs.Texts.{origin_number, path_text, lettered, aggregator_text, unrecognized_text, required_text, optional_text, attrs_text}
+use Rattle.journal_text.specs.Texts.{origin_number, path_text, lettered, aggregator_text, addresses_text, originator_text, clusters_text, reflection_text, unrecognized_text, required_text, optional_text, attrs_text}
 use Rattle.journal_check.specs.Laws.{IsNumberIfAny, HasNumber, HasRanges}
 use Rattle.journal_check.proofs.InkLemmas.{both_true}
-use Rattle.journal_laws.specs.Printed.{HasAddress, HasAddresses}
+use Rattle.journal_laws.specs.Printed.{IsAddressIfAny, HasAddress, HasAddresses}
 use Rattle.journal_laws.proofs.Spans.{begins, clash, rest_same}
-use Rattle.journal_laws.proofs.NumberTexts.{is_dotted, number_told, addr_told}
+use Rattle.journal_laws.proofs.NumberTexts.{AreSmall, is_dotted, is_listed, number_told, addr_told, addresses_told}
 use Rattle.journal_laws.proofs.PathTexts.{path_told, all_told}
 
 -- ---- what may follow: nothing, or a comma and one of some letters
@@ -66,8 +66,14 @@ tag_opens letter later here text None (c ∷ d ∷ s) is more f =
 abbrev last_letters : ℕ → Bool
 last_letters d = nat_eq d 120
 
+abbrev clusters_letters : ℕ → Bool
+clusters_letters d = nat_eq d 99 || last_letters d
+
+abbrev originator_letters : ℕ → Bool
+originator_letters d = nat_eq d 114 || clusters_letters d
+
 abbrev aggregator_letters : ℕ → Bool
-aggregator_letters d = nat_eq d 103 || last_letters d
+aggregator_letters d = nat_eq d 103 || originator_letters d
 
 abbrev atomic_letters : ℕ → Bool
 atomic_letters d = nat_eq d 97 || aggregator_letters d
@@ -169,16 +175,58 @@ addr_small : (o : Option Aggregator) (g : Aggregator) → HasAddress o → o ≡
 addr_small None g h e = absurd (cc)
 addr_small (Some x) g h e = let same : x ≡ g = cc in let at = ap (λ (a : Aggregator). a.addr) same in omega arith
 
-aggregator_told : (m n : Option Aggregator) (s t : List ℕ) → HasNumber m → HasNumber n → HasAddress m → HasAddress n → opens last_letters s ≡ true → opens last_letters t ≡ true → aggregator_text m ++ s ≡ aggregator_text n ++ t → (m ≡ n) × (s ≡ t)
+aggregator_told : (m n : Option Aggregator) (s t : List ℕ) → HasNumber m → HasNumber n → HasAddress m → HasAddress n → opens originator_letters s ≡ true → opens originator_letters t ≡ true → aggregator_text m ++ s ≡ aggregator_text n ++ t → (m ≡ n) × (s ≡ t)
 aggregator_told m n s t hm hn am an f g e =
-    tag_told 103 last_letters speaker_text m n s t refl f g
-    (λ x y is_x is_y same. speaker_told last_letters x y s t (asn_small m x hm is_x) (asn_small n y hn is_y) (addr_small m x am is_x) (addr_small n y an is_y) f g same)
+    tag_told 103 originator_letters speaker_text m n s t refl f g
+    (λ x y is_x is_y same. speaker_told originator_letters x y s t (asn_small m x hm is_x) (asn_small n y hn is_y) (addr_small m x am is_x) (addr_small n y an is_y) f g same)
     (ap (λ u. u ++ s) (sym (as_speaker m)) ∙ (e ∙ ap (λ u. u ++ t) (as_speaker n)))
+
+-- ---- what reflectors added
+
+as_originator : (o : Option ℕ) → originator_text o ≡ tagged 114 addr_text o
+unfolding originator_text
+as_originator None = refl
+as_originator (Some id) = refl
+
+small_address : (o : Option ℕ) (a : ℕ) → IsAddressIfAny o → o ≡ Some a → a < 2 ^ 32
+small_address None a h e = absurd (cc)
+small_address (Some x) a h e = let same : x ≡ a = cc in omega arith
+
+originator_told : (m n : Option ℕ) (s t : List ℕ) → IsAddressIfAny m → IsAddressIfAny n → opens clusters_letters s ≡ true → opens clusters_letters t ≡ true → originator_text m ++ s ≡ originator_text n ++ t → (m ≡ n) × (s ≡ t)
+originator_told m n s t hm hn f g e =
+    tag_told 114 clusters_letters addr_text m n s t refl f g
+    (λ x y is_x is_y same. addr_told x y s t (small_address m x hm is_x) (small_address n y hn is_y) (not_begun is_dotted clusters_letters s refl f) (not_begun is_dotted clusters_letters t refl g) same)
+    (ap (λ u. u ++ s) (sym (as_originator m)) ∙ (e ∙ ap (λ u. u ++ t) (as_originator n)))
+
+abbrev if_any : List ℕ → Option (List ℕ)
+if_any [] = None
+if_any (n ∷ ns) = Some (n ∷ ns)
+
+as_clusters : (cs : List ℕ) → clusters_text cs ≡ tagged 99 addresses_text (if_any cs)
+unfolding clusters_text
+as_clusters [] = refl
+as_clusters (c ∷ cs) = refl
+
+clusters_told : (ms ns s t : List ℕ) → AreSmall ms → AreSmall ns → opens last_letters s ≡ true → opens last_letters t ≡ true → clusters_text ms ++ s ≡ clusters_text ns ++ t → (ms ≡ ns) × (s ≡ t)
+unfolding clusters_text
+clusters_told [] [] s t hm hn f g e = (refl, e)
+clusters_told [] (n ∷ ns) s t hm hn f g e = absurd (clash (last_letters 99) refl (sym (ap (opens last_letters) e) ∙ f))
+clusters_told (m ∷ ms) [] s t hm hn f g e = absurd (clash (last_letters 99) refl (ap (opens last_letters) e ∙ g))
+clusters_told (m ∷ ms) (n ∷ ns) s t hm hn f g e =
+    let x = addresses_text (m ∷ ms) ++ s in
+    let y = addresses_text (n ∷ ns) ++ t in
+    addresses_told m n ms ns s t hm hn (not_begun is_listed last_letters s refl f) (not_begun is_listed last_letters t refl g) (rest_same 99 99 x y (rest_same 44 44 (99 ∷ x) (99 ∷ y) e))
 
 -- ---- all parts, each with those behind it
 
+abbrev pub behind_clusters : Attrs → List ℕ
+behind_clusters a = flat_map unrecognized_text a.unrecognized
+
+abbrev pub behind_originator : Attrs → List ℕ
+behind_originator a = clusters_text a.reflection.clusters ++ behind_clusters a
+
 abbrev pub behind_aggregator : Attrs → List ℕ
-behind_aggregator a = flat_map unrecognized_text a.unrecognized
+behind_aggregator a = originator_text a.reflection.originator ++ behind_originator a
 
 abbrev pub behind_atomic : Attrs → List ℕ
 behind_atomic a = aggregator_text a.aggregator ++ behind_aggregator a
@@ -222,21 +270,33 @@ required_parted a s =
 pub attrs_parted : (a : Attrs) → attrs_text a ≡ 111 ∷ (decimal (origin_number a.origin) ++ behind_origin a)
 unfolding attrs_text
 attrs_parted a =
-    append_assoc (required_text a) (optional_text a) (behind_aggregator a)
-    ∙ (ap (λ s. required_text a ++ s) (optional_parted a) ∙ required_parted a (behind_next_hop a))
+    append_assoc (required_text a ++ optional_text a) (reflection_text a.reflection) (behind_clusters a)
+    ∙ (ap (λ s. required_text a ++ optional_text a ++ s) (append_assoc (originator_text a.reflection.originator) (clusters_text a.reflection.clusters) (behind_clusters a))
+    ∙ (append_assoc (required_text a) (optional_text a) (behind_aggregator a)
+    ∙ (ap (λ s. required_text a ++ s) (optional_parted a) ∙ required_parted a (behind_next_hop a))))
 
-open_aggregator : (a : Attrs) → opens last_letters (behind_aggregator a) ≡ true
+open_clusters : (a : Attrs) → opens last_letters (behind_clusters a) ≡ true
 unfolding unrecognized_text
-open_aggregator a = by a.unrecognized
+open_clusters a = by a.unrecognized
   where
     by : (us : List Unrecognized) → opens last_letters (flat_map unrecognized_text us) ≡ true
     by [] = refl
     by (u ∷ us) = refl
 
+open_originator : (a : Attrs) → opens clusters_letters (behind_originator a) ≡ true
+open_originator a =
+    ap (λ t. opens clusters_letters (t ++ behind_clusters a)) (as_clusters a.reflection.clusters)
+    ∙ tag_opens 99 last_letters clusters_letters addresses_text (if_any a.reflection.clusters) (behind_clusters a) refl (λ d e. or_right (nat_eq d 99) (last_letters d) e) (open_clusters a)
+
+open_aggregator : (a : Attrs) → opens originator_letters (behind_aggregator a) ≡ true
+open_aggregator a =
+    ap (λ t. opens originator_letters (t ++ behind_originator a)) (as_originator a.reflection.originator)
+    ∙ tag_opens 114 clusters_letters originator_letters addr_text a.reflection.originator (behind_originator a) refl (λ d e. or_right (nat_eq d 114) (clusters_letters d) e) (open_originator a)
+
 open_atomic : (a : Attrs) → opens aggregator_letters (behind_atomic a) ≡ true
 open_atomic a =
     ap (λ t. opens aggregator_letters (t ++ behind_aggregator a)) (as_speaker a.aggregator)
-    ∙ tag_opens 103 last_letters aggregator_letters speaker_text a.aggregator (behind_aggregator a) refl (λ d e. or_right (nat_eq d 103) (last_letters d) e) (open_aggregator a)
+    ∙ tag_opens 103 originator_letters aggregator_letters speaker_text a.aggregator (behind_aggregator a) refl (λ d e. or_right (nat_eq d 103) (originator_letters d) e) (open_aggregator a)
 
 open_local : (a : Attrs) → opens atomic_letters (behind_local a) ≡ true
 open_local a =
@@ -280,7 +340,9 @@ attrs_told a b ha hb aa ab e =
     let local_pref = lettered_told 108 atomic_letters a.local_pref b.local_pref (behind_local a) (behind_local b) refl (open_local a) (open_local b) ha.local_pref hb.local_pref med.1 in
     let atomic = atomic_told a.atomic b.atomic (behind_atomic a) (behind_atomic b) (open_atomic a) (open_atomic b) local_pref.1 in
     let aggregator = aggregator_told a.aggregator b.aggregator (behind_aggregator a) (behind_aggregator b) ha.aggregator hb.aggregator aa.aggregator ab.aggregator (open_aggregator a) (open_aggregator b) atomic.1 in
-    let unrecognized = all_told a.unrecognized b.unrecognized ha.unrecognized hb.unrecognized aggregator.1 in
+    let originator = originator_told a.reflection.originator b.reflection.originator (behind_originator a) (behind_originator b) aa.originator ab.originator (open_originator a) (open_originator b) aggregator.1 in
+    let clusters = clusters_told a.reflection.clusters b.reflection.clusters (behind_clusters a) (behind_clusters b) aa.clusters ab.clusters (open_clusters a) (open_clusters b) originator.1 in
+    let unrecognized = all_told a.unrecognized b.unrecognized ha.unrecognized hb.unrecognized clusters.1 in
     let same : origin_by (origin_number a.origin) ≡ origin_by (origin_number b.origin) = ap origin_by origin.0 in
     let origins = sym (origin_back a.origin) ∙ (same ∙ origin_back b.origin) in
     λ i. record {
@@ -291,5 +353,6 @@ attrs_told a b ha hb aa ab e =
       local_pref = local_pref.0 i;
       atomic = atomic.0 i;
       aggregator = aggregator.0 i;
+      reflection = record { originator = originator.0 i; clusters = clusters.0 i };
       unrecognized = unrecognized i;
     }

@@ -1,15 +1,16 @@
 -- Numbers, addresses and octets are told by their texts.
-use Rattle.std.proofs.Common.{◌≡◌, ℕ, zero, suc, ◌/◌, ◌%◌, ◌^◌, ◌<◌, ◌≤◌, ◌||◌, Bool, true, false, nat_eq, List, [], ◌∷◌, ◌++◌, length, get_or, Ok, Result, refl, sym, ap, ◌∙◌, arith, append_assoc}
+use Rattle.std.proofs.Common.{◌≡◌, ℕ, zero, suc, ◌/◌, ◌%◌, ◌^◌, ◌<◌, ◌≤◌, ◌||◌, Bool, true, false, nat_eq, List, [], ◌∷◌, ◌++◌, length, map, get_or, Ok, Result, refl, sym, ap, ◌∙◌, arith, append_assoc}
 use Rattle.std.proofs.lemmas.Bool.Decides.{nat_tests}
 use Rattle.std.proofs.lemmas.List.{append-nil}
 use Rattle.std.proofs.lemmas.Fmt.{decimal_is_IsNumeral, decimal_injective}
 use Rattle.std.specs.Char.{is_ascii_digit}
 use Rattle.std.specs.Fmt.{decimal}
 use Rattle.std.specs.Int.{w32, to_be_bytes}
-use Rattle.std.specs.List.{AllByRecursion}
+use Rattle.std.specs.List.{AllByRecursion, join_with_byte}
 use Rattle.hex.specs.Hex.{IsBytes, encode_lower, encode_with, lower_digits, is_hex_digit, decode_of}
 use Rattle.hex.proofs.HexLemmas.{decode_of-encode_lower}
 use Rattle.addr4.specs.Texts.{dotted, addr_text, addr_of}
+use Rattle.journal_text.specs.Texts.{addresses_text}
 use Rattle.journal_check.specs.Laws.{AreOctets}
 use Rattle.journal_check.proofs.InkLemmas.{decimal_are, dotted_are}
 use Rattle.journal_check.proofs.PrefixBack.{addr_back}
@@ -36,6 +37,58 @@ number_told m n s t hm hn f g e =
     let parted = spans is_ascii_digit (decimal m) (decimal n) s t (digits_pass m hm) (digits_pass n hn) f g e in
     (decimal_injective m n hm hn parted.0, parted.1)
 
+-- ---- numbers with a byte between their texts
+
+-- Behind each text stands nothing that passes the first test, as the byte doesn't; and the byte passes the second test, as what
+-- passes the first one does.
+record ArePartedBy (byte : ℕ) (text : ℕ → List ℕ) (test either : ℕ → Bool) : Type 0 where
+  told : (m n : ℕ) (s t : List ℕ) → m < 2 ^ 32 → n < 2 ^ 32 → begins test s ≡ false → begins test t ≡ false → text m ++ s ≡ text n ++ t → (m ≡ n) × (s ≡ t)
+  fails : test byte ≡ false
+  passes : either byte ≡ true
+  weaker : (c : ℕ) → test c ≡ true → either c ≡ true
+
+-- texts with the byte before each
+abbrev behind : ℕ → (ℕ → List ℕ) → List ℕ → List ℕ
+behind byte text [] = []
+behind byte text (n ∷ ns) = byte ∷ text n ++ behind byte text ns
+
+abbrev joined : ℕ → (ℕ → List ℕ) → List ℕ → List ℕ
+joined byte text ns = join_with_byte byte (map text ns)
+
+joined_by : (byte : ℕ) (text : ℕ → List ℕ) (n : ℕ) (ns : List ℕ) → joined byte text (n ∷ ns) ≡ text n ++ behind byte text ns
+joined_by byte text n [] = sym (append-nil (text n))
+joined_by byte text n (m ∷ ns) = ap (λ t. text n ++ byte ∷ t) (joined_by byte text m ns)
+
+abbrev pub AreSmall : List ℕ → Type 0
+AreSmall ns = AllByRecursion (λ n. n < 2 ^ 32) ns
+
+fails_behind : (byte : ℕ) (text : ℕ → List ℕ) (test either : ℕ → Bool) → ArePartedBy byte text test either → (ns s : List ℕ) → begins either s ≡ false → begins test (behind byte text ns ++ s) ≡ false
+fails_behind byte text test either are [] s f = begins_less test either are.weaker s f
+fails_behind byte text test either are (n ∷ ns) s f = are.fails
+
+behind_told : (byte : ℕ) (text : ℕ → List ℕ) (test either : ℕ → Bool) → ArePartedBy byte text test either → (ms ns s t : List ℕ) → AreSmall ms → AreSmall ns → begins either s ≡ false → begins either t ≡ false
+    → behind byte text ms ++ s ≡ behind byte text ns ++ t → (ms ≡ ns) × (s ≡ t)
+behind_told byte text test either are [] [] s t hm hn f g e = (refl, e)
+behind_told byte text test either are [] (n ∷ ns) s t hm hn f g e = absurd (clash (begins either s) f (ap (begins either) e ∙ are.passes))
+behind_told byte text test either are (m ∷ ms) [] s t hm hn f g e = absurd (clash (begins either t) g (ap (begins either) (sym e) ∙ are.passes))
+behind_told byte text test either are (m ∷ ms) (n ∷ ns) s t hm hn f g e =
+    let whole : text m ++ (behind byte text ms ++ s) ≡ text n ++ (behind byte text ns ++ t) =
+    sym (append_assoc (text m) (behind byte text ms) s) ∙ (rest_same byte byte ((text m ++ behind byte text ms) ++ s) ((text n ++ behind byte text ns) ++ t) e ∙ append_assoc (text n) (behind byte text ns) t) in
+    let first = are.told m n (behind byte text ms ++ s) (behind byte text ns ++ t) hm.0 hn.0 (fails_behind byte text test either are ms s f) (fails_behind byte text test either are ns t g) whole in
+    let later = behind_told byte text test either are ms ns s t hm.1 hn.1 f g first.1 in
+    ((λ i. first.0 i ∷ later.0 i), later.1)
+
+-- one number at least, behind which nothing stands that passes the second test
+joined_told : (byte : ℕ) (text : ℕ → List ℕ) (test either : ℕ → Bool) → ArePartedBy byte text test either → (m n : ℕ) (ms ns s t : List ℕ) → AreSmall (m ∷ ms) → AreSmall (n ∷ ns) → begins either s ≡ false → begins either t ≡ false
+    → joined byte text (m ∷ ms) ++ s ≡ joined byte text (n ∷ ns) ++ t → (m ∷ ms ≡ n ∷ ns) × (s ≡ t)
+joined_told byte text test either are m n ms ns s t hm hn f g e =
+    let whole : text m ++ (behind byte text ms ++ s) ≡ text n ++ (behind byte text ns ++ t) =
+    sym (append_assoc (text m) (behind byte text ms) s)
+    ∙ (ap (λ d. d ++ s) (sym (joined_by byte text m ms)) ∙ (e ∙ (ap (λ d. d ++ t) (joined_by byte text n ns) ∙ append_assoc (text n) (behind byte text ns) t))) in
+    let first = are.told m n (behind byte text ms ++ s) (behind byte text ns ++ t) hm.0 hn.0 (fails_behind byte text test either are ms s f) (fails_behind byte text test either are ns t g) whole in
+    let later = behind_told byte text test either are ms ns s t hm.1 hn.1 f g first.1 in
+    ((λ i. first.0 i ∷ later.0 i), later.1)
+
 -- ---- numbers with dots between them
 
 abbrev pub is_dotted : ℕ → Bool
@@ -47,40 +100,19 @@ or_left a b e = cc
 pub digit_is_dotted : (c : ℕ) → is_ascii_digit c ≡ true → is_dotted c ≡ true
 digit_is_dotted c e = or_left (is_ascii_digit c) (nat_eq c 46) e
 
--- numbers with a dot before each
-abbrev behind_dots : List ℕ → List ℕ
-behind_dots [] = []
-behind_dots (n ∷ ns) = 46 ∷ decimal n ++ behind_dots ns
-
-dotted_by : (n : ℕ) (ns : List ℕ) → dotted (n ∷ ns) ≡ decimal n ++ behind_dots ns
-dotted_by n [] = sym (append-nil (decimal n))
-dotted_by n (m ∷ ns) = ap (λ t. decimal n ++ 46 ∷ t) (dotted_by m ns)
-
-abbrev pub AreSmall : List ℕ → Type 0
-AreSmall ns = AllByRecursion (λ n. n < 2 ^ 32) ns
-
-no_digit : (ns : List ℕ) (s : List ℕ) → begins is_dotted s ≡ false → begins is_ascii_digit (behind_dots ns ++ s) ≡ false
-no_digit [] s f = begins_less is_ascii_digit is_dotted digit_is_dotted s f
-no_digit (n ∷ ns) s f = refl
-
-behind_told : (ms ns s t : List ℕ) → AreSmall ms → AreSmall ns → begins is_dotted s ≡ false → begins is_dotted t ≡ false → behind_dots ms ++ s ≡ behind_dots ns ++ t → (ms ≡ ns) × (s ≡ t)
-behind_told [] [] s t hm hn f g e = (refl, e)
-behind_told [] (n ∷ ns) s t hm hn f g e = absurd (clash (begins is_dotted s) f (ap (begins is_dotted) e))
-behind_told (m ∷ ms) [] s t hm hn f g e = absurd (clash (begins is_dotted t) g (ap (begins is_dotted) (sym e)))
-behind_told (m ∷ ms) (n ∷ ns) s t hm hn f g e =
-    let small_m = hm.0 in
-    let small_n = hn.0 in
-    let whole : decimal m ++ (behind_dots ms ++ s) ≡ decimal n ++ (behind_dots ns ++ t) =
-    sym (append_assoc (decimal m) (behind_dots ms) s) ∙ (rest_same 46 46 ((decimal m ++ behind_dots ms) ++ s) ((decimal n ++ behind_dots ns) ++ t) e ∙ append_assoc (decimal n) (behind_dots ns) t) in
-    let first = number_told m n (behind_dots ms ++ s) (behind_dots ns ++ t) (omega arith) (omega arith) (no_digit ms s f) (no_digit ns t g) whole in
-    let later = behind_told ms ns s t hm.1 hn.1 f g first.1 in
-    ((λ i. first.0 i ∷ later.0 i), later.1)
+parted_by_dots : ArePartedBy 46 decimal is_ascii_digit is_dotted
+parted_by_dots = record {
+  told = λ m n s t hm hn f g e. number_told m n s t (omega (arith, hm)) (omega (arith, hn)) f g e;
+  fails = refl;
+  passes = refl;
+  weaker = digit_is_dotted;
+}
 
 begins_dotted : (n : ℕ) (ns t : List ℕ) → n < 2 ^ 64 → begins is_dotted (dotted (n ∷ ns) ++ t) ≡ true
 begins_dotted n ns t small =
-    ap (λ d. begins is_dotted (d ++ t)) (dotted_by n ns)
-    ∙ (ap (begins is_dotted) (append_assoc (decimal n) (behind_dots ns) t)
-    ∙ begins_by is_dotted (decimal n) (behind_dots ns ++ t) (decimal_is_IsNumeral n small).0.0 (pass_more is_ascii_digit is_dotted digit_is_dotted (decimal n) (digits_pass n small)))
+    ap (λ d. begins is_dotted (d ++ t)) (joined_by 46 decimal n ns)
+    ∙ (ap (begins is_dotted) (append_assoc (decimal n) (behind 46 decimal ns) t)
+    ∙ begins_by is_dotted (decimal n) (behind 46 decimal ns ++ t) (decimal_is_IsNumeral n small).0.0 (pass_more is_ascii_digit is_dotted digit_is_dotted (decimal n) (digits_pass n small)))
 
 -- numbers behind which neither a digit nor a dot stands
 pub dotted_told : (ms ns s t : List ℕ) → AreSmall ms → AreSmall ns → begins is_dotted s ≡ false → begins is_dotted t ≡ false → dotted ms ++ s ≡ dotted ns ++ t → (ms ≡ ns) × (s ≡ t)
@@ -91,15 +123,7 @@ dotted_told [] (n ∷ ns) s t hm hn f g e =
 dotted_told (m ∷ ms) [] s t hm hn f g e =
     let small = hm.0 in
     absurd (clash (begins is_dotted t) g (ap (begins is_dotted) (sym e) ∙ begins_dotted m ms s (omega arith)))
-dotted_told (m ∷ ms) (n ∷ ns) s t hm hn f g e =
-    let small_m = hm.0 in
-    let small_n = hn.0 in
-    let whole : decimal m ++ (behind_dots ms ++ s) ≡ decimal n ++ (behind_dots ns ++ t) =
-    sym (append_assoc (decimal m) (behind_dots ms) s)
-    ∙ (ap (λ d. d ++ s) (sym (dotted_by m ms)) ∙ (e ∙ (ap (λ d. d ++ t) (dotted_by n ns) ∙ append_assoc (decimal n) (behind_dots ns) t))) in
-    let first = number_told m n (behind_dots ms ++ s) (behind_dots ns ++ t) (omega arith) (omega arith) (no_digit ms s f) (no_digit ns t g) whole in
-    let later = behind_told ms ns s t hm.1 hn.1 f g first.1 in
-    ((λ i. first.0 i ∷ later.0 i), later.1)
+dotted_told (m ∷ ms) (n ∷ ns) s t hm hn f g e = joined_told 46 decimal is_ascii_digit is_dotted parted_by_dots m n ms ns s t hm hn f g e
 
 -- ---- addresses
 
@@ -124,6 +148,22 @@ pub addr_told : (a b : ℕ) (s t : List ℕ) → a < 2 ^ 32 → b < 2 ^ 32 → b
 addr_told a b s t ha hb f g e =
     let parted = spans is_dotted (addr_text a) (addr_text b) s t (addr_passes a) (addr_passes b) f g e in
     (addr_same a b ha hb parted.0, parted.1)
+
+abbrev pub is_listed : ℕ → Bool
+is_listed c = is_dotted c || nat_eq c 59
+
+parted_by_semicolons : ArePartedBy 59 addr_text is_dotted is_listed
+parted_by_semicolons = record {
+  told = λ m n s t hm hn f g e. addr_told m n s t hm hn f g e;
+  fails = refl;
+  passes = refl;
+  weaker = λ c e. or_left (is_dotted c) (nat_eq c 59) e;
+}
+
+-- one address at least, behind which neither a digit, nor a dot, nor a semicolon stands
+pub addresses_told : (m n : ℕ) (ms ns s t : List ℕ) → AreSmall (m ∷ ms) → AreSmall (n ∷ ns) → begins is_listed s ≡ false → begins is_listed t ≡ false
+    → addresses_text (m ∷ ms) ++ s ≡ addresses_text (n ∷ ns) ++ t → (m ∷ ms ≡ n ∷ ns) × (s ≡ t)
+addresses_told m n ms ns s t hm hn f g e = joined_told 59 addr_text is_dotted is_listed parted_by_semicolons m n ms ns s t hm hn f g e
 
 not_colon : (c : ℕ) → 48 ≤ c → c ≤ 57 → nat_eq c 58 ≡ false
 not_colon c low high = grind (arith, nat_tests)

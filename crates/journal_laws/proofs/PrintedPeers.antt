@@ -1,12 +1,12 @@
 -- The declared peers after each event.
-use Rattle.std.proofs.Common.{◌≡◌, ℕ, suc, ◌^◌, get_or, Fits, w8, ◌<◌, Bool, true, false, cond, List, [], ◌∷◌, Option, Some, None, ◌&&◌, arith}
+use Rattle.std.proofs.Common.{◌≡◌, ℕ, suc, ◌^◌, get_or, Fits, w8, ◌<◌, Bool, true, false, cond, List, [], ◌∷◌, Option, Some, None, ◌&&◌, not, arith}
 use Rattle.std.specs.List.{AllByRecursion}
 use Rattle.event_text.specs.declared.event.Event.{Event}
-use Rattle.event_text.specs.declared.event.Event.TheVariants.{As4, Revised, Local, Peer, Up, Down, Bgp}
+use Rattle.event_text.specs.declared.event.Event.TheVariants.{As4, Revised, Reflect, Local, Peer, Up, Down, Bgp}
 use Rattle.event_text.specs.declared.declared.DeclaredPeer.{DeclaredPeer}
 use Rattle.event_text.specs.Declarations.{Declaration, peer_at, refusal, with_session, without_session, IsDeclaration}
 use Rattle.event_text.specs.WellFormed.{IsWellFormed}
-use Rattle.journal_laws.proofs.DeclaredPeers.{Leaves, leaves_all, as4_leaves, revised_leaves, speaker_leaves, peer_leaves, session_leaves, end_leaves}
+use Rattle.journal_laws.proofs.DeclaredPeers.{Leaves, leaves_all, as4_leaves, revised_leaves, reflect_leaves, speaker_leaves, peer_leaves, session_leaves, end_leaves}
 use Rattle.live_state.specs.Messages.{ends_session}
 use Rattle.live_state.specs.Declared.{declared_up, declared_down, declared_heard, declared_after}
 
@@ -31,13 +31,14 @@ module _ (d : Declaration) (k : ℕ) (declared : IsDeclaration d) where
 
   heard_by : (octets : List ℕ) (o : Option DeclaredPeer) → Leaves d (declared_heard d k octets o)
   heard_by octets None = leaves_all d declared
-  heard_by octets (Some p) = ended_if (p.up && ends_session d.profile octets)
+  heard_by octets (Some p) = ended_if (p.up && ends_session d.profile (not p.words.internal) octets)
 
-pub event_leaves : (d : Declaration) (event : Event) → IsDeclaration d → refusal d event ≡ None → IsWellFormed d.profile.as4 event → Leaves d (declared_after d event)
+pub event_leaves : (d : Declaration) (event : Event) → IsDeclaration d → refusal d event ≡ None → IsWellFormed d.profile event → Leaves d (declared_after d event)
 event_leaves d As4 declared admitted formed = as4_leaves d declared admitted
 event_leaves d Revised declared admitted formed = revised_leaves d declared admitted
+event_leaves d Reflect declared admitted formed = reflect_leaves d declared admitted
 event_leaves d (Local words) declared admitted formed = speaker_leaves d words declared admitted formed
-event_leaves d (Peer k words) declared admitted formed = peer_leaves d k words declared admitted formed
+event_leaves d (Peer k words client) declared admitted formed = peer_leaves d k words client declared admitted formed
 event_leaves d (Up k) declared admitted formed = begun_by d k declared admitted (peer_at k d.peers)
 event_leaves d (Down k) declared admitted formed = ended_by d k declared (peer_at k d.peers)
 event_leaves d (Bgp k octets) declared admitted formed = heard_by d k declared octets (peer_at k d.peers)

@@ -13,14 +13,14 @@ use Rattle.bgp_wire.specs.Attributes.{Attribute, AreAttributes, IsAttribute, kep
 use Rattle.bgp_wire.specs.Routes.{AreAttrs}
 use Rattle.bgp_wire.specs.Updates.{Reading}
 use Rattle.bgp_wire.specs.Grammar.{IsReading, AreAttrsFor, IsUpdateBy}
-use Rattle.bgp_wire.specs.Readable.{IsReadable, IsReadableSegment}
+use Rattle.bgp_wire.specs.Readable.{IsReadable, IsReadableSegment, reads_reflection}
 use Rattle.bgp_wire.proofs.JudgedTypes.{Verdict}
 use Rattle.bgp_wire.proofs.ReadableLaws.{Every, all_every, Octets, held, each_type, unrecognized_held, attrs_read}
 use Rattle.bgp_wire.proofs.ReadableMessages.{field_octets}
 use Rattle.wire_laws.proofs.LengthLaws.{attributes_no_longer}
 use Rattle.journal_check.specs.Laws.{IsNumberIfAny, HasNumbers, HasNumber, HasOctets, HasRanges}
 use Rattle.journal_laws.proofs.Spans.{some_same, not_some}
-use Rattle.journal_laws.specs.Printed.{HasAddress, HasAddresses, HasRoom}
+use Rattle.journal_laws.specs.Printed.{IsAddressIfAny, HasAddress, HasAddresses, HasRoom}
 use Rattle.journal_laws.specs.Laws.{ReadIsPrintable}
 
 -- ---- ranges of what can be read
@@ -48,6 +48,10 @@ aggregator_address : (as4 : Bool) (o : Option Aggregator) → ((g : Aggregator) 
 aggregator_address as4 None each = tt
 aggregator_address as4 (Some g) each = (each g refl).1
 
+originator_address : (reads : Type 0) (o : Option ℕ) → ((n : ℕ) → o ≡ Some n → reads × (n < 2 ^ 32)) → IsAddressIfAny o
+originator_address reads None each = tt
+originator_address reads (Some n) each = (each n refl).1
+
 -- ---- unrecognized attributes are octets as they came
 
 octets_small : (octets : List ℕ) → Octets octets → AllByRecursion (λ b. b < 2 ^ 8) octets
@@ -62,7 +66,7 @@ attribute_small a is octets = elim is [
 unrecognized_small : (u : Unrecognized) (a : Attribute) → a.kind ≡ u.kind → a.value ≡ u.value → (a.kind < 2 ^ 8) × AllByRecursion (λ b. b < 2 ^ 8) a.value → HasOctets u
 unrecognized_small u a kind value h = (subst (λ k. k < 2 ^ 8) kind h.0, subst (λ v. AllByRecursion (λ b. b < 2 ^ 8) v) value h.1)
 
-unrecognized_ranges : (p : Profile) (external : Bool) (bytes : List ℕ) (steps : List (Attribute × Verdict)) (runs : Bool) (attrs : Attrs) → AreAttributes p external [] bytes steps runs → Octets bytes → AreAttrs p.as4 external (kept_by steps runs).0 attrs
+unrecognized_ranges : (p : Profile) (external : Bool) (bytes : List ℕ) (steps : List (Attribute × Verdict)) (runs : Bool) (attrs : Attrs) → AreAttributes p external [] bytes steps runs → Octets bytes → AreAttrs p external (kept_by steps runs).0 attrs
     → AllByRecursion HasOctets attrs.unrecognized
 unrecognized_ranges p external bytes steps runs attrs are octets is =
     every_more HasOctets HasOctets attrs.unrecognized (λ u h. h) (each_type HasOctets 0 attrs.unrecognized is.unrecognized.order (λ u e.
@@ -87,26 +91,31 @@ printable_by p external a h octets room = record {
     aggregator = aggregator_ranges p.as4 a.aggregator h.aggregator;
     unrecognized = octets;
   };
-  addresses = record { next_hop = h.next_hop.fits; aggregator = aggregator_address p.as4 a.aggregator h.aggregator };
+  addresses = record {
+    next_hop = h.next_hop.fits;
+    aggregator = aggregator_address p.as4 a.aggregator h.aggregator;
+    originator = originator_address (reads_reflection p external ≡ true) a.reflection.originator h.originator;
+    clusters = every_more (λ n. (reads_reflection p external ≡ true) × (n < 2 ^ 32)) (λ n. n < 2 ^ 32) a.reflection.clusters (λ n both. both.1) (all_every (λ n. (reads_reflection p external ≡ true) × (n < 2 ^ 32)) a.reflection.clusters h.clusters);
+  };
   room = room;
 }
 
-attrs_printable : (p : Profile) (external : Bool) (bytes : List ℕ) (r : Reading) (is : IsReading p external bytes r) → Octets bytes → (a : Attrs) → AreAttrs p.as4 external r.kept a → ArePrintable a
+attrs_printable : (p : Profile) (external : Bool) (bytes : List ℕ) (r : Reading) (is : IsReading p external bytes r) → Octets bytes → (a : Attrs) → AreAttrs p external r.kept a → ArePrintable a
 attrs_printable p external bytes r is octets a are =
     let f = field_octets p external bytes r is octets in
-    let kept = subst (λ kept. AreAttrs p.as4 external kept a) is.kept are in
+    let kept = subst (λ kept. AreAttrs p external kept a) is.kept are in
     let readable = attrs_read p external is.attributes is.steps is.runs a is.are f.attributes kept in
     let whole = f.whole in
     let top = is.frame.top in
     let shorter = attributes_no_longer p external is.attributes is.steps is.runs a is.are f.attributes kept readable (omega (arith, whole, top)) in
     printable_by p external a readable (unrecognized_ranges p external is.attributes is.steps is.runs a is.are f.attributes kept) (p.as4, omega (arith, shorter, whole, top))
 
-by_prefixes : (p : Profile) (external : Bool) (bytes : List ℕ) (r : Reading) (is : IsReading p external bytes r) → Octets bytes → (ns : List Network) (attrs : Option Attrs) (a : Attrs) → AreAttrsFor p.as4 external r.kept ns attrs → attrs ≡ Some a → ArePrintable a
+by_prefixes : (p : Profile) (external : Bool) (bytes : List ℕ) (r : Reading) (is : IsReading p external bytes r) → Octets bytes → (ns : List Network) (attrs : Option Attrs) (a : Attrs) → AreAttrsFor p external r.kept ns attrs → attrs ≡ Some a → ArePrintable a
 by_prefixes p external bytes r is octets [] attrs a are e = absurd (not_some a (sym are ∙ e))
 by_prefixes p external bytes r is octets (n ∷ ns) None a are e = absurd are
 by_prefixes p external bytes r is octets (n ∷ ns) (Some b) a are e = subst ArePrintable (some_same b a e) (attrs_printable p external bytes r is octets b are)
 
-by_withdraw : (p : Profile) (external : Bool) (bytes : List ℕ) (r : Reading) (is : IsReading p external bytes r) → Octets bytes → (withdraw : Bool) (u : Update) (a : Attrs) → IsUpdateBy p.as4 external r withdraw u → u.attrs ≡ Some a → ArePrintable a
+by_withdraw : (p : Profile) (external : Bool) (bytes : List ℕ) (r : Reading) (is : IsReading p external bytes r) → Octets bytes → (withdraw : Bool) (u : Update) (a : Attrs) → IsUpdateBy p external r withdraw u → u.attrs ≡ Some a → ArePrintable a
 by_withdraw p external bytes r is octets true u a by e = absurd (not_some a (sym by.attrs ∙ e))
 by_withdraw p external bytes r is octets false u a by e = by_prefixes p external bytes r is octets r.announced u.attrs a by.attrs e
 

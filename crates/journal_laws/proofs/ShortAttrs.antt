@@ -1,10 +1,8 @@
 -- The text of attributes has at most six bytes for each octet of a message that holds them.
 use Rattle.std.proofs.Common.{◌≡◌, ℕ, ◌+◌, ◌*◌, ◌≤◌, Bool, true, false, cond, List, [], ◌∷◌, ◌++◌, length, map, Option, Some, None, arith, codes}
-use Rattle.std.specs.Prelude.{filter}
 use Rattle.std.specs.List.{AllByRecursion, flat_map}
 use Rattle.std.specs.Fmt.{decimal}
 use Rattle.std.proofs.lemmas.List.{length-append}
-use mathlib.Core.Bool.{beq}
 use Rattle.byteorder.specs.Endian.{big_bytes}
 use Rattle.byteorder.specs.Numbers.{length-bytes_high_first}
 use Rattle.hex.specs.Hex.{encode_lower, lower_digits}
@@ -18,16 +16,16 @@ use Rattle.bgp_attr.specs.declared.attrs.Origin.TheVariants.{Igp, Egp, Incomplet
 use Rattle.bgp_attr.specs.declared.attrs.Aggregator.{Aggregator}
 use Rattle.bgp_attr.specs.declared.attrs.Attrs.{Attrs}
 use Rattle.bgp_attr.specs.declared.unrecognized.Unrecognized.{Unrecognized}
+use Rattle.bgp_attr.specs.Reflections.{Reflected}
 use Rattle.bgp_wire.specs.Attributes.{Attribute}
 use Rattle.bgp_wire.specs.Paths.{width_of}
 use Rattle.bgp_wire.specs.Routes.{code_of_origin}
-use Rattle.bgp_wire.specs.Spelling.{segment_octets, path_octets, is_long, spelled_octets, spelled, optional, aggregator_value, aggregator_flags, comes_first, unrecognized_attributes, mandatory_attributes, further_attributes, octets_of}
+use Rattle.bgp_wire.specs.Spelling.{segment_octets, path_octets, is_long, spelled_octets, spelled, optional, aggregator_value, aggregator_flags, unrecognized_attribute, clusters_attributes, reflection_attributes, mandatory_attributes, further_attributes, octets_of}
 use Rattle.bgp_wire.specs.Lengths.{attributes_length}
-use Rattle.bgp_wire.proofs.SpelledLengths.{length-numbers, length-four}
-use Rattle.wire_laws.proofs.SpelledMessages.{length-spelled}
-use Rattle.journal_text.specs.Texts.{origin_number, bracketed, segment_text, path_text, lettered, aggregator_text, unrecognized_text, required_text, optional_text, attrs_text}
+use Rattle.bgp_wire.proofs.SpelledLengths.{length-numbers, length-spelled, length-first, length-octets-append, length-four, length-sent}
+use Rattle.journal_text.specs.Texts.{origin_number, bracketed, segment_text, path_text, lettered, aggregator_text, addresses_text, originator_text, clusters_text, reflection_text, unrecognized_text, required_text, optional_text, attrs_text}
 use Rattle.journal_check.specs.Laws.{IsNumberIfAny, HasNumbers, HasNumber, HasOctets, HasRanges}
-use Rattle.journal_laws.proofs.ShortNumbers.{short_number, short_octet, short_dotted, short_addr}
+use Rattle.journal_laws.proofs.ShortNumbers.{short_number, short_octet, short_dotted, short_addr, short_addresses}
 
 -- ---- paths
 
@@ -69,7 +67,7 @@ head_at_least flags kind value = omega (arith, length-spelled (is_long value) fl
     three false = omega arith
 
 one_of : (a : Attribute) → length (octets_of (a ∷ [])) ≡ length a.octets
-one_of a = omega (arith, length-append a.octets [])
+one_of a = omega (arith, length-first a [])
 
 short_unrecognized : (u : Unrecognized) → HasOctets u → length (unrecognized_text u) ≤ 6 * length (spelled_octets (is_long u.value) 224 u.kind u.value)
 unfolding unrecognized_text
@@ -83,25 +81,16 @@ short_unrecognized u h =
       length-append (44 ∷ 120 ∷ decimal u.kind) (58 ∷ encode_lower u.value),
     )
 
--- those before ORIGIN and those behind it
-short_all : (us : List Unrecognized) → AllByRecursion HasOctets us
-    → length (flat_map unrecognized_text us) ≤ 6 * (length (octets_of (unrecognized_attributes true us)) + length (octets_of (unrecognized_attributes false us)))
+short_all : (us : List Unrecognized) → AllByRecursion HasOctets us → length (flat_map unrecognized_text us) ≤ 6 * length (octets_of (map unrecognized_attribute us))
 short_all [] h = omega arith
-short_all (u ∷ us) h = by_test (comes_first u) (short_all us h.1)
-  where
-    part : Bool → Bool → List Attribute
-    part b first = map (λ (u : Unrecognized). spelled 224 u.kind u.value) (cond (beq b first) (u ∷ filter (λ u. beq (comes_first u) first) us) (filter (λ u. beq (comes_first u) first) us))
-
-    front : (xs : List Attribute) → length (octets_of (spelled 224 u.kind u.value ∷ xs)) ≡ length (spelled_octets (is_long u.value) 224 u.kind u.value) + length (octets_of xs)
-    front xs = length-append (spelled_octets (is_long u.value) 224 u.kind u.value) (octets_of xs)
-
-    text : length (unrecognized_text u ++ flat_map unrecognized_text us) ≡ length (unrecognized_text u) + length (flat_map unrecognized_text us)
-    text = length-append (unrecognized_text u) (flat_map unrecognized_text us)
-
-    by_test : (b : Bool) → length (flat_map unrecognized_text us) ≤ 6 * (length (octets_of (unrecognized_attributes true us)) + length (octets_of (unrecognized_attributes false us)))
-        → length (flat_map unrecognized_text (u ∷ us)) ≤ 6 * (length (octets_of (part b true)) + length (octets_of (part b false)))
-    by_test true later = omega (arith, text, later, short_unrecognized u h.0, front (unrecognized_attributes true us))
-    by_test false later = omega (arith, text, later, short_unrecognized u h.0, front (unrecognized_attributes false us))
+short_all (u ∷ us) h =
+    omega (
+      arith,
+      short_unrecognized u h.0,
+      short_all us h.1,
+      length-append (unrecognized_text u) (flat_map unrecognized_text us),
+      length-first (unrecognized_attribute u) (map unrecognized_attribute us),
+    )
 
 short_lettered : (letter flags kind : ℕ) (o : Option ℕ) → IsNumberIfAny o → length (lettered letter o) ≤ 6 * length (octets_of (optional (λ n. spelled flags kind (big_bytes 4 n)) o))
 short_lettered letter flags kind None h = omega arith
@@ -137,6 +126,30 @@ short_aggregator as4 (Some g) h =
       one_of (spelled (aggregator_flags g.partial) 7 (aggregator_value as4 g)),
       length-append (44 ∷ 103 ∷ decimal g.asn) (47 ∷ addr_text g.addr),
       length-append (44 ∷ 103 ∷ decimal g.asn ++ 47 ∷ addr_text g.addr) (cond g.partial (33 ∷ []) []),
+    )
+
+-- ---- what reflectors added
+
+short_originator : (o : Option ℕ) → length (originator_text o) ≤ 6 * length (octets_of (optional (λ n. spelled 128 9 (big_bytes 4 n)) o))
+unfolding originator_text
+short_originator None = omega arith
+short_originator (Some n) = omega (arith, short_addr n, head_at_least 128 9 (big_bytes 4 n), one_of (spelled 128 9 (big_bytes 4 n)))
+
+short_clusters : (cs : List ℕ) → length (clusters_text cs) ≤ 6 * length (octets_of (clusters_attributes cs))
+unfolding clusters_text
+short_clusters [] = omega arith
+short_clusters (c ∷ cs) =
+    let value = flat_map (big_bytes 4) (c ∷ cs) in
+    omega (arith, short_addresses (c ∷ cs), length-numbers 4 (c ∷ cs), head_at_least 128 10 value, one_of (spelled 128 10 value))
+
+short_reflection : (r : Reflected) → length (reflection_text r) ≤ 6 * length (octets_of (reflection_attributes r))
+short_reflection r =
+    omega (
+      arith,
+      short_originator r.originator,
+      short_clusters r.clusters,
+      length-append (originator_text r.originator) (clusters_text r.clusters),
+      length-octets-append (optional (λ n. spelled 128 9 (big_bytes 4 n)) r.originator) (clusters_attributes r.clusters),
     )
 
 -- ---- all of them
@@ -206,8 +219,10 @@ short_attrs as4 a h =
       arith,
       short_required as4 a h,
       short_optional as4 a h,
+      short_reflection a.reflection,
       short_all a.unrecognized h.unrecognized,
       length-append (required_text a) (optional_text a),
-      length-append (required_text a ++ optional_text a) (flat_map unrecognized_text a.unrecognized),
-      length-four (unrecognized_attributes true a.unrecognized) (mandatory_attributes as4 a) (further_attributes as4 a) (unrecognized_attributes false a.unrecognized),
+      length-append (required_text a ++ optional_text a) (reflection_text a.reflection),
+      length-append (required_text a ++ optional_text a ++ reflection_text a.reflection) (flat_map unrecognized_text a.unrecognized),
+      length-sent as4 a,
     )

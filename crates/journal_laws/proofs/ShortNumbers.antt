@@ -13,7 +13,7 @@ use Rattle.rib_route.specs.declared.protocol.FibProto.TheVariants.{Connected}
 use Rattle.rib_route.specs.Distances.{fib_proto}
 use Rattle.rib_route.specs.Ifaces.{is_name_byte, is_iface_name}
 use Rattle.journal_text.specs.Names.{IsNameNumber, IsNamed, IsNamedTask}
-use Rattle.journal_text.specs.Texts.{fib_proto_text, proto_text, dot_number, link_text, task_text}
+use Rattle.journal_text.specs.Texts.{addresses_text, fib_proto_text, proto_text, dot_number, link_text, task_text}
 use Rattle.journal_text.specs.declared.link.Link.{Link}
 use Rattle.journal_text.specs.declared.link.Task.{Task}
 use Rattle.journal_text.specs.declared.link.Task.TheVariants as tasks
@@ -62,6 +62,12 @@ low_octet n = omega arith
 pub short_addr : (a : ℕ) → length (addr_text a) ≤ 15
 unfolding addr_text
 short_addr a = four_dotted (a / 16777216 % 256) (a / 65536 % 256) (a / 256 % 256) (a % 256) (low_octet (a / 16777216)) (low_octet (a / 65536)) (low_octet (a / 256)) (low_octet a)
+
+-- each has a semicolon at most beside it
+pub short_addresses : (addresses : List ℕ) → length (addresses_text addresses) ≤ 16 * length addresses
+short_addresses [] = omega arith
+short_addresses (a ∷ []) = omega (arith, short_addr a)
+short_addresses (a ∷ b ∷ addresses) = omega (arith, short_addr a, short_addresses (b ∷ addresses), length-append (addr_text a) (59 ∷ addresses_text (b ∷ addresses)))
 
 pub short_prefix : (p : Network) → IsPrefix p → length (prefix_text p) ≤ 19
 unfolding prefix_text

@@ -41,6 +41,8 @@ HasAddress (Some g) = g.addr < 2 ^ 32
 pub record HasAddresses (a : Attrs) : Type 0 where
   pub next_hop : a.next_hop < 2 ^ 32
   pub aggregator : HasAddress a.aggregator
+  pub originator : IsAddressIfAny a.reflection.originator
+  pub clusters : AllByRecursion (λ c. c < 2 ^ 32) a.reflection.clusters
 
 -- The route is from the peer of the number that its text has; number 0 stands for no peer.
 abbrev pub IsFromOneOf : (ℕ → Option Neighbour) → Route → Type 0

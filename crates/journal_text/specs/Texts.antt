@@ -1,5 +1,5 @@
 -- The texts of values and of output lines.
-use Rattle.std.specs.Prelude.{ℕ, Bool, true, false, ◌&&◌, cond, List, [], ◌∷◌, ◌++◌, Option, Some, None, codes}
+use Rattle.std.specs.Prelude.{ℕ, Bool, true, false, ◌&&◌, cond, List, [], ◌∷◌, ◌++◌, map, Option, Some, None, codes}
 use Rattle.std.specs.List.{join_with_byte, flat_map}
 use Rattle.std.specs.Fmt.{decimal}
 use Rattle.hex.specs.Hex.{encode_lower}
@@ -20,6 +20,7 @@ use Rattle.bgp_attr.specs.declared.attrs.Origin.TheVariants.{Igp, Egp, Incomplet
 use Rattle.bgp_attr.specs.declared.attrs.Aggregator.{Aggregator}
 use Rattle.bgp_attr.specs.declared.unrecognized.Unrecognized.{Unrecognized}
 use Rattle.bgp_attr.specs.declared.attrs.Attrs.{Attrs}
+use Rattle.bgp_attr.specs.Reflections.{Reflected}
 use Rattle.bgp_attr.specs.declared.speaker.Neighbour.{Neighbour}
 use Rattle.bgp_attr.specs.declared.route.Route.{Route}
 use Rattle.journal_text.specs.declared.link.Link.{Link}
@@ -31,7 +32,7 @@ use Rattle.journal_text.specs.declared.value.Value.TheVariants as values
 use Rattle.journal_text.specs.declared.entry.Entry.{Entry}
 use Rattle.journal_text.specs.declared.entry.Entry.TheVariants.{Begin, Inherit, Add, Delete, Replace, Asked, Weld, End}
 use Rattle.journal_text.specs.declared.line.Code.{Code}
-use Rattle.journal_text.specs.declared.line.Code.TheVariants.{E1, E2, E3, E4, E5, E6, E7}
+use Rattle.journal_text.specs.declared.line.Code.TheVariants.{E1, E2, E3, E4, E5, E6, E7, E8}
 use Rattle.journal_text.specs.declared.line.Line.{Line}
 use Rattle.journal_text.specs.declared.line.Line.TheVariants.{Journal, Out, Note, Row, Rows, Cover, Settled, Work, Bound, Idle, Ignored, Absent, Refused}
 
@@ -61,6 +62,22 @@ unfoldable pub aggregator_text : Option Aggregator → List ℕ
 aggregator_text None = []
 aggregator_text (Some g) = 44 ∷ 103 ∷ decimal g.asn ++ 47 ∷ addr_text g.addr ++ cond g.partial (33 ∷ []) []
 
+-- addresses with semicolons between them
+abbrev pub addresses_text : List ℕ → List ℕ
+addresses_text addresses = join_with_byte 59 (map addr_text addresses)
+
+unfoldable pub originator_text : Option ℕ → List ℕ
+originator_text None = []
+originator_text (Some id) = 44 ∷ 114 ∷ addr_text id
+
+unfoldable pub clusters_text : List ℕ → List ℕ
+clusters_text [] = []
+clusters_text (c ∷ cs) = 44 ∷ 99 ∷ addresses_text (c ∷ cs)
+
+-- `r` ORIGINATOR_ID, `c` CLUSTER_LIST, where they are there
+abbrev pub reflection_text : Reflected → List ℕ
+reflection_text r = originator_text r.originator ++ clusters_text r.clusters
+
 -- type, `:`, and the octets in lower-case hex
 unfoldable pub unrecognized_text : Unrecognized → List ℕ
 unrecognized_text u = 44 ∷ 120 ∷ decimal u.kind ++ 58 ∷ encode_lower u.value
@@ -75,7 +92,7 @@ optional_text a = lettered 109 a.med ++ lettered 108 a.local_pref ++ cond a.atom
 
 -- parted by commas; at the end `x` for each unrecognized attribute that is kept
 unfoldable pub attrs_text : Attrs → List ℕ
-attrs_text a = required_text a ++ optional_text a ++ flat_map unrecognized_text a.unrecognized
+attrs_text a = required_text a ++ optional_text a ++ reflection_text a.reflection ++ flat_map unrecognized_text a.unrecognized
 
 -- the number of the peer that a route came from, and 0 of a local route
 abbrev pub sender_number : Option Neighbour → ℕ
@@ -210,6 +227,7 @@ code_text E4 = codes "E4"
 code_text E5 = codes "E5"
 code_text E6 = codes "E6"
 code_text E7 = codes "E7"
+code_text E8 = codes "E8"
 
 abbrev pub line_words : Line → List (List ℕ)
 line_words (Journal entry) = entry_words entry

@@ -23,6 +23,8 @@ pub enum Code {
     E6,
     /// What holds for the whole file is said too late, or twice.
     E7,
+    /// A client of a route reflector is a peer of another AS.
+    E8,
 }
 
 /// A line of the output.

@@ -226,6 +226,7 @@ fn code_word(code: Code) -> &'static [u8]
         Code::E5 => b"E5",
         Code::E6 => b"E6",
         Code::E7 => b"E7",
+        Code::E8 => b"E8",
     }
 }
 

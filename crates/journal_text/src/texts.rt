@@ -4,13 +4,14 @@ ghost use Rattle.std.specs.Prelude.{◌≡◌, ◌++◌, ◌∷◌, [], List, On
 ghost use Rattle.std.specs.List.{flat_map};
 ghost use Rattle.std.specs.Fmt.{decimal};
 ghost use Rattle.addr4.specs.Texts.{dotted};
-ghost use Rattle.journal_text.specs.Texts.{origin_number, segment_text, path_text, lettered, aggregator_text, unrecognized_text, required_text, optional_text, attrs_text, sender_number, field_text, known_text, route_text, fib_proto_text, gateway_text, with_colons, interior_text, external_text, fib_text, value_text, answer_text};
+ghost use Rattle.journal_text.specs.Texts.{origin_number, segment_text, path_text, lettered, aggregator_text, addresses_text, originator_text, clusters_text, reflection_text, unrecognized_text, required_text, optional_text, attrs_text, sender_number, field_text, known_text, route_text, fib_proto_text, gateway_text, with_colons, interior_text, external_text, fib_text, value_text, answer_text};
 
 use crate::names::fib_proto_word;
 use crate::value::Value;
 use addr4::{Addr, Memory, push_addr, push_hex, push_number};
 use bgp_attr::{
-    Aggregator, AsPath, Attrs, Neighbour, Origin, Route, Segment, SegmentKind, Unrecognized,
+    Aggregator, AsPath, Attrs, Neighbour, Origin, Reflection, Route, Segment, SegmentKind,
+    Unrecognized,
 };
 use rib_route::{External, FibProto, FibRow, Iface, Interior};
 use std::alloc::Global;
@@ -114,6 +115,49 @@ fn push_aggregator(out: &mut Vec<u8>, aggregator: Option<Aggregator>) -> Result<
     Ok(())
 }
 
+#[tactic(auto, unfolding(crate::specs::Texts::originator_text))]
+fn push_originator(out: &mut Vec<u8>, originator: Option<Addr>) -> Result<(), Memory>
+    ensures { OnOk result (out.new.items ≡ out.old.items ++ originator_text originator) }
+{
+    if let Some(id) = originator {
+        push_text(out, b",r")?;
+        push_addr(out, id)?;
+    }
+    Ok(())
+}
+
+/// Addresses with semicolons between them.
+fn push_addresses(out: &mut Vec<u8>, addresses: &[Addr]) -> Result<(), Memory>
+    ensures { OnOk result (out.new.items ≡ out.old.items ++ addresses_text addresses.now) }
+{
+    for (i, addr) in addresses.iter().enumerate() {
+        if i > 0 {
+            out.push(b';')?;
+        }
+        push_addr(out, *addr)?;
+    }
+    Ok(())
+}
+
+#[tactic(auto, unfolding(crate::specs::Texts::clusters_text))]
+fn push_clusters(out: &mut Vec<u8>, clusters: &[Addr]) -> Result<(), Memory>
+    ensures { OnOk result (out.new.items ≡ out.old.items ++ clusters_text clusters.now) }
+{
+    if !clusters.is_empty() {
+        push_text(out, b",c")?;
+        push_addresses(out, clusters)?;
+    }
+    Ok(())
+}
+
+/// What reflectors added.
+fn push_reflection(out: &mut Vec<u8>, reflection: &Reflection) -> Result<(), Memory>
+    ensures { OnOk result (out.new.items ≡ out.old.items ++ reflection_text reflection.now) }
+{
+    push_originator(out, reflection.originator())?;
+    push_clusters(out, reflection.clusters())
+}
+
 #[tactic(auto, unfolding(crate::specs::Texts::unrecognized_text))]
 fn push_unrecognized(out: &mut Vec<u8>, attribute: &Unrecognized) -> Result<(), Memory>
     ensures { OnOk result (out.new.items ≡ out.old.items ++ unrecognized_text attribute.now) }
@@ -176,6 +220,7 @@ fn push_attrs(out: &mut Vec<u8>, attrs: &Attrs) -> Result<(), Memory>
 {
     push_required(out, attrs)?;
     push_optional(out, attrs)?;
+    push_reflection(out, &attrs.reflection)?;
     push_unrecognized_all(out, attrs.unrecognized.as_slice())?;
     Ok(())
 }

@@ -7,7 +7,7 @@ use Rattle.rib_route.specs.declared.Proto.{Proto}
 use Rattle.rib_route.specs.declared.Proto.TheVariants.{Connected, Static, Ospf, Rip}
 use Rattle.policy_rules.specs.declared.rule.Rule.{Rule}
 use Rattle.event_text.specs.declared.event.Event.{Event}
-use Rattle.event_text.specs.declared.event.Event.TheVariants.{As4, Revised, Down, Bgp}
+use Rattle.event_text.specs.declared.event.Event.TheVariants.{As4, Revised, Reflect, Down, Bgp}
 use Rattle.event_text.specs.declared.declared.DeclaredPeer.{DeclaredPeer}
 use Rattle.event_text.specs.Declarations.{Declaration, peer_at, refusal, refusal_at, refusal_first, refusal_by, undeclared, ended_at}
 use Rattle.event_text.proofs.Sessions.{ended_words}
@@ -35,6 +35,10 @@ as4_is_first d e = admitted_first d.profile d.speaker d.peers As4 (λ me e. cc) 
 pub revised_is_first : (d : Declaration) → refusal d Revised ≡ None → d.speaker ≡ None
 unfolding refusal
 revised_is_first d e = admitted_first d.profile d.speaker d.peers Revised (λ me e. cc) e
+
+pub reflect_is_first : (d : Declaration) → refusal d Reflect ≡ None → d.speaker ≡ None
+unfolding refusal
+reflect_is_first d e = admitted_first d.profile d.speaker d.peers Reflect (λ me e. cc) e
 
 -- a peer was declared
 there : (o : Option DeclaredPeer) → undeclared o ≡ None → o ≡ None → ⊥

@@ -5,7 +5,7 @@ use Rattle.bgp_wire.specs.declared.message.Message.{Message}
 use Rattle.bgp_wire.specs.declared.message.Message.TheVariants as messages
 use Rattle.bgp_wire.specs.Updates.{fault}
 use Rattle.bgp_wire.specs.Grammar.{IsFrame, Reads, OneAnswer}
-use Rattle.event_text.specs.declared.event.Event.TheVariants.{Nothing, As4, Revised, Local, Peer, Up, Down, Bgp, FilterIn, FilterOut, RouteAdd, RouteDel, Lose, Redist, Cover, Settled, Idle, Work, Ask, Show}
+use Rattle.event_text.specs.declared.event.Event.TheVariants.{Nothing, As4, Revised, Reflect, Local, Peer, Up, Down, Bgp, FilterIn, FilterOut, RouteAdd, RouteDel, Lose, Redist, Cover, Settled, Idle, Work, Ask, Show}
 use Rattle.event_text.specs.declared.declared.DeclaredPeer.{DeclaredPeer}
 use Rattle.event_text.specs.Declarations.{peer_at, with_session, without_session}
 use Rattle.link_change.specs.Rows.{is_empty_map}
@@ -26,11 +26,11 @@ type_at : (octets : List ℕ) (kind : ℕ) (body : List ℕ) → IsFrame octets 
 type_at octets kind body is = ap (λ o. get_or o 18 0) is.parts
 
 module _ (profile : Profile) (external : Bool) (octets : List ℕ) where
-  no_fault : (m : Message) → OneAnswer profile external octets → Reads profile external octets m → is_some (fault profile octets) ≡ false
-  no_fault m one reads = elim one as (λ _. is_some (fault profile octets) ≡ false) [ inl w ↦ ap is_some w.0 | inr w ↦ absurd (w.2 m reads) ]
+  no_fault : (m : Message) → OneAnswer profile external octets → Reads profile external octets m → is_some (fault profile external octets) ≡ false
+  no_fault m one reads = elim one as (λ _. is_some (fault profile external octets) ≡ false) [ inl w ↦ ap is_some w.0 | inr w ↦ absurd (w.2 m reads) ]
 
   -- octets that are a message of this type
-  of_type : (kind : ℕ) (body : List ℕ) (m : Message) → EachAnswers → Reads profile external octets m → IsFrame octets kind body → (kind == 3) ≡ ends_session profile octets
+  of_type : (kind : ℕ) (body : List ℕ) (m : Message) → EachAnswers → Reads profile external octets m → IsFrame octets kind body → (kind == 3) ≡ ends_session profile external octets
   of_type kind body m one reads is =
       sym (ap (λ b. b || get_or octets 18 0 == 3) (no_fault m (one profile external octets) reads) ∙ ap (λ k. k == 3) (type_at octets kind body is))
 
@@ -67,7 +67,7 @@ heard_leaves l k (messages.Refresh r) = refl
 heard_leaves l k messages.Notification = refl
 heard_leaves l k (messages.Notify n) = refl
 
-heard_by : (l : LiveState) (k : ℕ) (p : DeclaredPeer) (octets : List ℕ) (up : Bool) (l' : LiveState) → SessionsEnd → HearsIfUp l k p octets up l' → l'.declared ≡ cond (up && ends_session l.declared.profile octets) (without_session l.declared k) l.declared
+heard_by : (l : LiveState) (k : ℕ) (p : DeclaredPeer) (octets : List ℕ) (up : Bool) (l' : LiveState) → SessionsEnd → HearsIfUp l k p octets up l' → l'.declared ≡ cond (up && ends_session l.declared.profile (not p.words.internal) octets) (without_session l.declared k) l.declared
 heard_by l k p octets false l' law hears = ap (λ s. s.declared) hears
 heard_by l k p octets true l' law hears =
     ap (λ s. s.declared) hears.2 ∙ heard_leaves l k hears.0
@@ -81,8 +81,9 @@ pub follows : SessionsEnd → DeclarationsFollow
 follows law l Nothing l' after = ap (λ s. s.declared) after
 follows law l As4 l' after = ap (λ s. s.declared) after
 follows law l Revised l' after = ap (λ s. s.declared) after
+follows law l Reflect l' after = ap (λ s. s.declared) after
 follows law l (Local words) l' after = ap (λ s. s.declared) after
-follows law l (Peer k words) l' after = ap (λ s. s.declared) after
+follows law l (Peer k words client) l' after = ap (λ s. s.declared) after
 follows law l (Up k) l' after = ap (λ s. s.declared) after ∙ up_follows l k (peer_at k l.declared.peers)
 follows law l (Down k) l' after = ap (λ s. s.declared) after ∙ down_follows l k (peer_at k l.declared.peers)
 follows law l (Bgp k octets) l' after = heard_follows l k (peer_at k l.declared.peers) octets l' law after
@@ -146,8 +147,9 @@ pub losses_follow : (l : LiveState) (event : Event) (l' : LiveState) → LiveAft
 losses_follow l Nothing l' after = same_losses l l' after
 losses_follow l As4 l' after = session_losses l l' (ap (λ s. s.losses) after)
 losses_follow l Revised l' after = session_losses l l' (ap (λ s. s.losses) after)
+losses_follow l Reflect l' after = session_losses l l' (ap (λ s. s.losses) after)
 losses_follow l (Local words) l' after = session_losses l l' (ap (λ s. s.losses) after)
-losses_follow l (Peer k words) l' after = session_losses l l' (ap (λ s. s.losses) after)
+losses_follow l (Peer k words client) l' after = session_losses l l' (ap (λ s. s.losses) after)
 losses_follow l (Up k) l' after = session_losses l l' (ap (λ s. s.losses) after ∙ up_losses l k (peer_at k l.declared.peers))
 losses_follow l (Down k) l' after = session_losses l l' (ap (λ s. s.losses) after ∙ down_losses l k (peer_at k l.declared.peers))
 losses_follow l (Bgp k octets) l' after = session_losses l l' (from_losses l l' k (peer_at k l.declared.peers) octets after)

@@ -1,5 +1,5 @@
 -- Laws of these definitions alone, for the crates above.
-use Rattle.std.specs.Prelude.{◌≡◌, ◌≤◌, ◌<◌, ◌⊎◌, ℕ, List, Contains, Option, Some, None}
+use Rattle.std.specs.Prelude.{◌≡◌, ◌≤◌, ◌<◌, ◌⊎◌, ℕ, not, List, Contains, Option, Some, None}
 use Rattle.std.specs.FinMap as tables
 use Rattle.addr4.specs.Prefixes.{Network, IsMasked, Holds}
 use Rattle.bgp_attr.specs.declared.speaker.Profile.{Profile}
@@ -18,7 +18,7 @@ use Rattle.live_state.specs.Decided.{distance_of, least_rows, longest_match, les
 
 -- In each profile, what octets say ends the session exactly where they are seen to end it.
 abbrev pub SessionsEnd : Type 0
-SessionsEnd = (profile : Profile) (p : DeclaredPeer) (octets : List ℕ) (message : Message) → Says profile p octets message → is_ending message ≡ ends_session profile octets
+SessionsEnd = (profile : Profile) (p : DeclaredPeer) (octets : List ℕ) (message : Message) → Says profile p octets message → is_ending message ≡ ends_session profile (not p.words.internal) octets
 
 -- The declarations after an event are told by those before it.
 abbrev pub DeclarationsFollow : Type 0

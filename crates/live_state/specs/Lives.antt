@@ -9,9 +9,9 @@ use Rattle.bgp_attr.specs.declared.attrs.Attrs.{Attrs}
 use Rattle.bgp_wire.specs.declared.message.Message.{Message}
 use Rattle.bgp_wire.specs.declared.message.Message.TheVariants as messages
 use Rattle.event_text.specs.declared.event.Event.{Event}
-use Rattle.event_text.specs.declared.event.Event.TheVariants.{Nothing, As4, Revised, Local, Peer, Up, Down, Bgp, FilterIn, FilterOut, RouteAdd, RouteDel, Lose, Redist, Cover, Settled, Idle, Work, Ask, Show}
+use Rattle.event_text.specs.declared.event.Event.TheVariants.{Nothing, As4, Revised, Reflect, Local, Peer, Up, Down, Bgp, FilterIn, FilterOut, RouteAdd, RouteDel, Lose, Redist, Cover, Settled, Idle, Work, Ask, Show}
 use Rattle.event_text.specs.declared.declared.DeclaredPeer.{DeclaredPeer}
-use Rattle.event_text.specs.Declarations.{Declaration, no_declaration, peer_at, with_profile, with_four_octets, with_revised, with_speaker, with_peer, with_session, without_session}
+use Rattle.event_text.specs.Declarations.{Declaration, no_declaration, peer_at, with_profile, with_four_octets, with_revised, with_reflection, with_speaker, with_peer, with_session, without_session}
 use Rattle.policy_rules.specs.declared.rule.Rule.{Rule}
 use Rattle.rib_route.specs.declared.Proto.{Proto}
 use Rattle.rib_route.specs.declared.rows.Interior.{Interior}
@@ -126,8 +126,9 @@ abbrev pub LiveAfter : LiveState → Event → LiveState → Type 0
 LiveAfter l Nothing l' = l' ≡ l
 LiveAfter l As4 l' = l' ≡ record l { declared = with_profile l.declared (with_four_octets l.declared.profile) }
 LiveAfter l Revised l' = l' ≡ record l { declared = with_profile l.declared (with_revised l.declared.profile) }
+LiveAfter l Reflect l' = l' ≡ record l { declared = with_profile l.declared (with_reflection l.declared.profile) }
 LiveAfter l (Local words) l' = l' ≡ record l { declared = with_speaker l.declared words }
-LiveAfter l (Peer k words) l' = l' ≡ record l { declared = with_peer l.declared k words }
+LiveAfter l (Peer k words client) l' = l' ≡ record l { declared = with_peer l.declared k words client }
 LiveAfter l (Up k) l' = l' ≡ begun_if_down l k (peer_at k l.declared.peers)
 LiveAfter l (Down k) l' = l' ≡ ended_if_up l k (peer_at k l.declared.peers)
 LiveAfter l (Bgp k octets) l' = HearsFrom l k (peer_at k l.declared.peers) octets l'

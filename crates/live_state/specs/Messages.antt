@@ -40,6 +40,6 @@ is_ending (messages.Refresh r) = false
 is_ending messages.Notification = true
 is_ending (messages.Notify n) = true
 
--- whether octets end the session: they have a fault, or their type is that of a NOTIFICATION
-abbrev pub ends_session : Profile → List ℕ → Bool
-ends_session profile octets = is_some (fault profile octets) || slice_index octets 18 == 3
+-- whether octets of a peer, external or internal, end the session: they have a fault, or their type is that of a NOTIFICATION
+abbrev pub ends_session : Profile → Bool → List ℕ → Bool
+ends_session profile external octets = is_some (fault profile external octets) || slice_index octets 18 == 3

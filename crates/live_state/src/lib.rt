@@ -8,7 +8,8 @@
 //! 3. [`Lives`](specs/Lives.antt): what the events alone make of the live routes, the filters' rules, the interior routes and the
 //!    protocols that are redistributed, whatever work was done between them;
 //! 4. [`Decided`](specs/Decided.antt): the rows of each link, decided from scratch over what is live;
-//! 5. [`Heard`](specs/Heard.antt): what each peer has heard, by reading the octets of the lines that it is sent; and
+//! 5. [`Reflected`](specs/Reflected.antt): which peers get a route of another one inside the AS, and who is named on it then;
+//! 6. [`Heard`](specs/Heard.antt): what each peer has heard, by reading the octets of the lines that it is sent; and
 //!    [`Refreshes`](specs/Refreshes.antt): how it asks for all of that again, and what announces a route to it.
 //!
 //! The router has these rows after an idle, and on each link that no work holds up at any moment (`router_core`). The functions
@@ -16,8 +17,11 @@
 #![tactic(auto)]
 
 ghost use Rattle.live_state.specs.Laws.{SessionsEnd, DeclarationsFollow, TheLeastDistanceIsDecided, EachLiveRouteCounts, TheLongestMatchIsDecided, TheLesserDistanceForwards, EachRowForwards};
+ghost use Rattle.live_state.specs.Reflected.{ReflectionIsMarked};
 
+use best_path::pick_is_one_of_them;
 use bgp_wire::one_of_message_and_fault;
+use filter_bank::{filtered_keeps_attrs, what_goes_out};
 
 /// Octets from a peer end its session exactly where they have a fault or are a NOTIFICATION.
 pub fn sessions_end()
@@ -51,3 +55,14 @@ pub fn the_lesser_distance_forwards()
     ensures least { TheLesserDistanceForwards }
     ensures each { EachRowForwards }
 {}
+
+/// Inside the AS a route of a peer goes to another one only where one of them is a client of this speaker. It names then who brought
+/// it into the AS, and this speaker's cluster in front of those that it went through; no other route that is sent names anybody, and
+/// none goes back to its peer (RFC 4456, sections 6 and 8).
+pub fn routes_are_reflected()
+    ensures { ReflectionIsMarked }
+{
+    pick_is_one_of_them();
+    filtered_keeps_attrs();
+    what_goes_out();
+}

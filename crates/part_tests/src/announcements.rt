@@ -1,7 +1,9 @@
 //! A route of this speaker's own, as an external peer gets it and as an internal one does.
 
 use addr4::{Addr, Memory, Prefix};
-use bgp_attr::{AsPath, Attrs, Origin, Profile, Route, SharedAttrs, Speaker, UnrecognizedAttrs};
+use bgp_attr::{
+    AsPath, Attrs, Origin, Profile, Reflection, Route, SharedAttrs, Speaker, UnrecognizedAttrs,
+};
 use peer_out::as_sent;
 use std::alloc::Global;
 use std::test::Fail;
@@ -21,7 +23,8 @@ fn own(alloc: Global) -> Result<Route, Memory> {
         local_pref: None,
         atomic: false,
         aggregator: None,
-        unrecognized: UnrecognizedAttrs::new(alloc),
+        reflection: Reflection::none(),
+        unrecognized: UnrecognizedAttrs::none(),
     };
     Ok(Route {
         attrs: SharedAttrs::new(alloc, attrs)?,
@@ -46,6 +49,7 @@ fn told(alloc: Global, row: &Route, external: bool) -> Result<Option<Sent>, Memo
     let plain = Profile {
         as4: false,
         revised: false,
+        reflect: false,
     };
     let me = Speaker {
         asn: 65000,

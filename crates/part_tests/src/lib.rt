@@ -6,6 +6,8 @@
 #![tactic(auto)]
 
 #[cfg(test)]
+mod admitted;
+#[cfg(test)]
 mod announcements;
 #[cfg(test)]
 mod attributes;

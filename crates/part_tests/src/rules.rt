@@ -11,6 +11,7 @@ fn is_read(alloc: Global, text: &str) -> Result<bool, Memory> {
     let profile = Profile {
         as4: true,
         revised: false,
+        reflect: false,
     };
     Ok(read_rules(alloc, profile, text.as_bytes())?.is_ok())
 }

@@ -1,6 +1,6 @@
 -- What is sent is read as it is.
-use Rattle.std.proofs.Common.{◌≡◌, ℕ, ◌+◌, ◌<◌, ◌≤◌, Bool, true, false, cond, nat_le, List, length, Option, Some, None, refl, sym, subst, arith}
-use Rattle.std.specs.Prelude.{MatchOption, IsSome}
+use Rattle.std.proofs.Common.{◌≡◌, ℕ, ◌+◌, ◌<◌, ◌≤◌, Bool, true, false, cond, ◌&&◌, nat_le, ◌^◌, List, length, Option, Some, None, refl, sym, subst, arith}
+use Rattle.std.specs.Prelude.{All, MatchOption, IsSome}
 use Rattle.std.specs.Option.{ForSome}
 use Rattle.std.proofs.lemmas.Bool.Decides.{nat_tests}
 use Rattle.addr4.specs.Prefixes.{Network}
@@ -9,6 +9,7 @@ use Rattle.bgp_attr.specs.declared.attrs.Origin.{Origin}
 use Rattle.bgp_attr.specs.declared.route.Route.{Route}
 use Rattle.bgp_attr.specs.declared.speaker.Profile.{Profile}
 use Rattle.bgp_attr.specs.declared.speaker.Speaker.{Speaker}
+use Rattle.bgp_attr.specs.Reflections.{Reflected, not_reflected}
 use Rattle.bgp_wire.specs.declared.message.Update.{Update}
 use Rattle.bgp_wire.specs.declared.message.Message.TheVariants as messages
 use Rattle.bgp_wire.specs.Grammar.{Reads}
@@ -21,17 +22,31 @@ use Rattle.wire_laws.proofs.Prepended.{prepended_is_readable, readable_fits}
 use Rattle.wire_laws.proofs.SaidAgain.{internal_reads}
 use Rattle.wire_laws.proofs.SpelledMessages.{announcement_is_read, withdrawal_is_read}
 use Rattle.link_change.specs.declared.change.Change.{Change}
-use Rattle.peer_out.specs.Forms.{sent_form}
+use Rattle.peer_out.specs.Forms.{reflected_from, sent_form}
 use Rattle.peer_out.specs.Changes.{saying, message_octets, IsReadAs, MayBeHeard, IsSender, IsSentOf, HasNumbers, CanBeRead}
 use Rattle.peer_out.specs.Laws.{bare_attrs}
 
-form_readable : (profile : Profile) (external : Bool) (me : Speaker) (row : Route) → IsSender profile me → MayBeHeard profile row.attrs → HasNumbers (sent_form me external row) → IsReadable profile external (sent_form me external row)
+-- what reflectors add is sent by reflectors alone, who read it
+originator_read : (reflect : Bool) (r : Reflected) → ForSome (cond reflect r not_reflected).originator (λ n. n < 2 ^ 32)
+    → ForSome (cond reflect r not_reflected).originator (λ n. ((reflect && true) ≡ true) × (n < 2 ^ 32))
+originator_read true r numbers = λ n e. (refl, numbers n e)
+originator_read false r numbers = λ n e. absurd (cc)
+
+clusters_read : (reflect : Bool) (r : Reflected) → All (λ n. n < 2 ^ 32) (cond reflect r not_reflected).clusters
+    → All (λ n. ((reflect && true) ≡ true) × (n < 2 ^ 32)) (cond reflect r not_reflected).clusters
+clusters_read true r numbers = λ k d lt. (refl, numbers k d lt)
+clusters_read false r numbers = λ k d lt. absurd (omega arith)
+
+form_readable : (profile : Profile) (external : Bool) (me : Speaker) (row : Route) → IsSender profile me → MayBeHeard profile row.attrs → HasNumbers (sent_form profile me external row)
+    → IsReadable profile external (sent_form profile me external row)
 form_readable profile true me row sender heard numbers = record {
   path = prepended_is_readable profile.as4 (1 + row.prepend) me.asn row.attrs.path sender.asn heard.path;
   next_hop = sender.addr;
   med = numbers.med;
   local_pref = λ n e. absurd (cc);
   aggregator = heard.aggregator;
+  originator = λ n e. absurd (cc);
+  clusters = λ k n lt. absurd (omega arith);
   order = heard.order;
   types = heard.types;
 }
@@ -41,6 +56,8 @@ form_readable profile false me row sender heard numbers = record {
   med = numbers.med;
   local_pref = λ n e. (refl, numbers.local_pref n e);
   aggregator = heard.aggregator;
+  originator = originator_read profile.reflect (reflected_from me row.from row.attrs.reflection) numbers.originator;
+  clusters = clusters_read profile.reflect (reflected_from me row.from row.attrs.reflection) numbers.clusters;
   order = heard.order;
   types = heard.types;
 }
@@ -52,7 +69,7 @@ sent_by false n form a test e = absurd (cc)
 
 pub sent_is_readable : (profile : Profile) (external : Bool) (p : Network) (a : Attrs) → IsSentOf profile external p a → HasNumbers a → CanBeRead profile external p a
 sent_is_readable profile external p a is numbers =
-    let form = sent_form is.me external is.row in
+    let form = sent_form profile is.me external is.row in
     let by = sent_by (nat_le (announcement_length profile.as4 p form) 4096) (announcement_length profile.as4 p form) form a refl is.sent in
     let C : Attrs → Type 0 = CanBeRead profile external p in
     subst C by.0 (record { readable = form_readable profile external is.me is.row is.sender is.heard (subst HasNumbers (sym by.0) numbers); short = by.1 })
@@ -113,6 +130,8 @@ bare_may_be_heard profile origin next_hop host = record {
   med = λ n e. absurd (cc);
   local_pref = λ n e. absurd (cc);
   aggregator = λ g e. absurd (cc);
+  originator = λ n e. absurd (cc);
+  clusters = λ k n lt. absurd (omega arith);
   order = tt;
   types = λ k u lt. absurd (omega arith);
 }

@@ -1,5 +1,5 @@
 -- The message that says a change of what a peer was sent.
-use Rattle.std.specs.Prelude.{◌≡◌, ℕ, ◌<◌, ◌≤◌, ◌^◌, List, Bool, false, Option, Some, None}
+use Rattle.std.specs.Prelude.{◌≡◌, ℕ, ◌<◌, ◌≤◌, ◌^◌, List, All, Bool, false, Option, Some, None}
 use Rattle.std.specs.Option.{ForSome}
 use Rattle.addr4.specs.Prefixes.{Network}
 use Rattle.bgp_attr.specs.declared.attrs.Attrs.{Attrs}
@@ -51,6 +51,8 @@ pub record IsSentOf (profile : Profile) (external : Bool) (p : Network) (a : Att
 pub record HasNumbers (a : Attrs) : Type 0 where
   pub med : ForSome a.med (λ n. n < 2 ^ 32)
   pub local_pref : ForSome a.local_pref (λ n. n < 2 ^ 32)
+  pub originator : ForSome a.reflection.originator (λ n. n < 2 ^ 32)
+  pub clusters : All (λ n. n < 2 ^ 32) a.reflection.clusters
 
 -- a peer reads the attributes as they are, and the announcement fits into a message
 pub record CanBeRead (profile : Profile) (external : Bool) (p : Network) (a : Attrs) : Type 0 where

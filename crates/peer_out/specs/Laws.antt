@@ -5,6 +5,7 @@ use Rattle.addr4.specs.Prefixes.{Network}
 use Rattle.bgp_attr.specs.declared.attrs.Attrs.{Attrs}
 use Rattle.bgp_attr.specs.declared.attrs.Origin.{Origin}
 use Rattle.bgp_attr.specs.declared.speaker.Profile.{Profile}
+use Rattle.bgp_attr.specs.Reflections.{not_reflected}
 use Rattle.bgp_wire.specs.declared.message.Update.{Update}
 use Rattle.bgp_wire.specs.declared.message.Message.TheVariants as messages
 use Rattle.bgp_wire.specs.Grammar.{Reads}
@@ -38,6 +39,7 @@ bare_attrs origin next_hop = record {
   local_pref = None;
   atomic = false;
   aggregator = None;
+  reflection = not_reflected;
   unrecognized = [];
 }
 

@@ -27,7 +27,7 @@ impl Formed {
     fn new(alloc: Global, profile: Profile, route: &SentRoute) -> Result<Formed, Memory>
         ensures { IfOk result (IsFormOf profile.as4 route.now) }
     {
-        let attrs = route.form()?;
+        let attrs = route.form(alloc)?;
         let size = attributes_length(profile, &attrs);
         let attrs = SharedAttrs::new(alloc, attrs)?;
         let of = route.copy()?;
@@ -115,7 +115,7 @@ impl LastForms {
         if let Some(formed) = self.found(route) {
             return formed.attrs.copy();
         }
-        SharedAttrs::new(alloc, route.form()?)
+        SharedAttrs::new(alloc, route.form(alloc)?)
     }
 }
 
@@ -152,7 +152,7 @@ pub fn as_sent(
 ) -> Result<Option<SharedAttrs>, Memory>
     ensures { IfOk result (λ sent. sent ≡ as_sent profile me.now external prefix row.now) }
 {
-    let route = SentRoute::new(me, external, row)?;
+    let route = SentRoute::new(profile, me, external, row)?;
     let formed = Formed::new(alloc, profile, &route)?;
     if announcement_fits(prefix, formed.size) {
         Ok(Some(formed.attrs.copy()?))

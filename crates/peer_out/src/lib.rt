@@ -1,8 +1,8 @@
 //! What a peer is sent: a route, its attributes in the form in which they go out, and the UPDATE that says a change of them.
 //!
 //! [`as_sent`] gives a route's attributes as a peer gets them (RFC 4271, sections 5.1 and 9.1.3): an external peer gets the local
-//! AS in front of the path, the local address as the next hop and no LOCAL_PREF, an internal one the degree of preference.
-//! A route whose announcement is longer than a message isn't sent.
+//! AS in front of the path, the local address as the next hop and no LOCAL_PREF, an internal one the degree of preference,
+//! and of a route reflector with the route of another internal peer who sent it and the reflector's cluster (RFC 4456, section 8). A route whose announcement is longer than a message isn't sent.
 //!
 //! What is kept is the route itself ([`SentRoute`]): its attributes as they were received, shared with the table in, and the
 //! few words that the form takes from elsewhere. The form is made where it is needed, and contracts see it alone. So two are equal

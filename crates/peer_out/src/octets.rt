@@ -1,13 +1,13 @@
 //! The message that says a change.
 
-ghost use Rattle.std.specs.Prelude.{◌≡◌, ◌≤◌, ◌<◌, ◌^◌, IfOk, length};
+ghost use Rattle.std.specs.Prelude.{◌≡◌, ◌≤◌, ◌<◌, ◌^◌, All, IfOk, length};
 ghost use Rattle.std.specs.Option.{ForSome};
 ghost use Rattle.bgp_wire.specs.Readable.{announcement};
 ghost use Rattle.bgp_wire.specs.Spelling.{FitsAttrs, update_octets};
 ghost use Rattle.bgp_wire.specs.Lengths.{announcement_length};
-ghost use Rattle.peer_out.specs.Changes.{saying, message_octets, IsReadAs, IsSentOf};
+ghost use Rattle.peer_out.specs.Changes.{saying, message_octets, HasNumbers, IsReadAs, IsSentOf};
 
-use addr4::{Memory, Prefix};
+use addr4::{Addr, Memory, Prefix};
 use bgp_attr::{Attrs, Profile, SharedAttrs};
 use bgp_wire::{write_announcement, write_withdrawal};
 use link_change::Change;
@@ -21,6 +21,34 @@ fn known(number: Option<u32>)
         Some(_) => {}
         None => {}
     }
+}
+
+// So has the originator's identifier,
+fn known_originator(originator: Option<Addr>)
+    ensures { ForSome originator (λ n. n < 2 ^ 32) }
+{
+    match originator {
+        Some(originator) => originator.known(),
+        None => {}
+    }
+}
+
+// and each cluster's.
+fn known_clusters(clusters: &[Addr])
+    ensures { All (λ n. n < 2 ^ 32) clusters.now }
+{
+    for cluster in clusters {
+        cluster.known();
+    }
+}
+
+fn known_numbers(attrs: &Attrs)
+    ensures { HasNumbers attrs.now }
+{
+    known(attrs.med);
+    known(attrs.local_pref);
+    known_originator(attrs.reflection.originator());
+    known_clusters(attrs.reflection.clusters());
 }
 
 fn announce(
@@ -55,8 +83,7 @@ pub fn announcement(
 {
     prefix.known();
     let attrs = sent.attrs();
-    known(attrs.med);
-    known(attrs.local_pref);
+    known_numbers(attrs);
     announce(alloc, profile, prefix, attrs)
 }
 

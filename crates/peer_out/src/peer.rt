@@ -56,7 +56,7 @@ impl PeerOut {
         ensures sent { IfOk result (λ sent. sent ≡ as_sent self.old.profile self.old.me self.old.external prefix row.now) }
         ensures same { self.new ≡ self.old }
     {
-        let route = SentRoute::new(&self.me, self.external, row)?;
+        let route = SentRoute::new(self.profile, &self.me, self.external, row)?;
         let size = self.forms.remember(self.alloc, self.profile, &route)?;
         Ok(fitting(prefix, size, route))
     }
@@ -65,7 +65,7 @@ impl PeerOut {
     pub fn asked(&self, prefix: Prefix, row: &Route) -> Result<Option<SentRoute>, Memory>
         ensures { IfOk result (λ sent. sent ≡ as_sent self.now.profile self.now.me self.now.external prefix row.now) }
     {
-        let route = SentRoute::new(&self.me, self.external, row)?;
+        let route = SentRoute::new(self.profile, &self.me, self.external, row)?;
         let size = self.forms.size(self.alloc, self.profile, &route)?;
         Ok(fitting(prefix, size, route))
     }

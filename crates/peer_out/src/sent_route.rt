@@ -1,11 +1,13 @@
 //! A route as a peer is sent it.
 
-ghost use Rattle.std.specs.Prelude.{◌≡◌, ◌↔◌, ◌+◌, IfOk, IsTrue};
+ghost use Rattle.std.specs.Prelude.{◌≡◌, ◌↔◌, ◌+◌, IfOk, IsTrue, false};
+ghost use Rattle.bgp_attr.specs.Reflections.{reflected_by};
 ghost use Rattle.peer_out.specs.Forms.{sent_form};
-ghost use Rattle.peer_out.specs.Terms.{path_by, hop_by, pref_by, form_by, HaveOneWay, HaveOneRest};
+ghost use Rattle.peer_out.specs.Terms.{path_by, hop_by, pref_by, reflection_by, form_by, HaveOneWay, HaveOneRest};
 
 use addr4::{Addr, Memory, Row};
-use bgp_attr::{AsPath, Attrs, Route, SharedAttrs, Speaker};
+use bgp_attr::{AsPath, Attrs, Profile, Reflection, Route, SharedAttrs, Speaker};
+use std::alloc::Global;
 use std::marker::Model;
 
 /// What an external peer gets of this speaker.
@@ -28,17 +30,30 @@ impl Outside {
     }
 }
 
-/// What a form takes from elsewhere than the route's attributes, by the kind of peer.
+/// What an internal peer gets of a route reflector with the route of another one (RFC 4456, section 8).
+#[derive(Clone, Copy)]
+pub(crate) struct Passed {
+    /// The degree of preference.
+    pref: u32,
+    /// The identifier of the peer that sent the route.
+    sender: Addr,
+    /// The reflector's cluster, which is its identifier.
+    cluster: Addr,
+}
+
+/// What a form takes from elsewhere than the route's attributes, by the kinds of the peers.
 #[derive(Clone, Copy)]
 pub(crate) enum Terms {
     External(Outside),
     /// With the degree of preference.
     Internal(u32),
+    /// From an internal peer to another one.
+    Inside(Passed),
 }
 
 impl Terms {
-    fn new(me: &Speaker, external: bool, row: &Route) -> Terms
-        ensures { form_by result row.now.med row.now.attrs ≡ sent_form me.now external row.now }
+    fn new(profile: Profile, me: &Speaker, external: bool, row: &Route) -> Terms
+        ensures { form_by result row.now.med row.now.attrs ≡ sent_form profile me.now external row.now }
     {
         if external {
             Terms::External(Outside {
@@ -47,7 +62,20 @@ impl Terms {
                 prepend: row.prepend,
             })
         } else {
-            Terms::Internal(row.pref)
+            Terms::inside(profile, me, row)
+        }
+    }
+
+    fn inside(profile: Profile, me: &Speaker, row: &Route) -> Terms
+        ensures { form_by result row.now.med row.now.attrs ≡ sent_form profile me.now false row.now }
+    {
+        match row.from {
+            Some(from) if profile.reflect && from.internal => Terms::Inside(Passed {
+                pref: row.pref,
+                sender: from.id,
+                cluster: me.id,
+            }),
+            _ => Terms::Internal(row.pref),
         }
     }
 
@@ -56,7 +84,7 @@ impl Terms {
     {
         match self {
             Terms::External(outside) => path.prepended(outside.asn, outside.prepend),
-            Terms::Internal(_) => path.copy(),
+            Terms::Internal(_) | Terms::Inside(_) => path.copy(),
         }
     }
 
@@ -65,7 +93,7 @@ impl Terms {
     {
         match self {
             Terms::External(outside) => outside.addr,
-            Terms::Internal(_) => next_hop,
+            Terms::Internal(_) | Terms::Inside(_) => next_hop,
         }
     }
 
@@ -75,6 +103,16 @@ impl Terms {
         match self {
             Terms::External(_) => None,
             Terms::Internal(pref) => Some(pref),
+            Terms::Inside(passed) => Some(passed.pref),
+        }
+    }
+
+    fn reflection(self, alloc: Global, reflection: &Reflection) -> Result<Reflection, Memory>
+        ensures { IfOk result (λ sent. sent ≡ reflection_by self reflection.now) }
+    {
+        match self {
+            Terms::External(_) | Terms::Internal(_) => Ok(Reflection::none()),
+            Terms::Inside(passed) => reflection.reflected(alloc, passed.sender, passed.cluster),
         }
     }
 }
@@ -105,11 +143,16 @@ impl Model for SentRoute {
 
 impl SentRoute {
     /// A route as it is sent to a peer, external or internal to this speaker. Takes no memory: the attributes are shared.
-    pub fn new(me: &Speaker, external: bool, row: &Route) -> Result<SentRoute, Memory>
-        ensures { IfOk result (λ sent. sent ≡ sent_form me.now external row.now) }
+    pub fn new(
+        profile: Profile,
+        me: &Speaker,
+        external: bool,
+        row: &Route,
+    ) -> Result<SentRoute, Memory>
+        ensures { IfOk result (λ sent. sent ≡ sent_form profile me.now external row.now) }
     {
         let attrs = row.attrs.copy()?;
-        let terms = Terms::new(me, external, row);
+        let terms = Terms::new(profile, me, external, row);
         Ok(SentRoute {
             attrs,
             med: row.med,
@@ -118,11 +161,12 @@ impl SentRoute {
     }
 
     /// The attributes that the peer gets. Memory only for want of memory.
-    pub fn form(&self) -> Result<Attrs, Memory>
+    pub fn form(&self, alloc: Global) -> Result<Attrs, Memory>
         ensures { IfOk result (λ form. form ≡ self.now) }
     {
         let attrs = self.attrs.attrs();
         let path = self.terms.path(&attrs.path)?;
+        let reflection = self.terms.reflection(alloc, &attrs.reflection)?;
         let unrecognized = attrs.unrecognized.copy()?;
         Ok(Attrs {
             origin: attrs.origin,
@@ -132,6 +176,7 @@ impl SentRoute {
             local_pref: self.terms.local_pref(),
             atomic: attrs.atomic,
             aggregator: attrs.aggregator,
+            reflection,
             unrecognized,
         })
     }
@@ -158,8 +203,9 @@ impl Row for SentRoute {
     }
 }
 
-/// Whether two forms have the same path, next hop and LOCAL_PREF. An internal peer gets a LOCAL_PREF, an external one none; and
-/// an external one gets the local AS in front of the path at least once.
+/// Whether two forms have the same path, next hop and LOCAL_PREF, and the same of reflectors. An internal peer gets a LOCAL_PREF, an
+/// external one none; an external one gets the local AS in front of the path at least once; and a route that is passed on inside the
+/// AS has a cluster.
 fn has_one_way(terms: Terms, attrs: &Attrs, other: Terms, others: &Attrs) -> bool
     ensures { IsTrue result ↔ HaveOneWay terms attrs.now other others.now }
 {
@@ -174,8 +220,23 @@ fn has_one_way(terms: Terms, attrs: &Attrs, other: Terms, others: &Attrs) -> boo
         (Terms::Internal(one), Terms::Internal(two)) => {
             one == two && attrs.next_hop == others.next_hop && attrs.path.same(&others.path)
         }
+        (Terms::Inside(one), Terms::Inside(two)) => {
+            one.pref == two.pref
+                && attrs.next_hop == others.next_hop
+                && attrs.path.same(&others.path)
+                && has_one_reflection(one, &attrs.reflection, two, &others.reflection)
+        }
         _ => false,
     }
+}
+
+/// Whether two routes that are passed on inside the AS get the same originator and the same clusters.
+fn has_one_reflection(one: Passed, added: &Reflection, two: Passed, others: &Reflection) -> bool
+    ensures { IsTrue result ↔ (reflected_by one.sender one.cluster added.now ≡ reflected_by two.sender two.cluster others.now) }
+{
+    let originator = added.originator().unwrap_or(one.sender);
+    let other = others.originator().unwrap_or(two.sender);
+    originator == other && one.cluster == two.cluster && added.clusters() == others.clusters()
 }
 
 /// Whether two routes have the same of what every peer gets as it is.

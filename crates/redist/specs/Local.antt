@@ -4,6 +4,7 @@ use Rattle.addr4.specs.Prefixes.{Network}
 use Rattle.bgp_attr.specs.declared.attrs.Attrs.{Attrs}
 use Rattle.bgp_attr.specs.declared.attrs.Origin.TheVariants.{Incomplete}
 use Rattle.bgp_attr.specs.declared.route.Route.{Route}
+use Rattle.bgp_attr.specs.Reflections.{not_reflected}
 use Rattle.bgp_attr.specs.declared.speaker.Speaker.{Speaker}
 use Rattle.rib_route.specs.declared.rows.Interior.{Interior}
 use Rattle.redist.specs.declared.protos.Protos.{Protos}
@@ -20,6 +21,7 @@ local_attrs addr = record {
   local_pref = None;
   atomic = false;
   aggregator = None;
+  reflection = not_reflected;
   unrecognized = [];
 }
 

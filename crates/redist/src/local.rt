@@ -5,7 +5,7 @@ ghost use Rattle.redist.specs.Local.{local_attrs, local_route, of_own, is_on};
 
 use crate::protos::Protos;
 use addr4::{Addr, Memory, Row};
-use bgp_attr::{AsPath, Attrs, Origin, Route, SharedAttrs, Speaker, UnrecognizedAttrs};
+use bgp_attr::{AsPath, Attrs, Origin, Reflection, Route, SharedAttrs, Speaker, UnrecognizedAttrs};
 use rib_route::Interior;
 use std::alloc::Global;
 
@@ -36,7 +36,8 @@ fn local_attrs(alloc: Global, addr: Addr) -> Attrs
         local_pref: None,
         atomic: false,
         aggregator: None,
-        unrecognized: UnrecognizedAttrs::new(alloc),
+        reflection: Reflection::none(),
+        unrecognized: UnrecognizedAttrs::none(),
     }
 }
 

@@ -10,6 +10,7 @@ use Rattle.journal_text.specs.declared.line.Code.TheVariants.{E1, E6}
 use Rattle.event_text.specs.declared.event.Event.{Event}
 use Rattle.event_text.specs.Words.{is_clean}
 use Rattle.policy_rules.specs.Words.{words}
+use Rattle.bgp_attr.specs.declared.speaker.Profile.{Profile}
 use Rattle.event_text.specs.Events.{read_event, in_grammar, event_of}
 use Rattle.event_text.specs.Declarations.{Declaration, refusal}
 use Rattle.check_run.specs.Lines.{IsPart, lines_of, lines_in, ended}
@@ -19,11 +20,11 @@ use Rattle.replay.specs.Judging.{judge, judged, placed}
 
 -- ---- the lines of a text of clean lines
 
-pub clean_line : (as4 : Bool) (line : List ℕ) (event : Event) → read_event as4 line ≡ Ok event → is_clean line ≡ true
+pub clean_line : (p : Profile) (line : List ℕ) (event : Event) → read_event p line ≡ Ok event → is_clean line ≡ true
 unfolding read_event
-clean_line as4 line event h = by (is_clean line) h
+clean_line p line event h = by (is_clean line) h
   where
-    by : (b : Bool) → cond b (in_grammar (event_of as4 (words line))) (Err E1) ≡ Ok event → b ≡ true
+    by : (b : Bool) → cond b (in_grammar (event_of p (words line))) (Err E1) ≡ Ok event → b ≡ true
     by true e = refl
     by false e = absurd (cc)
 
@@ -47,7 +48,7 @@ clean_lines ls h = ap lines_of (sym (append-nil (flat_map ended ls))) ∙ (lines
 
 -- ---- a line whose event may stand there
 
-pub accepts_line : (n : ℕ) (d : Declaration) (line : List ℕ) (e : Event) → n < 4294967296 → read_event d.profile.as4 line ≡ Ok e → refusal d e ≡ None → judge n d line ≡ Ok e
+pub accepts_line : (n : ℕ) (d : Declaration) (line : List ℕ) (e : Event) → n < 4294967296 → read_event d.profile line ≡ Ok e → refusal d e ≡ None → judge n d line ≡ Ok e
 unfolding judge
 accepts_line n d line e few read free =
     let early : nat_eq n 4294967296 ≡ false = grind (arith, nat_tests) in

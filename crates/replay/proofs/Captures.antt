@@ -1,5 +1,5 @@
 -- No line of what a capture gives is refused.
-use Rattle.std.proofs.Common.{◌≡◌, ◌⊎◌, ℕ, ◌+◌, ◌≤◌, ◌&&◌, Bool, true, false, cond, List, [], ◌∷◌, ◌++◌, map, length, Option, Some, None, Result, refl, sym, ap, ◌∙◌, inl, inr, arith}
+use Rattle.std.proofs.Common.{not, ◌≡◌, ◌⊎◌, ℕ, ◌+◌, ◌≤◌, ◌&&◌, Bool, true, false, cond, List, [], ◌∷◌, ◌++◌, map, length, Option, Some, None, Result, refl, sym, ap, ◌∙◌, inl, inr, arith}
 use Rattle.std.specs.List.{AllByRecursion, flat_map}
 use Rattle.std.proofs.lemmas.List.Concat.{flat_map-append}
 use Rattle.journal_text.specs.declared.line.Code.{Code}
@@ -39,7 +39,7 @@ downs d k (Some p) = second_or p.up (without_session d k) d
 
 messages : (d : Declaration) (k : ℕ) (octets : List ℕ) (o : Option DeclaredPeer) → (declared_heard d k octets o ≡ d) ⊎ (declared_heard d k octets o ≡ without_session d k)
 messages d k octets None = inl refl
-messages d k octets (Some p) = second_or (p.up && ends_session d.profile octets) (without_session d k) d
+messages d k octets (Some p) = second_or (p.up && ends_session d.profile (not p.words.internal) octets) (without_session d k) d
 
 declares : Declares declared_after
 declares = record {
@@ -56,7 +56,7 @@ declares = record {
 
 all_clean : (d : Declaration) (ls : List Line) → AreAccepted declared_after d ls → AreClean (map line_bytes ls)
 all_clean d [] h = tt
-all_clean d (l ∷ ls) h = (clean_line d.profile.as4 (line_bytes l) (event_of_line l) h.0, all_clean (declared_after d (event_of_line l)) ls h.2)
+all_clean d (l ∷ ls) h = (clean_line d.profile (line_bytes l) (event_of_line l) h.0, all_clean (declared_after d (event_of_line l)) ls h.2)
 
 all_judged : (n : ℕ) (d : Declaration) (ls : List Line) → n + length ls ≤ 4294967296 → AreAccepted declared_after d ls → verdict_from n d (map line_bytes ls) ≡ None
 all_judged n d [] few h = refl

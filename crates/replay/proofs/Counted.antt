@@ -1,7 +1,7 @@
 -- What was declared stays counted.
-use Rattle.std.proofs.Common.{◌≡◌, ℕ, ◌&&◌, Bool, true, false, cond, List, Option, Some, None, arith}
+use Rattle.std.proofs.Common.{not, ◌≡◌, ℕ, ◌&&◌, Bool, true, false, cond, List, Option, Some, None, arith}
 use Rattle.event_text.specs.declared.event.Event.{Event}
-use Rattle.event_text.specs.declared.event.Event.TheVariants.{Nothing, As4, Revised, Local, Peer, Up, Down, Bgp, FilterIn, FilterOut, RouteAdd, RouteDel, Lose, Redist, Cover, Settled, Idle, Work, Ask, Show}
+use Rattle.event_text.specs.declared.event.Event.TheVariants.{Nothing, As4, Revised, Reflect, Local, Peer, Up, Down, Bgp, FilterIn, FilterOut, RouteAdd, RouteDel, Lose, Redist, Cover, Settled, Idle, Work, Ask, Show}
 use Rattle.event_text.specs.declared.declared.DeclaredPeer.{DeclaredPeer}
 use Rattle.event_text.specs.Declarations.{Declaration, IsCounted, peer_at, words_of, with_session, without_session, refusal}
 use Rattle.event_text.proofs.Sessions.{addable, counted_push, counted_begun, counted_ended}
@@ -26,16 +26,17 @@ counted_down d k (Some p) counted = ended_if p.up d k counted
 
 counted_heard : (d : Declaration) (k : ℕ) (octets : List ℕ) (p : Option DeclaredPeer) → IsCounted d.peers → IsCounted (declared_heard d k octets p).peers
 counted_heard d k octets None counted = counted
-counted_heard d k octets (Some p) counted = ended_if (p.up && ends_session d.profile octets) d k counted
+counted_heard d k octets (Some p) counted = ended_if (p.up && ends_session d.profile (not p.words.internal) octets) d k counted
 
 -- behind an event that isn't refused
 pub counted_after : (d : Declaration) (event : Event) → refusal d event ≡ None → IsCounted d.peers → IsCounted (declared_after d event).peers
 counted_after d Nothing admitted counted = counted
 counted_after d As4 admitted counted = counted
 counted_after d Revised admitted counted = counted
+counted_after d Reflect admitted counted = counted
 counted_after d (Local words) admitted counted = counted
-counted_after d (Peer k words) admitted counted =
-    counted_push d.peers (record { words = words_of d.speaker k words; session = 0; up = false }) counted (addable d.profile d.speaker d.peers k words admitted).1 (omega arith)
+counted_after d (Peer k words client) admitted counted =
+    counted_push d.peers (record { words = words_of d.speaker k words client; session = 0; up = false }) counted (addable d.profile d.speaker d.peers k words client admitted).1 (omega arith)
 counted_after d (Up k) admitted counted = counted_up d k (peer_at k d.peers) admitted counted
 counted_after d (Down k) admitted counted = counted_down d k (peer_at k d.peers) counted
 counted_after d (Bgp k octets) admitted counted = counted_heard d k octets (peer_at k d.peers) counted

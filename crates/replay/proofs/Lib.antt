@@ -9,6 +9,7 @@ pub mod Endings
 mod SettledLinks
 pub mod HeardLemmas
 pub mod RefreshLemmas
+pub mod ReflectionLemmas
 pub mod Counted
 pub mod SkippedTexts
 pub mod Totalled

@@ -1,5 +1,5 @@
 -- What is live is what the lines' events make of nothing.
-use Rattle.std.proofs.Common.{◌≡◌, ℕ, ◌+◌, List, [], ◌∷◌, ap, subst}
+use Rattle.std.proofs.Common.{ℕ, ◌+◌, List, [], ◌∷◌, ap, subst}
 use Rattle.journal_text.specs.declared.line.Line.{Line}
 use Rattle.live_state.specs.Lives.{LiveState, first_live}
 use Rattle.router_core.specs.Lives.{live_state}

@@ -10,8 +10,9 @@ use Rattle.journal_text.specs.declared.line.Code.{Code}
 use Rattle.journal_text.specs.declared.line.Code.TheVariants.{E6}
 use Rattle.event_text.specs.declared.event.Event.{Event}
 use Rattle.event_text.specs.declared.declared.DeclaredPeer.{DeclaredPeer}
+use Rattle.bgp_attr.specs.declared.speaker.Profile.{Profile}
 use Rattle.event_text.specs.Events.{read_event}
-use Rattle.event_text.specs.Declarations.{Declaration, no_declaration, refusal, refusal_at, refusal_by, session_refusal, undeclared, rules_refusal, peer_at, begun_at, ended_at, with_session, without_session}
+use Rattle.event_text.specs.Declarations.{plain, Declaration, no_declaration, refusal, refusal_at, refusal_by, session_refusal, undeclared, rules_refusal, peer_at, begun_at, ended_at, with_session, without_session}
 use Rattle.live_state.specs.Declared.{declared_after, declared_up, declared_down, declared_heard}
 use Rattle.live_state.specs.Messages.{ends_session}
 use Rattle.event_gen.specs.Draws.{next_draws, behind_draws}
@@ -34,23 +35,23 @@ all_clean : (ls : List (List ℕ)) (es : List Event) → AreReadAs ls es → Are
 all_clean [] [] h = tt
 all_clean [] (e ∷ es) h = absurd h
 all_clean (l ∷ ls) [] h = absurd h
-all_clean (l ∷ ls) (e ∷ es) h = (clean_line false l e h.0, all_clean ls es h.1)
+all_clean (l ∷ ls) (e ∷ es) h = (clean_line plain l e h.0, all_clean ls es h.1)
 
 lines_read : (ls : List (List ℕ)) (es : List Event) → AreReadAs ls es → lines_of (flat_map ended ls) ≡ ls
 lines_read ls es h = clean_lines ls (all_clean ls es h)
 
 -- ---- lines whose events may stand there
 
--- each event may stand behind those before it, and AS numbers have two octets
+-- each event may stand behind those before it, and no line said something for the whole file
 abbrev AreAdmitted : Declaration → List Event → Type 0
 AreAdmitted d [] = Unit {0}
-AreAdmitted d (e ∷ es) = (d.profile.as4 ≡ false) × (refusal d e ≡ None) × AreAdmitted (declared_after d e) es
+AreAdmitted d (e ∷ es) = (d.profile ≡ plain) × (refusal d e ≡ None) × AreAdmitted (declared_after d e) es
 
 accepts_lines : (n : ℕ) (d : Declaration) (ls : List (List ℕ)) (es : List Event) → n + length ls ≤ 4294967296 → AreReadAs ls es → AreAdmitted d es → verdict_from n d ls ≡ None
 accepts_lines n d [] es few h free = refl
 accepts_lines n d (l ∷ ls) [] few h free = absurd h
 accepts_lines n d (l ∷ ls) (e ∷ es) few h free =
-    ap (λ (r : Result Event Code). refused_or n r (λ f. verdict_from (n + 1) (declared_after d f) ls)) (accepts_line n d l e (omega (arith, few)) (subst (λ (as4 : Bool). read_event as4 l ≡ Ok e) (sym free.0) h.0) free.1)
+    ap (λ (r : Result Event Code). refused_or n r (λ f. verdict_from (n + 1) (declared_after d f) ls)) (accepts_line n d l e (omega (arith, few)) (subst (λ (p : Profile). read_event p l ≡ Ok e) (sym free.0) h.0) free.1)
     ∙ accepts_lines (n + 1) (declared_after d e) ls es (omega (arith, few)) h.1 free.2
 
 -- ---- the events of a seed may
@@ -58,7 +59,7 @@ accepts_lines n d (l ∷ ls) (e ∷ es) few h free =
 -- four peers are declared, and no session is beyond so many
 record Ready (c : ℕ) (d : Declaration) : Type 0 where
   me : Speaker
-  profile : d.profile.as4 ≡ false
+  profile : d.profile ≡ plain
   speaker : d.speaker ≡ Some me
   known : (k : ℕ) → 1 ≤ k → k ≤ 4 → is_some (peer_at k d.peers) ≡ true
   few : AllByRecursion (λ (p : DeclaredPeer). p.session ≤ c) d.peers
@@ -167,7 +168,7 @@ module _ (c : ℕ) (d : Declaration) (r : Ready c d) where
 
   after_octets : (k : ℕ) (octets : List ℕ) (o : Option DeclaredPeer) → Ready (suc c) (declared_heard d k octets o)
   after_octets k octets None = stays
-  after_octets k octets (Some p) = either (p.up && ends_session d.profile octets) (without_session d k) d (ends k) stays
+  after_octets k octets (Some p) = either (p.up && ends_session d.profile (not p.words.internal) octets) (without_session d k) d (ends k) stays
 
   -- behind each event that is drawn
   after : (e : Drawn) → Ready (suc c) (declared_after d (meant e))

@@ -22,7 +22,7 @@ judged n d (Ok event) = placed n (refusal d event) event
 -- The event of line n, or the code with which the line is refused: what it says, then whether that may stand behind what was
 -- declared, and at last its number.
 unfoldable pub judge : ℕ → Declaration → List ℕ → Result Event Code
-judge n d line = judged n d (read_event d.profile.as4 line)
+judge n d line = judged n d (read_event d.profile line)
 
 -- line n where it is refused, else what is said of the later ones
 abbrev pub refused_or : ℕ → Result Event Code → (Event → Option (ℕ × Code)) → Option (ℕ × Code)

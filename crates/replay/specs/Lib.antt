@@ -2,6 +2,7 @@ pub mod Judging
 pub mod Heard
 pub mod Output
 pub mod Refreshes
+pub mod Reflection
 pub mod Stream
 pub mod Streams
 pub mod Headline

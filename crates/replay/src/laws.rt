@@ -1,10 +1,12 @@
 //! Laws of event files that the program makes, and of its outputs: functions that do nothing, whose contracts are the laws.
 
 ghost use Rattle.replay.specs.Answers.{CapturesAreAccepted, SeedsAreAccepted};
+ghost use Rattle.replay.specs.Reflection.{ReflectedRoutesAreMarked};
 ghost use Rattle.replay.specs.Refreshes.{RefreshesAreServed, RefreshesEnd};
 
 use capture_laws::lines_are_accepted;
 use event_gen::lines_are_read;
+use live_state::routes_are_reflected;
 use mrt_reader::lines_are_few;
 
 /// No line of a seed is refused.
@@ -28,3 +30,11 @@ pub fn refreshes_are_served()
     ensures served { RefreshesAreServed }
     ensures idle { RefreshesEnd }
 {}
+
+/// After an idle each route that a peer has is the best one, passed on as a route reflector passes it (RFC 4456): never to the peer
+/// that it is from, and from one internal peer to another with a longer CLUSTER_LIST, where one of them is a client.
+pub fn reflected_routes_are_marked()
+    ensures { ReflectedRoutesAreMarked }
+{
+    routes_are_reflected();
+}

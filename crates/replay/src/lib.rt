@@ -12,7 +12,7 @@
 //! it, and after each `idle`, within the number of turns that it announced, no work is left and each link is what is decided
 //! from scratch over the live state. What each peer hears in it, by reading the octets that it is sent, is at every moment what
 //! stands on its link `adv.J.S`; and a peer that asks for all of that again is told all of it once more, at the latest by the next
-//! `idle`.
+//! `idle`. What a route reflector passes on inside the AS is marked, and never comes to who announced it.
 #![tactic(auto)]
 
 mod captured;
@@ -33,11 +33,14 @@ ghost use Rattle.edge_io.specs.Causes.{Rose};
 ghost use Rattle.command_line.specs.Commands.{command_of};
 ghost use Rattle.replay.specs.Commands.{reads_source, usage_line};
 ghost use Rattle.replay.specs.Answers.{HasDone, HasRead, HasRefused, HasLawful, HasBroken, HasSoFar, HasFirst, HasFront, IsByText, IsUnfailing, CapturesAreAccepted, SeedsAreAccepted};
+ghost use Rattle.replay.specs.Reflection.{ReflectedRoutesAreMarked};
 ghost use Rattle.replay.specs.Refreshes.{RefreshesAreServed, RefreshesEnd};
 ghost use Rattle.command_line.specs.declared.words.Command.TheVariants.{Check};
 
 use crate::commands::obey;
-use crate::laws::{captures_are_accepted, refreshes_are_served, seeds_are_accepted};
+use crate::laws::{
+    captures_are_accepted, reflected_routes_are_marked, refreshes_are_served, seeds_are_accepted,
+};
 use command_line::read_command;
 use edge_io::{Sink, Source};
 use router_core::first_moment_stands;
@@ -87,6 +90,11 @@ pub fn replay<S: Source, K: Sink>(
     ensures refreshes { RefreshesAreServed }
     ensures refreshes_end { RefreshesEnd }
 
+    // In each allowed output, behind an idle, a route of one internal peer goes to another one only where one of them is a client of this
+    // route reflector, and marked (RFC 4456): the local ID stands in front of a CLUSTER_LIST that is one longer than received, and in
+    // which it wasn't. No route goes back to the peer that it is from.
+    ensures reflected { ReflectedRoutesAreMarked }
+
     // The words are no command, and the usage line was written.
     ensures usage { result ≡ Status.Usage → Appends (K.taken sink.old) (K.taken sink.new) usage_line }
     ensures command { command_of (map string_bytes words.now) ≢ None → result ≢ Status.Usage }
@@ -110,6 +118,7 @@ pub fn replay<S: Source, K: Sink>(
     seeds_are_accepted();
     captures_are_accepted();
     refreshes_are_served();
+    reflected_routes_are_marked();
     let Ok(command) = read_command(alloc, words) else {
         return Status::Memory;
     };

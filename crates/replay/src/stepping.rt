@@ -40,7 +40,7 @@ fn judge(
     line: &[u8],
 ) -> Result<Result<Event, Code>, Memory>
     ensures judged { IfOk result (λ answer. answer ≡ judge number core.now.moment.declared line.now) }
-    ensures formed { IfOk result (λ answer. IfOk answer (IsWellFormed core.now.moment.declared.profile.as4)) }
+    ensures formed { IfOk result (λ answer. IfOk answer (IsWellFormed core.now.moment.declared.profile)) }
 {
     let event = match parse(alloc, core.declared().profile(), line)? {
         Ok(event) => event,

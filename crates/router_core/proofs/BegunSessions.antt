@@ -54,11 +54,11 @@ module _ (j s : ℕ) where
 
     after_heard : (k : ℕ) (octets : List ℕ) (o : Option DeclaredPeer) → HasBegun j s (declared_heard d k octets o)
     after_heard k octets None = is
-    after_heard k octets (Some p) = down_if k (p.up && ends_session d.profile octets)
+    after_heard k octets (Some p) = down_if k (p.up && ends_session d.profile (not p.words.internal) octets)
 
     pub begun_follows : (event : Event) → HasBegun j s (declared_after d event)
     begun_follows (Up k) = after_up k (peer_at k d.peers)
     begun_follows (Down k) = after_down k (peer_at k d.peers)
     begun_follows (Bgp k octets) = after_heard k octets (peer_at k d.peers)
-    begun_follows (Peer k words) = pushed d.peers (record { words = words_of d.speaker k words; session = 0; up = false }) is
+    begun_follows (Peer k words client) = pushed d.peers (record { words = words_of d.speaker k words client; session = 0; up = false }) is
     begun_follows other = is

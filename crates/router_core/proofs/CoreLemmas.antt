@@ -52,7 +52,7 @@ record Prints (m m' : Moment) (said : List Line) : Type 0 where
   lines : ArePrinted m.declared said
   peers : KeepsPeers m.declared m'.declared
 
-step_prints : (m m' : Moment) (event : Event) (turns : ℕ) (said : List Line) → DeclarationsFollow → Stands m → IsPrintableMoment m → AreNumbered 4294967294 m.tree → refusal m.declared event ≡ None → IsWellFormed m.declared.profile.as4 event → HasStepped m event turns m' said
+step_prints : (m m' : Moment) (event : Event) (turns : ℕ) (said : List Line) → DeclarationsFollow → Stands m → IsPrintableMoment m → AreNumbered 4294967294 m.tree → refusal m.declared event ≡ None → IsWellFormed m.declared.profile event → HasStepped m event turns m' said
     → Prints m m' said
 step_prints m m' event turns said follow stands printable few admitted formed h =
     let l = event_printed m stands printable few event said turns m' admitted formed h.block in
@@ -100,9 +100,9 @@ module _ (old : Cored) (m : Moment) (n : ℕ) (failed : Bool) (view : record { m
   pub few_losses : n < 4294967295 → AreNumbered 4294967294 m.tree
   few_losses few proto = let most = stood.numbered proto in omega (arith, few, most)
 
-  module _ (event : Event) (turns : ℕ) (m' : Moment) (before now : Journaled) (few : old.events < 4294967295) (admitted : refusal old.moment.declared event ≡ None) (formed : IsWellFormed old.moment.declared.profile.as4 event) (follow : DeclarationsFollow) (g : Gives (HasStepped m event turns m') before now) where
+  module _ (event : Event) (turns : ℕ) (m' : Moment) (before now : Journaled) (few : old.events < 4294967295) (admitted : refusal old.moment.declared event ≡ None) (formed : IsWellFormed old.moment.declared.profile event) (follow : DeclarationsFollow) (g : Gives (HasStepped m event turns m') before now) where
     prints : Prints m m' g.0
-    prints = step_prints m m' event turns g.0 follow stood.stands stood.printable (few_losses (subst (λ (c : Cored). c.events < 4294967295) (sym view) few)) (subst (λ (c : Cored). refusal c.moment.declared event ≡ None) (sym view) admitted) (subst (λ (c : Cored). IsWellFormed c.moment.declared.profile.as4 event) (sym view) formed) g.2
+    prints = step_prints m m' event turns g.0 follow stood.stands stood.printable (few_losses (subst (λ (c : Cored). c.events < 4294967295) (sym view) few)) (subst (λ (c : Cored). refusal c.moment.declared event ≡ None) (sym view) admitted) (subst (λ (c : Cored). IsWellFormed c.moment.declared.profile event) (sym view) formed) g.2
 
     declared : m'.declared ≡ declared_after m.declared event
     declared = ap (λ (l : LiveState). l.declared) g.2.keeps.live ∙ follow (live_state m) event g.2.live g.2.after

@@ -1,5 +1,5 @@
 -- Each peer that is up has an exit, after each event as before it.
-use Rattle.router_core.proofs.Common.{sym, subst, ◌∙◌, ap, ◌≡◌, ℕ, refl, List, true, arith, false, ◌+◌, Bool, ◌++◌, cond, nat_eq, not, ◌≢◌, ◌&&◌, nat_tests, Network, Route, Speaker, Message, begun_words, peer_at, Declaration, with_session, without_session, begun_at, DeclaredPeer, Event, Down, Bgp, RouteAdd, RouteDel, Lose, Cover, Settled, Work, As4, Revised, Up, Redist, Exited, with_exit, Queued, Line, as4_is_first, revised_is_first, declared_after, changes_of, OutChained, overdue_at, Rule, Proto, tree_overdue, ByPeer, IsBlock, BeginsIf, EndsIf, HearsIf, Declares, BySpeaker, Begins, DropsRouteIf, Moment, with_exits, rules_to, all_phases, Stands, AllHaveExits, HaveSameExits}
+use Rattle.router_core.proofs.Common.{sym, subst, ◌∙◌, ap, ◌≡◌, ℕ, refl, List, true, arith, false, ◌+◌, Bool, ◌++◌, cond, nat_eq, not, ◌≢◌, ◌&&◌, nat_tests, Network, Route, Speaker, Message, begun_words, peer_at, Declaration, with_session, without_session, begun_at, DeclaredPeer, Event, Down, Bgp, RouteAdd, RouteDel, Lose, Cover, Settled, Work, As4, Revised, Reflect, Up, Redist, Exited, with_exit, Queued, Line, as4_is_first, revised_is_first, reflect_is_first, declared_after, changes_of, OutChained, overdue_at, Rule, Proto, tree_overdue, ByPeer, IsBlock, BeginsIf, EndsIf, HearsIf, Declares, BySpeaker, Begins, DropsRouteIf, Moment, with_exits, rules_to, all_phases, Stands, AllHaveExits, HaveSameExits}
 use Rattle.std.proofs.Common.{[], ◌∷◌, map, Option, Some, None, is_some}
 use Rattle.std.specs.Prelude.{IsSome, option_map}
 use Rattle.std.specs.FinMap as tables
@@ -132,7 +132,7 @@ only_down d k (Some p) j is = only_if p.up d k j is
 
 only_heard : (d : Declaration) (k : ℕ) (octets : List ℕ) (o : Option DeclaredPeer) → OnlyUp d (declared_heard d k octets o)
 only_heard d k octets None j is = is
-only_heard d k octets (Some p) j is = only_if (p.up && ends_session d.profile octets) d k j is
+only_heard d k octets (Some p) j is = only_if (p.up && ends_session d.profile (not p.words.internal) octets) d k j is
 
 module _ (m m' : Moment) (stands : Stands m) (all : AllHaveExits m) where
   by_peer : (P : DeclaredPeer → Type 0) (k : ℕ) (A : Type 0) → ((p : DeclaredPeer) → peer_at k m.declared.peers ≡ Some p → P p → A) → ByPeer P (peer_at k m.declared.peers) → A
@@ -146,11 +146,11 @@ module _ (m m' : Moment) (stands : Stands m) (all : AllHaveExits m) where
   stays : m' ≡ m → AllHaveExits m'
   stays same = subst AllHaveExits (sym same) all
 
-  declares : (s : Option Speaker) (k : ℕ) (words : Speaker) (said : List Line) (turns : ℕ) → Declares m s k words said turns m' → AllHaveExits m'
-  declares None k words said turns is j p at up = absurd is
-  declares (Some me) k words said turns is j p at up =
+  declares : (s : Option Speaker) (k : ℕ) (words : Speaker) (client : Bool) (said : List Line) (turns : ℕ) → Declares m s k words client said turns m' → AllHaveExits m'
+  declares None k words client said turns is j p at up = absurd is
+  declares (Some me) k words client said turns is j p at up =
       ap (λ (x : Moment). is_some (exit_at j x.exits)) is.2
-      ∙ all j p (pushed_up j m.declared.peers (record { words = words_of m.declared.speaker k words; session = 0; up = false }) p refl (ap (λ (x : Moment). peer_at j x.declared.peers) (sym is.2) ∙ at) up) up
+      ∙ all j p (pushed_up j m.declared.peers (record { words = words_of m.declared.speaker k words client; session = 0; up = false }) p refl (ap (λ (x : Moment). peer_at j x.declared.peers) (sym is.2) ∙ at) up) up
 
   begun_by : (s : Option Speaker) (k : ℕ) (p : DeclaredPeer) (said : List Line) → peer_at k m.declared.peers ≡ Some p → BySpeaker (λ me. Begins me k p m said m') s → AllHaveExits m'
   begun_by None k p said at is = absurd is
@@ -188,8 +188,9 @@ module _ (m m' : Moment) (stands : Stands m) (all : AllHaveExits m) where
   event_exits Nothing said turns admitted declared is = stays is.2
   event_exits As4 said turns admitted declared is = unpeered (no_peer m stands (as4_is_first m.declared admitted)) (ap (λ (x : Moment). x.declared.peers) is.2)
   event_exits Revised said turns admitted declared is = unpeered (no_peer m stands (revised_is_first m.declared admitted)) (ap (λ (x : Moment). x.declared.peers) is.2)
+  event_exits Reflect said turns admitted declared is = unpeered (no_peer m stands (reflect_is_first m.declared admitted)) (ap (λ (x : Moment). x.declared.peers) is.2)
   event_exits (Local words) said turns admitted declared is = by_same m m' all (λ j up. subst (IsUpIn j) declared up) (λ k. ap (λ (x : Moment). is_some (exit_at k x.exits)) is.1.after)
-  event_exits (Peer k words) said turns admitted declared is = declares m.declared.speaker k words said turns is
+  event_exits (Peer k words client) said turns admitted declared is = declares m.declared.speaker k words client said turns is
   event_exits (Up k) said turns admitted declared is = by_peer (λ p. BeginsIf p.up m k p said turns m') k _ (λ p at begins. begun_if p.up k p said turns at begins) is
   event_exits (Down k) said turns admitted declared is =
       by_peer (λ p. EndsIf p.up m k p said turns m') k _ (λ p at ends. ended_if p.up k p said turns (λ j up. only_down m.declared k (peer_at k m.declared.peers) j (subst (IsUpIn j) declared up)) ends) is

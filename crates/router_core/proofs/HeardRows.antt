@@ -1,11 +1,11 @@
 -- Rows whose attributes may be heard: those of the chains, this speaker's own, and so those of `best`.
-use Rattle.router_core.proofs.Common.{sym, subst, ◌≡◌, ℕ, refl, List, true, false, Bool, suc, zero, inr, inl, ForSome, Network, is_host_prefix, Attrs, Route, Profile, Speaker, AreOctets, Message, Update, best_is_a_branchs, filtered, resolver_at, Resolvers, rows_by, Chained, filt_rows, welded, fed, Entry, Task, Value, Rows, Change, changes_of, announced_with, withdrawn_from, all_both, route_hop, with_metric, Resolving, in_force_by, fresh_by, walk_to, goes_on, Metric, RowsMayBeHeard, Passed, function_at, IsSender, MayBeHeard, put_each, chain_at, Chains, filt_at, filt_by, put_chain, Protos, Interior, int_rows, own_rows, all_at, best_at, Moment, best_of, own_of, Stands, MaySend, AreHeard, IsHeardMessage}
-use Rattle.std.proofs.Common.{Option, Some, None}
+use Rattle.router_core.proofs.Common.{sym, subst, ◌≡◌, ◌<◌, ℕ, refl, List, true, false, Bool, suc, zero, inr, inl, ForSome, Network, is_host_prefix, Attrs, Route, Profile, Speaker, AreOctets, Message, Update, best_is_a_branchs, filtered, resolver_at, Resolvers, rows_by, Chained, filt_rows, welded, fed, Entry, Task, Value, Rows, Change, changes_of, announced_with, withdrawn_from, all_both, route_hop, with_metric, Resolving, in_force_by, fresh_by, walk_to, goes_on, Metric, RowsMayBeHeard, Passed, function_at, IsSender, MayBeHeard, put_each, chain_at, Chains, filt_at, filt_by, put_chain, Protos, Interior, int_rows, own_rows, all_at, best_at, Moment, best_of, own_of, Stands, MaySend, AreHeard, IsHeardMessage}
+use Rattle.std.proofs.Common.{◌^◌, Option, Some, None}
 use Rattle.std.proofs.lemmas.List.Elements.{All-nil}
 use Rattle.std.specs.Prelude.{filter, map, [], ◌∷◌}
 use Rattle.bgp_wire.specs.Grammar.{Reads, without}
 use Rattle.bgp_wire.specs.Attributes.{is_old_form}
-use Rattle.bgp_wire.specs.Readable.{IsReadableSegment}
+use Rattle.bgp_wire.specs.Readable.{IsReadableSegment, reads_reflection}
 use Rattle.bgp_wire.specs.Routes.{is_unrecognized}
 use Rattle.bgp_wire.specs.declared.message.Message.TheVariants as messages
 use Rattle.loss_chain.specs.Rows.{AllRows}
@@ -89,8 +89,10 @@ local_heard profile me sender = record {
   med = λ n is. absurd (cc);
   local_pref = λ n is. absurd (cc);
   aggregator = λ g is. absurd (cc);
+  originator = λ n is. absurd (cc);
+  clusters = All-nil (λ n. (reads_reflection profile false ≡ true) × (n < 2 ^ 32));
   order = tt;
-  types = All-nil (λ u. (is_unrecognized u.kind ≡ true) × (is_old_form profile u.kind ≡ false));
+  types = All-nil (λ u. (is_unrecognized profile u.kind ≡ true) × (is_old_form profile u.kind ≡ false));
 }
 
 pub heard_own_rows : (profile : Profile) (speaker : Option Speaker) (s : Passed Protos) (int : Rows Interior) → MaySend profile speaker → RowsMayBeHeard profile (own_rows speaker s int)

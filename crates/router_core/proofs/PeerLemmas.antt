@@ -45,20 +45,20 @@ peer_at_push_other j [] q other = ap (λ b. cond b (Some q) None) other
 peer_at_push_other j (p ∷ ps) q other = ap (λ o. cond (nat_eq p.words.number j) (Some p) o) (peer_at_push_other j ps q other)
 
 -- the peer as it is declared
-abbrev new_peer : Declaration → ℕ → Speaker → DeclaredPeer
-new_peer d k words = record { words = words_of d.speaker k words; session = 0; up = false }
+abbrev new_peer : Declaration → ℕ → Speaker → Bool → DeclaredPeer
+new_peer d k words client = record { words = words_of d.speaker k words client; session = 0; up = false }
 
 -- and where it is found
-pub new_peer_at : (d : Declaration) (k : ℕ) (words : Speaker) → peer_at k d.peers ≡ None → peer_at k (with_peer d k words).peers ≡ Some (new_peer d k words)
-new_peer_at d k words absent = peer_at_push_here k d.peers (new_peer d k words) absent refl
+pub new_peer_at : (d : Declaration) (k : ℕ) (words : Speaker) (client : Bool) → peer_at k d.peers ≡ None → peer_at k (with_peer d k words client).peers ≡ Some (new_peer d k words client)
+new_peer_at d k words client absent = peer_at_push_here k d.peers (new_peer d k words client) absent refl
 
-pub peer_absent : (d : Declaration) (k : ℕ) (words : Speaker) → refusal d (events.Peer k words) ≡ None → peer_at k d.peers ≡ None
-peer_absent d k words e = (addable d.profile d.speaker d.peers k words e).1
+pub peer_absent : (d : Declaration) (k : ℕ) (words : Speaker) (client : Bool) → refusal d (events.Peer k words client) ≡ None → peer_at k d.peers ≡ None
+peer_absent d k words client e = (addable d.profile d.speaker d.peers k words client e).1
 
 -- the peer that was just declared is there
-pub not_added : (before after : Declaration) (k : ℕ) (words : Speaker) → peer_at k before.peers ≡ None → after ≡ with_peer before k words → None ≡ peer_at k after.peers → ⊥
-not_added before after k words absent added none =
-    let there : peer_at k after.peers ≡ Some (new_peer before k words) = ap (λ (d : Declaration). peer_at k d.peers) added ∙ new_peer_at before k words absent in
+pub not_added : (before after : Declaration) (k : ℕ) (words : Speaker) (client : Bool) → peer_at k before.peers ≡ None → after ≡ with_peer before k words client → None ≡ peer_at k after.peers → ⊥
+not_added before after k words client absent added none =
+    let there : peer_at k after.peers ≡ Some (new_peer before k words client) = ap (λ (d : Declaration). peer_at k d.peers) added ∙ new_peer_at before k words client absent in
     cc
 
 no_chain : (o : Option DeclaredPeer) (c : Option Chained) → StandsAt o c → o ≡ None → c ≡ None
@@ -67,27 +67,27 @@ no_chain None (Some c) stands none = absurd stands
 no_chain (Some p) c stands none = absurd (cc)
 
 -- no chain stands before it is declared
-pub chain_absent : (m v : Moment) (k : ℕ) (words : Speaker) → v ≡ m → Stands m → refusal m.declared (events.Peer k words) ≡ None → chain_at k v.chains ≡ None
-chain_absent m v k words view stands admitted =
-    ap (λ (n : Moment). chain_at k n.chains) view ∙ no_chain (peer_at k m.declared.peers) (chain_at k m.chains) (stands.peers.each k) (peer_absent m.declared k words admitted)
+pub chain_absent : (m v : Moment) (k : ℕ) (words : Speaker) (client : Bool) → v ≡ m → Stands m → refusal m.declared (events.Peer k words client) ≡ None → chain_at k v.chains ≡ None
+chain_absent m v k words client view stands admitted =
+    ap (λ (n : Moment). chain_at k n.chains) view ∙ no_chain (peer_at k m.declared.peers) (chain_at k m.chains) (stands.peers.each k) (peer_absent m.declared k words client admitted)
 
 -- its words, as they were read again
-declared_is : (before after : Declaration) (k : ℕ) (words : Speaker) (p : DeclaredPeer) → peer_at k before.peers ≡ None → after ≡ with_peer before k words → Some p ≡ peer_at k after.peers → p ≡ new_peer before k words
-declared_is before after k words p absent added there =
-    same_Some p (new_peer before k words) (there ∙ ap (λ (d : Declaration). peer_at k d.peers) added ∙ new_peer_at before k words absent)
+declared_is : (before after : Declaration) (k : ℕ) (words : Speaker) (client : Bool) (p : DeclaredPeer) → peer_at k before.peers ≡ None → after ≡ with_peer before k words client → Some p ≡ peer_at k after.peers → p ≡ new_peer before k words client
+declared_is before after k words client p absent added there =
+    same_Some p (new_peer before k words client) (there ∙ ap (λ (d : Declaration). peer_at k d.peers) added ∙ new_peer_at before k words client absent)
 
-pub new_number : (m v : Moment) (after : Declaration) (k : ℕ) (words : Speaker) (p : DeclaredPeer) → v ≡ m → refusal m.declared (events.Peer k words) ≡ None → after ≡ with_peer v.declared k words → Some p ≡ peer_at k after.peers
+pub new_number : (m v : Moment) (after : Declaration) (k : ℕ) (words : Speaker) (client : Bool) (p : DeclaredPeer) → v ≡ m → refusal m.declared (events.Peer k words client) ≡ None → after ≡ with_peer v.declared k words client → Some p ≡ peer_at k after.peers
     → p.words.number ≡ k
-new_number m v after k words p view admitted added there =
-    let absent : peer_at k v.declared.peers ≡ None = ap (λ (n : Moment). peer_at k n.declared.peers) view ∙ peer_absent m.declared k words admitted in
-    ap (λ (q : DeclaredPeer). q.words.number) (declared_is v.declared after k words p absent added there)
+new_number m v after k words client p view admitted added there =
+    let absent : peer_at k v.declared.peers ≡ None = ap (λ (n : Moment). peer_at k n.declared.peers) view ∙ peer_absent m.declared k words client admitted in
+    ap (λ (q : DeclaredPeer). q.words.number) (declared_is v.declared after k words client p absent added there)
 
 -- nor a resolver
-pub resolver_absent : (m v : Moment) (after : Declaration) (k : ℕ) (words : Speaker) (p : DeclaredPeer) → v ≡ m → Stands m → refusal m.declared (events.Peer k words) ≡ None → after ≡ with_peer v.declared k words → Some p ≡ peer_at k after.peers
+pub resolver_absent : (m v : Moment) (after : Declaration) (k : ℕ) (words : Speaker) (client : Bool) (p : DeclaredPeer) → v ≡ m → Stands m → refusal m.declared (events.Peer k words client) ≡ None → after ≡ with_peer v.declared k words client → Some p ≡ peer_at k after.peers
     → resolver_at p.words.number v.hops ≡ None
-resolver_absent m v after k words p view stands admitted added there =
-    ap (λ (n : ℕ). resolver_at n v.hops) (new_number m v after k words p view admitted added there)
-    ∙ no_table (resolver_at k v.hops) ((subst Stands (sym view) stands).hops.same k ∙ ap is_some (chain_absent m v k words view stands admitted))
+resolver_absent m v after k words client p view stands admitted added there =
+    ap (λ (n : ℕ). resolver_at n v.hops) (new_number m v after k words client p view admitted added there)
+    ∙ no_table (resolver_at k v.hops) ((subst Stands (sym view) stands).hops.same k ∙ ap is_some (chain_absent m v k words client view stands admitted))
 
 -- what a resolver that begins keeps
 pub record BeginsWith (k : ℕ) (a a' : Resolvers) : Type 0 where
@@ -101,9 +101,9 @@ pub record BeginsHops (k : ℕ) (a a' : Resolvers) (before now : Journaled) : Ty
   pub lines : now ≡ with_entries before (hop_begins k)
   pub begins : BeginsWith k a a'
 
-module _ (m : Moment) (me : Speaker) (k : ℕ) (words : Speaker) (is_local : m.declared.speaker ≡ Some me) (stands : Stands m) (absent : peer_at k m.declared.peers ≡ None) where
+module _ (m : Moment) (me : Speaker) (k : ℕ) (words : Speaker) (client : Bool) (is_local : m.declared.speaker ≡ Some me) (stands : Stands m) (absent : peer_at k m.declared.peers ≡ None) where
   abbrev fresh : Chained
-  fresh = new_chain me (words_of m.declared.speaker k words)
+  fresh = new_chain me (words_of m.declared.speaker k words client)
 
   no_chain_yet : chain_at k m.chains ≡ None
   no_chain_yet = no_chain (peer_at k m.declared.peers) (chain_at k m.chains) (stands.peers.each k) absent
@@ -137,18 +137,18 @@ module _ (m : Moment) (me : Speaker) (k : ℕ) (words : Speaker) (is_local : m.d
   same_best : best_at (own_of m) (put_chain k fresh m.chains) hops_then ≡ best_of m
   same_best = same_decided ∙ best_quiet (own_of m) m.chains (put_chain k fresh m.chains) m.hops quiet
 
-  declared_stands : (1 ≤ k) × (k ≤ 64) → IsPeers (put_chain k fresh m.chains) → BeginsWith k m.hops hops_then → Stands (declared_peer m me k words)
+  declared_stands : (1 ≤ k) × (k ≤ 64) → IsPeers (put_chain k fresh m.chains) → BeginsWith k m.hops hops_then → Stands (declared_peer m me k words client)
   declared_stands small peers begins = record {
     peers = record {
       chains = peers;
-      each = λ j. subst (λ (o : Option Chained). StandsAt (peer_at j (with_peer m.declared k words).peers) o) (sym (at_put k fresh m.chains j))
-          (by_bool (nat_eq j k) (λ b. StandsAt (peer_at j (with_peer m.declared k words).peers) (cond b (Some fresh) (chain_at j m.chains)))
-          (λ e. subst (λ (n : ℕ). StandsAt (peer_at n (with_peer m.declared k words).peers) (Some fresh)) (sym (equal_by j k e))
-          (subst (λ (o : Option DeclaredPeer). StandsAt o (Some fresh)) (sym (new_peer_at m.declared k words absent)) (record { words = refl; earlier = tt; silent = refl })))
+      each = λ j. subst (λ (o : Option Chained). StandsAt (peer_at j (with_peer m.declared k words client).peers) o) (sym (at_put k fresh m.chains j))
+          (by_bool (nat_eq j k) (λ b. StandsAt (peer_at j (with_peer m.declared k words client).peers) (cond b (Some fresh) (chain_at j m.chains)))
+          (λ e. subst (λ (n : ℕ). StandsAt (peer_at n (with_peer m.declared k words client).peers) (Some fresh)) (sym (equal_by j k e))
+          (subst (λ (o : Option DeclaredPeer). StandsAt o (Some fresh)) (sym (new_peer_at m.declared k words client absent)) (record { words = refl; earlier = tt; silent = refl })))
           (λ e. subst (λ (o : Option DeclaredPeer). StandsAt o (chain_at j m.chains))
-          (sym (peer_at_push_other j m.declared.peers (new_peer m.declared k words) (other_by k j (λ same. let t : true ≡ false = sym (same_by j k (sym same)) ∙ e in cc)))) (stands.peers.each j)));
+          (sym (peer_at_push_other j m.declared.peers (new_peer m.declared k words client) (other_by k j (λ same. let t : true ≡ false = sym (same_by j k (sym same)) ∙ e in cc)))) (stands.peers.each j)));
       speaker = put_each (λ j c. m.declared.speaker ≡ Some c.me) k fresh m.chains is_local stands.peers.speaker;
-      count = put_more k fresh m.chains no_chain_yet ∙ ap (λ (n : ℕ). n + 1) stands.peers.count ∙ sym (length_push m.declared.peers (new_peer m.declared k words));
+      count = put_more k fresh m.chains no_chain_yet ∙ ap (λ (n : ℕ). n + 1) stands.peers.count ∙ sym (length_push m.declared.peers (new_peer m.declared k words client));
       numbers = λ j some. by_bool (nat_eq j k) (λ b. is_some (cond b (Some fresh) (chain_at j m.chains)) ≡ true → (1 ≤ j) × (j ≤ 64)) (λ e _. subst (λ (n : ℕ). (1 ≤ n) × (n ≤ 64)) (sym (equal_by j k e)) small) (λ _ there. stands.peers.numbers j there)
           (sym (ap is_some (at_put k fresh m.chains j)) ∙ some);
     };
@@ -169,13 +169,13 @@ module _ (m : Moment) (me : Speaker) (k : ℕ) (words : Speaker) (is_local : m.d
       read = subst (λ (rows : Rows Route). AllStand rows m.exits) (sym same_best) stands.exits.read;
       profile = stands.exits.profile;
       sender = stands.exits.sender;
-      sessions = λ j. by_bool (nat_eq j k) (λ b. ExitsAt m.declared.speaker m.outgoing j (peer_at j (with_peer m.declared k words).peers) (exit_at j m.exits))
-          (λ e. subst (λ (n : ℕ). ExitsAt m.declared.speaker m.outgoing n (peer_at n (with_peer m.declared k words).peers) (exit_at n m.exits)) (sym (equal_by j k e))
-          (subst (λ (o : Option OutChained). ExitsAt m.declared.speaker m.outgoing k (peer_at k (with_peer m.declared k words).peers) o)
+      sessions = λ j. by_bool (nat_eq j k) (λ b. ExitsAt m.declared.speaker m.outgoing j (peer_at j (with_peer m.declared k words client).peers) (exit_at j m.exits))
+          (λ e. subst (λ (n : ℕ). ExitsAt m.declared.speaker m.outgoing n (peer_at n (with_peer m.declared k words client).peers) (exit_at n m.exits)) (sym (equal_by j k e))
+          (subst (λ (o : Option OutChained). ExitsAt m.declared.speaker m.outgoing k (peer_at k (with_peer m.declared k words client).peers) o)
           (sym (undeclared_none m.declared.speaker m.outgoing k (exit_at k m.exits) (subst (λ (o : Option DeclaredPeer). ExitsAt m.declared.speaker m.outgoing k o (exit_at k m.exits)) absent (stands.exits.sessions k))))
-          (exits_none m.declared.speaker m.outgoing k (peer_at k (with_peer m.declared k words).peers))))
+          (exits_none m.declared.speaker m.outgoing k (peer_at k (with_peer m.declared k words client).peers))))
           (λ e. subst (λ (o : Option DeclaredPeer). ExitsAt m.declared.speaker m.outgoing j o (exit_at j m.exits))
-          (sym (peer_at_push_other j m.declared.peers (new_peer m.declared k words) (other_by k j (λ same. let t : true ≡ false = sym (same_by j k (sym same)) ∙ e in cc)))) (stands.exits.sessions j));
+          (sym (peer_at_push_other j m.declared.peers (new_peer m.declared k words client) (other_by k j (λ same. let t : true ≡ false = sym (same_by j k (sym same)) ∙ e in cc)))) (stands.exits.sessions j));
       one = stands.exits.one;
       external = subst (λ (rows : Rows Route). StandsOver (read_rows_by m.exits.queue m.reader rows) m.rib) (sym same_best) stands.exits.external;
     };
@@ -196,48 +196,48 @@ module _ (m : Moment) (me : Speaker) (k : ℕ) (words : Speaker) (is_local : m.d
   stays f same = put_kept f k fresh m.chains (same ∙ ap f (sym no_chain_yet))
 
   peer_stepped : LeadsIn Inward (peer_links m.chains) (begin_entries k) (peer_links (put_chain k fresh m.chains)) → (1 ≤ k) × (k ≤ 64) → IsPeers (put_chain k fresh m.chains) → BeginsWith k m.hops hops_then
-      → HasStepped m (events.Peer k words) 0 (declared_peer m me k words) (journal_lines (begin_entries k ++ hop_begins k))
+      → HasStepped m (events.Peer k words client) 0 (declared_peer m me k words client) (journal_lines (begin_entries k ++ hop_begins k))
   peer_stepped leads small peers begins = record {
-    block = subst (λ (s : Option Speaker). Declares m s k words (journal_lines (begin_entries k ++ hop_begins k)) 0 (declared_peer m me k words)) (sym is_local) (refl, refl, refl);
-    live = record (live_state m) { declared = with_peer m.declared k words };
+    block = subst (λ (s : Option Speaker). Declares m s k words client (journal_lines (begin_entries k ++ hop_begins k)) 0 (declared_peer m me k words client)) (sym is_local) (refl, refl, refl);
+    live = record (live_state m) { declared = with_peer m.declared k words client };
     after = refl;
     keeps = record {
-      leads = leads_both (router_links m) (router_links (with_chains m (put_chain k fresh m.chains))) (router_links (declared_peer m me k words)) (begin_entries k) (hop_begins k)
+      leads = leads_both (router_links m) (router_links (with_chains m (put_chain k fresh m.chains))) (router_links (declared_peer m me k words client)) (begin_entries k) (hop_begins k)
           (leads_inward m (put_chain k fresh m.chains) (begin_entries k) quiet leads)
           (leads_resolved (with_chains m (put_chain k fresh m.chains)) me m.registry hops_then m.exits (record { address = 0; length = 0 }) (hop_begins k) None is_local (reader_live m stands) (begins.leads (filt_at (put_chain k fresh m.chains)) no_upper) same_decided refl);
-      live = λ i. record (live_state m) { declared = with_peer m.declared k words; routes = λ j. stays routes_of refl j i; rules = λ j. stays rules_of refl j i };
+      live = λ i. record (live_state m) { declared = with_peer m.declared k words client; routes = λ j. stays routes_of refl j i; rules = λ j. stays rules_of refl j i };
       stands = declared_stands small peers begins;
-      heard = heard_quiet m (declared_peer m me k words) (journal_lines (begin_entries k ++ hop_begins k)) (refl, (refl, (refl, tt))) refl;
+      heard = heard_quiet m (declared_peer m me k words client) (journal_lines (begin_entries k ++ hop_begins k)) (refl, (refl, (refl, tt))) refl;
     };
   }
 
-pub peer_declared : (m v : Moment) (me : Speaker) (k : ℕ) (words : Speaker) (after : Declaration) (p : DeclaredPeer) (cs : Chains) (hs : Resolvers) (before j now : Journaled) → v ≡ m → Stands m → refusal m.declared (events.Peer k words) ≡ None → IsWellFormed m.declared.profile.as4 (events.Peer k words)
-    → Some me ≡ v.declared.speaker → after ≡ with_peer v.declared k words → Some p ≡ peer_at k after.peers → cs ≡ put_chain k (new_chain me p.words) v.chains → j ≡ with_entries before (begin_entries k)
-    → LeadsIn Inward (peer_links v.chains) (begin_entries k) (peer_links cs) → IsPeers cs → BeginsHops p.words.number v.hops hs j now → Pushes (HasStepped m (events.Peer k words) 0 (record v { declared = after; chains = cs; hops = hs })) before now
-peer_declared m v me k words after p cs hs before j now view stands admitted formed local added there put lines leads peers begins =
-    subst (λ (n : Moment). Pushes (HasStepped n (events.Peer k words) 0 (record v { declared = after; chains = cs; hops = hs })) before now) view (
+pub peer_declared : (m v : Moment) (me : Speaker) (k : ℕ) (words : Speaker) (client : Bool) (after : Declaration) (p : DeclaredPeer) (cs : Chains) (hs : Resolvers) (before j now : Journaled) → v ≡ m → Stands m → refusal m.declared (events.Peer k words client) ≡ None → IsWellFormed m.declared.profile (events.Peer k words client)
+    → Some me ≡ v.declared.speaker → after ≡ with_peer v.declared k words client → Some p ≡ peer_at k after.peers → cs ≡ put_chain k (new_chain me p.words) v.chains → j ≡ with_entries before (begin_entries k)
+    → LeadsIn Inward (peer_links v.chains) (begin_entries k) (peer_links cs) → IsPeers cs → BeginsHops p.words.number v.hops hs j now → Pushes (HasStepped m (events.Peer k words client) 0 (record v { declared = after; chains = cs; hops = hs })) before now
+peer_declared m v me k words client after p cs hs before j now view stands admitted formed local added there put lines leads peers begins =
+    subst (λ (n : Moment). Pushes (HasStepped n (events.Peer k words client) 0 (record v { declared = after; chains = cs; hops = hs })) before now) view (
       journal_lines (begin_entries k ++ hop_begins k),
       hop.lines ∙ ap (λ (x : Journaled). with_entries x (hop_begins k)) lines ∙ with_entries_append before (begin_entries k) (hop_begins k),
-      subst (λ (n : Moment). HasStepped v (events.Peer k words) 0 n (journal_lines (begin_entries k ++ hop_begins k))) (sym is)
-          (peer_stepped v me k words (sym local) (subst Stands (sym view) stands) absent (subst (λ (x : Chains). LeadsIn Inward (peer_links v.chains) (begin_entries k) (peer_links x)) chains leads) (let least = formed.0.least in omega (arith, least), (addable m.declared.profile m.declared.speaker m.declared.peers k words admitted).0) (subst IsPeers chains peers)
+      subst (λ (n : Moment). HasStepped v (events.Peer k words client) 0 n (journal_lines (begin_entries k ++ hop_begins k))) (sym is)
+          (peer_stepped v me k words client (sym local) (subst Stands (sym view) stands) absent (subst (λ (x : Chains). LeadsIn Inward (peer_links v.chains) (begin_entries k) (peer_links x)) chains leads) (let least = formed.0.least in omega (arith, least), (addable m.declared.profile m.declared.speaker m.declared.peers k words client admitted).0) (subst IsPeers chains peers)
           (subst (λ (x : Resolvers). BeginsWith k v.hops x) hop.after hop.begins)),
     )
   where
     absent : peer_at k v.declared.peers ≡ None
-    absent = ap (λ (n : Moment). peer_at k n.declared.peers) view ∙ peer_absent m.declared k words admitted
+    absent = ap (λ (n : Moment). peer_at k n.declared.peers) view ∙ peer_absent m.declared k words client admitted
 
     own : p.words.number ≡ k
-    own = ap (λ (q : DeclaredPeer). q.words.number) (declared_is v.declared after k words p absent added there)
+    own = ap (λ (q : DeclaredPeer). q.words.number) (declared_is v.declared after k words client p absent added there)
 
     hop : BeginsHops k v.hops hs j now
     hop = subst (λ (n : ℕ). BeginsHops n v.hops hs j now) own begins
 
-    chains : cs ≡ put_chain k (new_chain me (words_of v.declared.speaker k words)) v.chains
-    chains = put ∙ ap (λ (q : DeclaredPeer). put_chain k (new_chain me q.words) v.chains) (declared_is v.declared after k words p absent added there)
+    chains : cs ≡ put_chain k (new_chain me (words_of v.declared.speaker k words client)) v.chains
+    chains = put ∙ ap (λ (q : DeclaredPeer). put_chain k (new_chain me q.words) v.chains) (declared_is v.declared after k words client p absent added there)
 
-    is : record v { declared = after; chains = cs; hops = hs } ≡ declared_peer v me k words
-    is = ap (λ (d : Declaration). record v { declared = d; chains = cs; hops = hs }) added ∙ ap (λ (x : Chains). record v { declared = with_peer v.declared k words; chains = x; hops = hs }) chains
-        ∙ ap (λ (x : Resolvers). record v { declared = with_peer v.declared k words; chains = put_chain k (new_chain me (words_of v.declared.speaker k words)) v.chains; hops = x }) hop.after
+    is : record v { declared = after; chains = cs; hops = hs } ≡ declared_peer v me k words client
+    is = ap (λ (d : Declaration). record v { declared = d; chains = cs; hops = hs }) added ∙ ap (λ (x : Chains). record v { declared = with_peer v.declared k words client; chains = x; hops = hs }) chains
+        ∙ ap (λ (x : Resolvers). record v { declared = with_peer v.declared k words client; chains = put_chain k (new_chain me (words_of v.declared.speaker k words client)) v.chains; hops = x }) hop.after
 
 -- ---- a session begins
 pub peer_at_map : (f : DeclaredPeer → DeclaredPeer) → KeepsWords f → (j : ℕ) (ps : List DeclaredPeer) → peer_at j (map f ps) ≡ option_map f (peer_at j ps)
@@ -327,11 +327,11 @@ pub begun_is : (m v : Moment) (k : ℕ) (after : Declaration) → v ≡ m → af
 begun_is m v k after view began = ap (λ (d : Declaration). record v { declared = d }) began ∙ ap (λ (n : Moment). begun n k) view
 
 -- ---- `local`
-pub peer_after : (d : Declaration) (k : ℕ) (words : Speaker) → refusal d (events.Peer k words) ≡ None → None ≡ d.speaker → ⊥
+pub peer_after : (d : Declaration) (k : ℕ) (words : Speaker) (client : Bool) → refusal d (events.Peer k words client) ≡ None → None ≡ d.speaker → ⊥
 unfolding refusal
-peer_after d k words e none = by_speaker d.speaker e none
+peer_after d k words client e none = by_speaker d.speaker e none
   where
-    by_speaker : (s : Option Speaker) → refusal_at d.profile s d.peers (events.Peer k words) ≡ None → None ≡ s → ⊥
+    by_speaker : (s : Option Speaker) → refusal_at d.profile s d.peers (events.Peer k words client) ≡ None → None ≡ s → ⊥
     by_speaker None e none = absurd (cc)
     by_speaker (Some me) e none = absurd (cc)
 

@@ -1,5 +1,5 @@
 -- What each event says can be printed, and so can what stands behind it.
-use Rattle.router_core.proofs.Common.{sym, subst, ◌∙◌, ap, ◌≡◌, ℕ, refl, List, true, arith, false, ◌+◌, Bool, ◌++◌, ◌≤◌, cond, ◌<◌, nat_eq, not, ◌&&◌, IfSome, get-empty, AllByRecursion, nat_cmp, Network, is_host_prefix, Attrs, Neighbour, Profile, Speaker, AreOctets, Message, Update, peer_at, Declaration, with_four_octets, with_revised, IsWellFormed, DeclaredPeer, Event, Down, Bgp, RouteAdd, RouteDel, Lose, Cover, Settled, Work, As4, Revised, Up, Redist, ArePrintableExits, resolver_at, Chained, IsPrefix, AllHaveMetrics, IsFit, neighbours, words_in, IsPrinted, AreTablesOf, IsInteriorRow, IsPrintableChain, HaveWays, IsNameNumber, Line, Link, Task, Value, Rows, is_empty_map, speaker_since, as4_is_first, revised_is_first, LiveState, changes_of, Says, announced_with, withdrawn_from, all_both, table_of, Hop, Resolving, Metric, OutChained, put_each, chain_at, overdue_at, has_turn_in, Rule, width, Proto, Connected, Static, Ospf, Rip, Interior, put_all, Branch, way_of_route, tree_overdue, fed_tree, int_rows, branch_of, ByPeer, IsBlock, BeginsIf, EndsIf, HearsIf, Declares, BySpeaker, Begins, DropsRouteIf, answer_lines, Shows, Moment, router_links, with_exits, rules_to, all_phases, ArePrinted, IsPrintableMoment, Stands, ExitsAt, journal_lines, has_work, FallsRoute}
+use Rattle.router_core.proofs.Common.{sym, subst, ◌∙◌, ap, ◌≡◌, ℕ, refl, List, true, arith, false, ◌+◌, Bool, ◌++◌, ◌≤◌, cond, ◌<◌, nat_eq, not, ◌&&◌, IfSome, get-empty, AllByRecursion, nat_cmp, Network, is_host_prefix, Attrs, Neighbour, Profile, Speaker, AreOctets, Message, Update, peer_at, Declaration, with_four_octets, with_revised, with_reflection, IsWellFormed, DeclaredPeer, Event, Down, Bgp, RouteAdd, RouteDel, Lose, Cover, Settled, Work, As4, Revised, Reflect, Up, Redist, ArePrintableExits, resolver_at, Chained, IsPrefix, AllHaveMetrics, IsFit, neighbours, words_in, IsPrinted, AreTablesOf, IsInteriorRow, IsPrintableChain, HaveWays, IsNameNumber, Line, Link, Task, Value, Rows, is_empty_map, speaker_since, as4_is_first, revised_is_first, reflect_is_first, LiveState, changes_of, Says, announced_with, withdrawn_from, all_both, table_of, Hop, Resolving, Metric, OutChained, put_each, chain_at, overdue_at, has_turn_in, Rule, width, Proto, Connected, Static, Ospf, Rip, Interior, put_all, Branch, way_of_route, tree_overdue, fed_tree, int_rows, branch_of, ByPeer, IsBlock, BeginsIf, EndsIf, HearsIf, Declares, BySpeaker, Begins, DropsRouteIf, answer_lines, Shows, Moment, router_links, with_exits, rules_to, all_phases, ArePrinted, IsPrintableMoment, Stands, ExitsAt, journal_lines, has_work, FallsRoute}
 use Rattle.std.proofs.Common.{◌^◌, ◌==◌, [], ◌∷◌, map, Option, Some, None, IsSome, is_some}
 use Rattle.std.specs.Prelude.{filter, length}
 use Rattle.std.proofs.lemmas.List.Elements.{All-nil}
@@ -290,9 +290,9 @@ module _ (m : Moment) (stands : Stands m) (printable : IsPrintableMoment m) wher
         by_found None at is = absurd is
         by_found (Some p) at is = then p at is
 
-    declared : (speaker : Option Speaker) (k : ℕ) (words : Speaker) (said : List Line) (turns : ℕ) (m' : Moment) → IsNameNumber k → Declares m speaker k words said turns m' → Leaves m.declared.profile (neighbours m.declared) m' said
-    declared None k words said turns m' named is = absurd is
-    declared (Some me) k words said turns m' named is = just _ _ said turns m' is (record {
+    declared : (speaker : Option Speaker) (k : ℕ) (words : Speaker) (client : Bool) (said : List Line) (turns : ℕ) (m' : Moment) → IsNameNumber k → Declares m speaker k words client said turns m' → Leaves m.declared.profile (neighbours m.declared) m' said
+    declared None k words client said turns m' named is = absurd is
+    declared (Some me) k words client said turns m' named is = just _ _ said turns m' is (record {
       chains = put_each (λ j c. IsPrintableChain m.declared.profile c) k _ m.chains (record { tables = none_printable _; in_force = All-nil (IsRule m.declared.profile.as4); walk = tt }) printable.chains;
       interior = printable.interior;
       hops = metrics_put k (nothing_known k) m.hops _ refl (λ a h at. absurd (let none = get-empty {X = Hop Metric} nat_cmp a in cc)) printable.hops;
@@ -351,16 +351,17 @@ module _ (m : Moment) (stands : Stands m) (printable : IsPrintableMoment m) wher
           printed = tt;
         }))
 
-    pub event_printed : (event : Event) (said : List Line) (turns : ℕ) (m' : Moment) → refusal m.declared event ≡ None → IsWellFormed m.declared.profile.as4 event → IsBlock m event said turns m' → Leaves (profile_after m.declared.profile event) (neighbours m.declared) m' said
+    pub event_printed : (event : Event) (said : List Line) (turns : ℕ) (m' : Moment) → refusal m.declared event ≡ None → IsWellFormed m.declared.profile event → IsBlock m event said turns m' → Leaves (profile_after m.declared.profile event) (neighbours m.declared) m' said
     event_printed As4 said turns m' admitted formed is = profiled_printed (with_four_octets m.declared.profile) said turns m' (as4_is_first m.declared admitted) is
     event_printed Revised said turns m' admitted formed is = profiled_printed (with_revised m.declared.profile) said turns m' (revised_is_first m.declared admitted) is
+    event_printed Reflect said turns m' admitted formed is = profiled_printed (with_reflection m.declared.profile) said turns m' (reflect_is_first m.declared admitted) is
     event_printed Nothing said turns m' admitted formed is = just [] m said turns m' is (stays [] m refl tt)
     event_printed (Local words) said turns m' admitted formed is =
         let l = is.1 in
         let inherits = plain_printed (neighbours m.declared) (lines.Journal (entries.Inherit links.ReadRib links.Best)) refl refl (tt, tt) in
         subst (λ (n : Moment). Leaves m.declared.profile (neighbours m.declared) n said) (sym l.after) (exits_leave _ _ refl refl refl refl (join_is_printed m.declared.profile (neighbours m.declared) l.reader m.exits printable.exits)
         (subst Printed (sym l.lines) (begun (links.Org Connected) tt, (begun (links.Org Static) tt, (begun (links.Org Ospf) tt, (begun (links.Org Rip) tt, (begun links.Low tt, (begun links.Dyn tt, (begun links.Int tt, (begun links.Red tt, (begun links.Best tt, (inherits, (begun links.Ebgp tt, (begun links.Ibgp tt, (begun links.Ext tt, (begun links.Fib tt, tt))))))))))))))))
-    event_printed (Peer k words) said turns m' admitted formed is = declared m.declared.speaker k words said turns m' (formed.0.least, formed.0.fits) is
+    event_printed (Peer k words client) said turns m' admitted formed is = declared m.declared.speaker k words client said turns m' (formed.0.least, formed.0.fits) is
     event_printed (Up k) said turns m' admitted formed is = by_peer (λ p. BeginsIf p.up m k p said turns m') k _ (λ p at begins. begun_if p.up k p said turns m' at begins) is
     event_printed (Down k) said turns m' admitted formed is = by_peer (λ p. EndsIf p.up m k p said turns m') k _ (λ p at ends. ended_if p.up k p said turns m' refl at ends) is
     event_printed (Bgp k octets) said turns m' admitted formed is = by_peer (λ p. HearsIf p.up m k p octets said turns m') k _ (λ p at hears. heard_if p.up k p octets said turns m' refl at formed.1.bytes hears) is

@@ -50,7 +50,7 @@ module _ (profile : Profile) (peers : ℕ → Option Neighbour) where
   own_printed nobody me sender = record {
     well_told = record {
       ranges = record { attrs = record { path = tt; med = tt; local_pref = tt; aggregator = tt; unrecognized = tt }; pref = omega arith; med = tt; prepend = omega arith; igp = omega arith; from = omega arith };
-      told = (record { next_hop = sender.addr.fits; aggregator = tt }, sym nobody);
+      told = (record { next_hop = sender.addr.fits; aggregator = tt; originator = tt; clusters = tt }, sym nobody);
     };
     short = (false, own_short me.addr);
   }

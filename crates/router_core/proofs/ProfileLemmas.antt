@@ -1,6 +1,6 @@
 -- `as4` and `revised`: before `local` messages are read and written by another profile from now on, and nothing else changes.
-use Rattle.router_core.proofs.Common.{sym, subst, ◌∙◌, ap, ◌≡◌, ℕ, refl, List, true, false, Bool, cond, ◌&&◌, get-empty, nat_cmp, Route, Neighbour, Profile, Speaker, peer_at, Declaration, with_session, with_four_octets, with_revised, without_session, DeclaredPeer, Event, Down, Bgp, As4, Revised, Up, ArePrintableExits, unread_or_none, Journaled, flushed, Link, Adv, Read, Outf, Rows, Change, declared_after, OutChained, StandsOver, IsBlock, live_state, Moment, best_of, router_links, Gives, read_rows_by, read_of, read_by, Stands, ExitsAt, ReadsOn, MaySend, HasStepped}
-use Rattle.std.proofs.Common.{[], Option, Some, None}
+use Rattle.router_core.proofs.Common.{sym, subst, ◌∙◌, ap, ◌≡◌, ℕ, refl, List, true, false, Bool, cond, ◌&&◌, get-empty, nat_cmp, Route, Neighbour, Profile, Speaker, peer_at, Declaration, with_session, with_four_octets, with_revised, with_reflection, without_session, DeclaredPeer, Event, Down, Bgp, As4, Revised, Reflect, Up, ArePrintableExits, unread_or_none, Journaled, flushed, Link, Adv, Read, Outf, Rows, Change, declared_after, OutChained, StandsOver, IsBlock, live_state, Moment, best_of, router_links, Gives, read_rows_by, read_of, read_by, Stands, ExitsAt, ReadsOn, MaySend, HasStepped}
+use Rattle.std.proofs.Common.{not, [], Option, Some, None}
 use Rattle.std.specs.FinMap as tables
 use Rattle.journal_text.specs.declared.link.Link.TheVariants.{ReadRib}
 use Rattle.exit_side.specs.Exits.{no_exits, links_by, chain_at as exit_at}
@@ -19,6 +19,7 @@ use Rattle.router_core.proofs.QueueLemmas.{exits_none}
 abbrev pub profile_after : Profile → Event → Profile
 profile_after profile As4 = with_four_octets profile
 profile_after profile Revised = with_revised profile
+profile_after profile Reflect = with_reflection profile
 profile_after profile other = profile
 
 up_keeps : (d : Declaration) (k : ℕ) (o : Option DeclaredPeer) → d.profile ≡ (declared_up d k o).profile
@@ -35,7 +36,7 @@ down_keeps d k (Some p) = ends_keeps d k p.up
 
 heard_keeps : (d : Declaration) (k : ℕ) (octets : List ℕ) (o : Option DeclaredPeer) → d.profile ≡ (declared_heard d k octets o).profile
 heard_keeps d k octets None = refl
-heard_keeps d k octets (Some p) = ends_keeps d k (p.up && ends_session d.profile octets)
+heard_keeps d k octets (Some p) = ends_keeps d k (p.up && ends_session d.profile (not p.words.internal) octets)
 
 pub profile_follows : (d : Declaration) (event : Event) → profile_after d.profile event ≡ (declared_after d event).profile
 profile_follows d (Up k) = up_keeps d k (peer_at k d.peers)

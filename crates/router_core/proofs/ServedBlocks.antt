@@ -1,5 +1,5 @@
 -- Who asked for all routes again is served on by each event, and who asks is served from then on.
-use Rattle.router_core.proofs.Common.{sym, subst, ◌∙◌, ap, ◌≡◌, ℕ, refl, List, true, false, arith, ◌+◌, Bool, ◌++◌, ◌≤◌, cond, Network, Speaker, Message, Profile, peer_at, DeclaredPeer, Event, Down, Bgp, RouteAdd, RouteDel, Lose, Cover, Settled, Work, As4, Revised, Up, Redist, Exited, Line, declared_after, changes_of, Attrs, OutChained, overdue_at, Proto, tree_overdue, ByPeer, IsBlock, BeginsIf, EndsIf, HearsIf, Declares, BySpeaker, Begins, DropsRouteIf, Moment, with_exits, rules_to, all_phases, Stands, journal_lines, FeedsAll, inl, inr, get-empty, nat_cmp, not}
+use Rattle.router_core.proofs.Common.{sym, subst, ◌∙◌, ap, ◌≡◌, ℕ, refl, List, true, false, arith, ◌+◌, Bool, ◌++◌, ◌≤◌, cond, Network, Speaker, Message, Profile, peer_at, DeclaredPeer, Event, Down, Bgp, RouteAdd, RouteDel, Lose, Cover, Settled, Work, As4, Revised, Reflect, Up, Redist, Exited, Line, declared_after, changes_of, Attrs, OutChained, overdue_at, Proto, tree_overdue, ByPeer, IsBlock, BeginsIf, EndsIf, HearsIf, Declares, BySpeaker, Begins, DropsRouteIf, Moment, with_exits, rules_to, all_phases, Stands, journal_lines, FeedsAll, inl, inr, get-empty, nat_cmp, not}
 use Rattle.std.proofs.Common.{[], ◌∷◌, Option, Some, None, append_assoc}
 use Rattle.bgp_wire.specs.declared.message.RouteRefresh.{RouteRefresh}
 use Rattle.bgp_wire.specs.declared.notice.Notice.{Notice}
@@ -94,9 +94,9 @@ module _ (m m' : Moment) (stands : Stands m) (j s : ℕ) (begun : HasBegun j s m
   heard_if true k p octets said turns is = heard k p is.1.0 said is.1.2
   heard_if false k p octets said turns is = same_moment said is.2
 
-  declares : (local : Option Speaker) (k : ℕ) (words : Speaker) (said : List Line) (turns : ℕ) → Declares m local k words said turns m' → Serve said
-  declares None k words said turns is = absurd is
-  declares (Some me) k words said turns is = stays said (ap (λ (x : Moment). x.exits.chains) is.2)
+  declares : (local : Option Speaker) (k : ℕ) (words : Speaker) (client : Bool) (said : List Line) (turns : ℕ) → Declares m local k words client said turns m' → Serve said
+  declares None k words client said turns is = absurd is
+  declares (Some me) k words client said turns is = stays said (ap (λ (x : Moment). x.exits.chains) is.2)
 
   dropped_if : (has : Bool) (proto : Proto) (p : Network) (said : List Line) (turns : ℕ) → DropsRouteIf has proto p m said turns m' → Serve said
   dropped_if true proto p said turns is = stays said (route_chains m _ proto p _ said m' is.1)
@@ -119,8 +119,9 @@ module _ (m m' : Moment) (stands : Stands m) (j s : ℕ) (begun : HasBegun j s m
   block_serves Nothing said turns is = same_moment said is.2
   block_serves As4 said turns is = profiled_none _ said (ap (λ (x : Moment). x.exits) is.2)
   block_serves Revised said turns is = profiled_none _ said (ap (λ (x : Moment). x.exits) is.2)
+  block_serves Reflect said turns is = profiled_none _ said (ap (λ (x : Moment). x.exits) is.2)
   block_serves (Local words) said turns is = stays said (ap (λ (x : Moment). x.exits.chains) is.1.after)
-  block_serves (Peer k words) said turns is = declares m.declared.speaker k words said turns is
+  block_serves (Peer k words client) said turns is = declares m.declared.speaker k words client said turns is
   block_serves (Up k) said turns is = by_peer (λ p. BeginsIf p.up m k p said turns m') k (Serve said) (λ p at begins. begun_if p.up k p said turns at begins) is
   block_serves (Down k) said turns is = by_peer (λ p. EndsIf p.up m k p said turns m') k (Serve said) (λ p at ends. ended_if p.up k p said turns ends) is
   block_serves (Bgp k octets) said turns is = by_peer (λ p. HearsIf p.up m k p octets said turns m') k (Serve said) (λ p at hears. heard_if p.up k p octets said turns hears) is

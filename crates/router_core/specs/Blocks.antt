@@ -21,10 +21,10 @@ use Rattle.journal_text.specs.declared.line.Line.TheVariants as lines
 use Rattle.journal_text.specs.Walk.{Leads}
 use Rattle.journal_text.specs.Texts.{entries_of}
 use Rattle.event_text.specs.declared.event.Event.{Event}
-use Rattle.event_text.specs.declared.event.Event.TheVariants.{Nothing, As4, Revised, Local, Peer, Up, Down, Bgp, FilterIn, FilterOut, RouteAdd, RouteDel, Lose, Redist, Cover, Settled, Idle, Work, Ask, Show}
+use Rattle.event_text.specs.declared.event.Event.TheVariants.{Nothing, As4, Revised, Reflect, Local, Peer, Up, Down, Bgp, FilterIn, FilterOut, RouteAdd, RouteDel, Lose, Redist, Cover, Settled, Idle, Work, Ask, Show}
 use Rattle.event_text.specs.declared.declared.DeclaredPeer.{DeclaredPeer}
 use Rattle.policy_rules.specs.declared.rule.Rule.{Rule}
-use Rattle.event_text.specs.Declarations.{peer_at, words_of, with_four_octets, with_revised, with_speaker, with_peer, with_session, without_session}
+use Rattle.event_text.specs.Declarations.{peer_at, words_of, with_four_octets, with_revised, with_reflection, with_speaker, with_peer, with_session, without_session}
 use Rattle.std.specs.FinMap as tables
 use Rattle.rib_route.specs.declared.Proto.{Proto}
 use Rattle.rib_route.specs.declared.Proto.TheVariants.{Connected, Static, Ospf, Rip}
@@ -74,15 +74,15 @@ rib_begins = first_begins ++ lines.Journal (entries.Inherit ReadRib Best) ∷ jo
 abbrev pub declared_speaker : Moment → Speaker → Moment
 declared_speaker m words = record m { declared = with_speaker m.declared words }
 
-abbrev pub declared_peer : Moment → Speaker → ℕ → Speaker → Moment
-declared_peer m me k words =
-    record m { declared = with_peer m.declared k words; chains = put_chain k (new_chain me (words_of m.declared.speaker k words)) m.chains; hops = put_resolver k (nothing_known k) m.hops }
+abbrev pub declared_peer : Moment → Speaker → ℕ → Speaker → Bool → Moment
+declared_peer m me k words client =
+    record m { declared = with_peer m.declared k words client; chains = put_chain k (new_chain me (words_of m.declared.speaker k words client)) m.chains; hops = put_resolver k (nothing_known k) m.hops }
 
 -- where `local` was declared, the links of a new peer begin
-abbrev pub Declares : Moment → Option Speaker → ℕ → Speaker → List Line → ℕ → Moment → Type 0
-Declares m None k words said turns m' = ⊥
-Declares m (Some me) k words said turns m' =
-    Just (lines.Journal (entries.Begin (In k)) ∷ lines.Journal (entries.Begin (Filt k)) ∷ lines.Journal (entries.Begin (Res k)) ∷ []) (declared_peer m me k words) said turns m'
+abbrev pub Declares : Moment → Option Speaker → ℕ → Speaker → Bool → List Line → ℕ → Moment → Type 0
+Declares m None k words client said turns m' = ⊥
+Declares m (Some me) k words client said turns m' =
+    Just (lines.Journal (entries.Begin (In k)) ∷ lines.Journal (entries.Begin (Filt k)) ∷ lines.Journal (entries.Begin (Res k)) ∷ []) (declared_peer m me k words client) said turns m'
 
 -- the incoming filter of peer k has these rules from now on; they hold nowhere yet
 abbrev pub Refilters : ℕ → List Rule → Moment → List Line → ℕ → Moment → Type 0
@@ -251,8 +251,9 @@ abbrev pub IsBlock : Moment → Event → List Line → ℕ → Moment → Type 
 IsBlock m Nothing said turns m' = Just [] m said turns m'
 IsBlock m As4 said turns m' = Just [] (profiled m (with_four_octets m.declared.profile)) said turns m'
 IsBlock m Revised said turns m' = Just [] (profiled m (with_revised m.declared.profile)) said turns m'
+IsBlock m Reflect said turns m' = Just [] (profiled m (with_reflection m.declared.profile)) said turns m'
 IsBlock m (Local words) said turns m' = (turns ≡ 0) × Localizes words m said m'
-IsBlock m (Peer k words) said turns m' = Declares m m.declared.speaker k words said turns m'
+IsBlock m (Peer k words client) said turns m' = Declares m m.declared.speaker k words client said turns m'
 IsBlock m (Up k) said turns m' = ByPeer (λ p. BeginsIf p.up m k p said turns m') (peer_at k m.declared.peers)
 IsBlock m (Down k) said turns m' = ByPeer (λ p. EndsIf p.up m k p said turns m') (peer_at k m.declared.peers)
 IsBlock m (Bgp k octets) said turns m' = ByPeer (λ p. HearsIf p.up m k p octets said turns m') (peer_at k m.declared.peers)

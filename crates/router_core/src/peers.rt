@@ -52,7 +52,7 @@ impl Network {
     ) -> Result<(), Memory>
         requires admitted { refusal self.old.declared (events.Local words) ≡ None }
         requires stands { Stands self.old }
-        requires formed { IsWellFormed self.old.declared.profile.as4 (events.Local words) }
+        requires formed { IsWellFormed self.old.declared.profile (events.Local words) }
         ensures { OnOk result (Pushes (HasStepped self.old (events.Local words) 0 self.new) journal.old journal.new) }
     {
         a_stranger_reads();
@@ -67,17 +67,18 @@ impl Network {
         &mut self,
         number: u32,
         words: Speaker,
+        client: bool,
         journal: &mut Journal,
     ) -> Result<(), Memory>
-        requires admitted { refusal self.old.declared (events.Peer number words) ≡ None }
+        requires admitted { refusal self.old.declared (events.Peer number words client) ≡ None }
         requires stands { Stands self.old }
-        requires formed { IsWellFormed self.old.declared.profile.as4 (events.Peer number words) }
-        ensures { OnOk result (Pushes (HasStepped self.old (events.Peer number words) 0 self.new) journal.old journal.new) }
+        requires formed { IsWellFormed self.old.declared.profile (events.Peer number words client) }
+        ensures { OnOk result (Pushes (HasStepped self.old (events.Peer number words client) 0 self.new) journal.old journal.new) }
     {
         let Some(me) = self.declared.speaker() else {
             unreachable!()
         };
-        self.declared.add_peer(number, words)?;
+        self.declared.add_peer(number, words, client)?;
         let Some(peer) = self.declared.peer(number) else {
             unreachable!()
         };

@@ -193,7 +193,7 @@ impl Core {
     /// that the live state alone asks for. After want of memory the core answers nothing else.
     pub fn step(&mut self, event: Event, journal: &mut Journal) -> Result<u128, Memory>
         requires admitted { refusal self.old.moment.declared event ≡ None }
-        requires formed { IsWellFormed self.old.moment.declared.profile.as4 event }
+        requires formed { IsWellFormed self.old.moment.declared.profile event }
         requires few { self.old.events < 4294967295 }
         requires stands { self.old.failed ≡ false → CoreStands self.old }
         ensures acts { IfOk result (λ turns. Gives (Acts self.old.moment event turns self.new.moment) journal.old journal.new) }

@@ -36,7 +36,7 @@ impl Network {
         requires admitted { refusal self.old.declared event ≡ None }
         requires few { AreNumbered 4294967294 self.old.tree }
         requires stands { Stands self.old }
-        requires formed { IsWellFormed self.old.declared.profile.as4 event }
+        requires formed { IsWellFormed self.old.declared.profile event }
         requires exits { AllHaveExits self.old }
         ensures { IfOk result (λ turns. Gives (HasStepped self.old event turns self.new) journal.old journal.new) }
     {
@@ -44,8 +44,9 @@ impl Network {
             Event::Nothing => self.nothing(journal),
             Event::As4 => self.four_octets(journal),
             Event::Revised => self.revised(journal),
+            Event::Reflect => self.reflect(journal),
             Event::Local(words) => self.local(words, journal),
-            Event::Peer(number, words) => self.peer(number, words, journal),
+            Event::Peer(number, words, client) => self.peer(number, words, client, journal),
             Event::Up(number) => self.up(number, journal),
             Event::Down(number) => self.down(number, journal),
             Event::Bgp(number, octets) => self.message(number, octets, journal),
@@ -79,8 +80,16 @@ impl Network {
         requires stands { Stands self.old }
         ensures { IfOk result (λ turns. Gives (HasStepped self.old events.As4 turns self.new) journal.old journal.new) }
     {
-        let revised = self.profile().revised;
-        self.set_profile(Profile { as4: true, revised });
+        let Profile {
+            revised,
+            reflect,
+            ..
+        } = self.profile();
+        self.set_profile(Profile {
+            as4: true,
+            revised,
+            reflect,
+        });
         journal.flush()?;
         Ok(0)
     }
@@ -91,8 +100,28 @@ impl Network {
         requires stands { Stands self.old }
         ensures { IfOk result (λ turns. Gives (HasStepped self.old events.Revised turns self.new) journal.old journal.new) }
     {
-        let as4 = self.profile().as4;
-        self.set_profile(Profile { as4, revised: true });
+        let Profile { as4, reflect, .. } = self.profile();
+        self.set_profile(Profile {
+            as4,
+            revised: true,
+            reflect,
+        });
+        journal.flush()?;
+        Ok(0)
+    }
+
+    /// This speaker is a route reflector (RFC 4456).
+    fn reflect(&mut self, journal: &mut Journal) -> Result<u128, Memory>
+        requires admitted { refusal self.old.declared events.Reflect ≡ None }
+        requires stands { Stands self.old }
+        ensures { IfOk result (λ turns. Gives (HasStepped self.old events.Reflect turns self.new) journal.old journal.new) }
+    {
+        let Profile { as4, revised, .. } = self.profile();
+        self.set_profile(Profile {
+            as4,
+            revised,
+            reflect: true,
+        });
         journal.flush()?;
         Ok(0)
     }
@@ -100,7 +129,7 @@ impl Network {
     fn local(&mut self, words: Speaker, journal: &mut Journal) -> Result<u128, Memory>
         requires admitted { refusal self.old.declared (events.Local words) ≡ None }
         requires stands { Stands self.old }
-        requires formed { IsWellFormed self.old.declared.profile.as4 (events.Local words) }
+        requires formed { IsWellFormed self.old.declared.profile (events.Local words) }
         ensures { IfOk result (λ turns. Gives (HasStepped self.old (events.Local words) turns self.new) journal.old journal.new) }
     {
         self.declare_speaker(words, journal)?;
@@ -108,13 +137,19 @@ impl Network {
         Ok(0)
     }
 
-    fn peer(&mut self, number: u32, words: Speaker, journal: &mut Journal) -> Result<u128, Memory>
-        requires admitted { refusal self.old.declared (events.Peer number words) ≡ None }
+    fn peer(
+        &mut self,
+        number: u32,
+        words: Speaker,
+        client: bool,
+        journal: &mut Journal,
+    ) -> Result<u128, Memory>
+        requires admitted { refusal self.old.declared (events.Peer number words client) ≡ None }
         requires stands { Stands self.old }
-        requires formed { IsWellFormed self.old.declared.profile.as4 (events.Peer number words) }
-        ensures { IfOk result (λ turns. Gives (HasStepped self.old (events.Peer number words) turns self.new) journal.old journal.new) }
+        requires formed { IsWellFormed self.old.declared.profile (events.Peer number words client) }
+        ensures { IfOk result (λ turns. Gives (HasStepped self.old (events.Peer number words client) turns self.new) journal.old journal.new) }
     {
-        self.declare_peer(number, words, journal)?;
+        self.declare_peer(number, words, client, journal)?;
         journal.flush()?;
         Ok(0)
     }
@@ -229,7 +264,7 @@ impl Network {
     ) -> Result<u128, Memory>
         requires admitted { refusal self.old.declared (events.Bgp number octets) ≡ None }
         requires stands { Stands self.old }
-        requires formed { IsWellFormed self.old.declared.profile.as4 (events.Bgp number octets) }
+        requires formed { IsWellFormed self.old.declared.profile (events.Bgp number octets) }
         requires exits { AllHaveExits self.old }
         ensures { IfOk result (λ turns. Gives (HasStepped self.old (events.Bgp number octets) turns self.new) journal.old journal.new) }
     {
@@ -242,7 +277,7 @@ impl Network {
     fn receive(&mut self, number: u32, octets: &[u8], journal: &mut Journal) -> Result<u128, Memory>
         requires admitted { refusal self.old.declared (events.Bgp number octets.now) ≡ None }
         requires stands { Stands self.old }
-        requires formed { IsWellFormed self.old.declared.profile.as4 (events.Bgp number octets.now) }
+        requires formed { IsWellFormed self.old.declared.profile (events.Bgp number octets.now) }
         requires exits { AllHaveExits self.old }
         ensures { IfOk result (λ turns. Gives (HasStepped self.old (events.Bgp number octets.now) turns self.new) journal.old journal.new) }
     {

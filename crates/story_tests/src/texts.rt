@@ -1,7 +1,7 @@
 //! Messages in words.
 
-use addr4::{Memory, Prefix, push_addr, push_number, push_prefix};
-use bgp_attr::{Aggregator, AsPath, Attrs, Origin, Segment, SegmentKind, Unrecognized};
+use addr4::{Addr, Memory, Prefix, push_addr, push_number, push_prefix};
+use bgp_attr::{Aggregator, AsPath, Attrs, Origin, Reflection, Segment, SegmentKind, Unrecognized};
 use bgp_wire::{Message, Notice, RouteRefresh, Update};
 
 fn push_text(out: &mut Vec<u8>, text: &str) -> Result<(), Memory> {
@@ -92,6 +92,23 @@ fn push_aggregator(out: &mut Vec<u8>, aggregator: Option<Aggregator>) -> Result<
     Ok(())
 }
 
+fn push_clusters(out: &mut Vec<u8>, clusters: &[Addr]) -> Result<(), Memory> {
+    for (i, cluster) in clusters.iter().enumerate() {
+        push_text(out, if i > 0 { "/" } else { ",c" })?;
+        push_addr(out, *cluster)?;
+    }
+    Ok(())
+}
+
+/// ORIGINATOR_ID and CLUSTER_LIST.
+fn push_reflection(out: &mut Vec<u8>, reflection: &Reflection) -> Result<(), Memory> {
+    if let Some(originator) = reflection.originator() {
+        push_text(out, ",r")?;
+        push_addr(out, originator)?;
+    }
+    push_clusters(out, reflection.clusters())
+}
+
 /// ORIGIN, AS_PATH and NEXT_HOP.
 fn push_mandatory(out: &mut Vec<u8>, attrs: &Attrs) -> Result<(), Memory> {
     let origin = match attrs.origin {
@@ -111,6 +128,7 @@ fn push_attrs(out: &mut Vec<u8>, attrs: &Attrs) -> Result<(), Memory> {
     push_option(out, ",l", attrs.local_pref)?;
     push_text(out, if attrs.atomic { ",a" } else { "" })?;
     push_aggregator(out, attrs.aggregator)?;
+    push_reflection(out, &attrs.reflection)?;
     push_unrecognized(out, attrs.unrecognized.as_slice())
 }
 

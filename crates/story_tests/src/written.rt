@@ -30,6 +30,7 @@ fn push_update(
     let to = Profile {
         as4,
         revised: false,
+        reflect: false,
     };
     match write_update(*out.allocator(), to, update)? {
         Some(octets) => out.extend_from_slice(octets.as_slice())?,

@@ -1,10 +1,10 @@
 -- What is written of what a peer said isn't longer than what it said.
-use Rattle.std.proofs.Common.{◌≡◌, ℕ, suc, ◌+◌, ◌≤◌, ◌<◌, Bool, true, false, cond, eqb, ltb, map, get_or, List, [], ◌∷◌, ◌++◌, length, Option, Some, None, refl, sym, ap, subst, ◌∙◌, inl, inr, arith}
+use Rattle.std.proofs.Common.{◌≡◌, ℕ, zero, suc, ◌+◌, ◌*◌, ◌/◌, ◌%◌, ◌≤◌, ◌<◌, Bool, true, false, cond, eqb, ltb, not, ◌||◌, map, get_or, List, [], ◌∷◌, ◌++◌, length, drop, Option, Some, None, refl, sym, ap, subst, ◌∙◌, inl, inr, arith}
 use Rattle.std.specs.Prelude.{filter, is_some}
+use Rattle.std.specs.List.{flat_map}
 use Rattle.std.specs.Option.{option_map_or}
 use Rattle.std.proofs.lemmas.Bool.{le-ltb, eqb-true}
 use Rattle.std.proofs.lemmas.List.{length-append}
-use mathlib.Core.Bool.{beq}
 use Rattle.byteorder.specs.Endian.{big_number, big_bytes}
 use Rattle.byteorder.specs.Numbers.{length-bytes_high_first}
 use Rattle.bgp_attr.specs.declared.attrs.Aggregator.{Aggregator}
@@ -12,17 +12,16 @@ use Rattle.bgp_attr.specs.declared.attrs.Attrs.{Attrs}
 use Rattle.bgp_attr.specs.declared.path.Segment.{Segment}
 use Rattle.bgp_attr.specs.declared.speaker.Profile.{Profile}
 use Rattle.bgp_attr.specs.declared.unrecognized.Unrecognized.{Unrecognized}
-use Rattle.bgp_wire.proofs.JudgedTypes.{TypeRule, Verdict, each_verdict}
-use Rattle.bgp_wire.specs.Paths.{width_of, IsPath}
-use Rattle.bgp_wire.specs.Attributes.{Attribute, IsAttribute, AreAttributes, kept_by, rule_of}
-use Rattle.bgp_wire.specs.Routes.{kept_of, number_of, code_of_origin, aggregator_of, AreAttrs}
-use Rattle.bgp_wire.specs.Spelling.{segment_octets, path_octets, is_long, spelled, optional, aggregator_value, aggregator_flags, comes_first, unrecognized_attributes, mandatory_attributes, further_attributes, sent_attributes, octets_of}
+use Rattle.bgp_wire.proofs.JudgedTypes.{TypeRule, Verdict, each_verdict, fixed, fours, Place, first, middle, last}
+use Rattle.bgp_wire.specs.Paths.{width_of, numbers_at, IsPath}
+use Rattle.bgp_wire.specs.Attributes.{Attribute, IsAttribute, AreAttributes, kept_by, rule_of, has_wrong_size}
+use Rattle.bgp_wire.specs.Routes.{kept_of, number_of, code_of_origin, aggregator_of, clusters_at, clusters_of, AreAttrs}
+use Rattle.bgp_wire.specs.Spelling.{segment_octets, path_octets, is_long, spelled, optional, aggregator_value, aggregator_flags, stands_in, unrecognized_attribute, unrecognized_attributes, mandatory_attributes, further_attributes, clusters_attributes, reflection_attributes, sent_attributes, octets_of}
 use Rattle.bgp_wire.specs.Lengths.{attributes_length}
-use Rattle.bgp_wire.specs.Readable.{IsReadable}
-use Rattle.bgp_wire.proofs.TestLemmas.{unequal}
-use Rattle.bgp_wire.proofs.SpelledLengths.{length-numbers}
-use Rattle.wire_laws.proofs.SpelledAttributes.{AreSound, FitLengths, sound_sent}
-use Rattle.wire_laws.proofs.SpelledMessages.{length-spelled}
+use Rattle.bgp_wire.specs.Readable.{reads_reflection, IsReadable}
+use Rattle.bgp_wire.proofs.TestLemmas.{unequal, not_false, or_false_right}
+use Rattle.bgp_wire.proofs.SpelledLengths.{length-numbers, length-spelled}
+use Rattle.wire_laws.proofs.SpelledAttributes.{AreSound, FitLengths, rule_at_9, rule_at_10, sound_sent}
 use Rattle.bgp_wire.proofs.ReadableLaws.{Every, every_all, every_append, Octets, held, good, right_size, found_from, some_in, each_type, unrecognized_held}
 
 -- the fewest octets that an attribute has
@@ -140,36 +139,75 @@ length-path as4 bytes (s ∷ path) is =
     let here : length is.0 ≡ length (segment_octets width s) = omega (arith, ap length is.3.spelled, is.3.size, length-numbers width s.numbers) in
     omega (arith, here, ap length is.2, length-append is.0 is.1, length-append (segment_octets width s) (path_octets width path), length-path as4 is.1 path is.4)
 
-unrecognized_no_longer : (first : Bool) (kept : List Attribute) (us : List Unrecognized) → Every (λ (u : Unrecognized). IsNoLonger kept (spelled 224 u.kind u.value)) us → Every (IsNoLonger kept) (unrecognized_attributes first us)
-unrecognized_no_longer first kept [] every = tt
-unrecognized_no_longer first kept (u ∷ us) every = by_test (beq (comes_first u) first) (unrecognized_no_longer first kept us every.1)
+unrecognized_no_longer : (place : Place) (kept : List Attribute) (us : List Unrecognized) → Every (λ (u : Unrecognized). IsNoLonger kept (unrecognized_attribute u)) us → Every (IsNoLonger kept) (unrecognized_attributes place us)
+unrecognized_no_longer place kept [] every = tt
+unrecognized_no_longer place kept (u ∷ us) every = by_place (stands_in place u.kind) (unrecognized_no_longer place kept us every.1)
   where
-    by_test : (b : Bool) → Every (IsNoLonger kept) (unrecognized_attributes first us) → Every (IsNoLonger kept) (map (λ (u : Unrecognized). spelled 224 u.kind u.value) (cond b (u ∷ filter (λ u. beq (comes_first u) first) us) (filter (λ u. beq (comes_first u) first) us)))
-    by_test true later = (every.0, later)
-    by_test false later = later
+    later : List Unrecognized
+    later = filter (λ u. stands_in place u.kind) us
 
-sent_no_longer : (p : Profile) (external : Bool) (bytes : List ℕ) (steps : List (Attribute × Verdict)) (runs : Bool) (attrs : Attrs) → AreAttributes p external [] bytes steps runs → Octets bytes → AreAttrs p.as4 external (kept_by steps runs).0 attrs
+    by_place : (b : Bool) → Every (IsNoLonger kept) (map unrecognized_attribute later) → Every (IsNoLonger kept) (map unrecognized_attribute (cond b (u ∷ later) later))
+    by_place true rest = (every.0, rest)
+    by_place false rest = rest
+
+if_reflects : {A : Type 0} (reflect : Bool) (o : Option A) (x : A) → cond reflect o None ≡ Some x → o ≡ Some x
+if_reflects true o x e = e
+if_reflects false o x e = absurd (cc)
+
+length-identifiers : (count : ℕ) (octets : List ℕ) → length (numbers_at 4 count octets) ≡ count
+length-identifiers zero octets = refl
+length-identifiers (suc count) octets = ap suc (length-identifiers count (drop 4 octets))
+
+-- the clusters have the octets that they were read from
+length-clusters_read : (value : List ℕ) → has_wrong_size fours value ≡ false → length value ≡ length (flat_map (big_bytes 4) (clusters_at value))
+length-clusters_read value right =
+    let even : length value % 4 ≡ 0 = eqb-true _ _ (not_false _ (or_false_right (eqb (length value) 0) (not (eqb (length value % 4) 0)) right)) in
+    omega (arith, even, length-numbers 4 (clusters_at value), length-identifiers (length value / 4) value)
+
+clusters_held : (p : Profile) (external : Bool) (bytes : List ℕ) (steps : List (Attribute × Verdict)) (runs : Bool) (attrs : Attrs) → AreAttributes p external [] bytes steps runs → Octets bytes → AreAttrs p external (kept_by steps runs).0 attrs → IsReadable p external attrs
+    → (c : ℕ) (cs : List ℕ) → attrs.reflection.clusters ≡ c ∷ cs → (a : Attribute) × (kept_of 10 (kept_by steps runs).0 ≡ Some a) × (length a.value ≡ length (flat_map (big_bytes 4) (c ∷ cs)))
+clusters_held p external bytes steps runs attrs are octets is readable c cs e = by_reflect p.reflect (sym e ∙ is.clusters)
+  where
+    reads : reads_reflection p external ≡ true
+    reads = (readable.clusters 0 c (omega (arith, ap length e))).0
+
+    by_kept : (o : Option Attribute) → kept_of 10 (kept_by steps runs).0 ≡ o → c ∷ cs ≡ clusters_of o → (a : Attribute) × (kept_of 10 (kept_by steps runs).0 ≡ Some a) × (length a.value ≡ length (flat_map (big_bytes 4) (c ∷ cs)))
+    by_kept None at same = absurd (omega (arith, ap length same))
+    by_kept (Some a) at same =
+        let g = good p external 10 a (record { optional = true; transitive = false; size = fours }) (rule_at_10 p external reads) (held p external bytes steps runs are octets 10 a at) in
+        (a, at, length-clusters_read a.value g.size ∙ ap (λ ns. length (flat_map (big_bytes 4) ns)) (sym same))
+
+    by_reflect : (b : Bool) → c ∷ cs ≡ cond b (clusters_of (kept_of 10 (kept_by steps runs).0)) [] → (a : Attribute) × (kept_of 10 (kept_by steps runs).0 ≡ Some a) × (length a.value ≡ length (flat_map (big_bytes 4) (c ∷ cs)))
+    by_reflect true same = by_kept (kept_of 10 (kept_by steps runs).0) refl same
+    by_reflect false same = absurd (omega (arith, ap length same))
+
+sent_no_longer : (p : Profile) (external : Bool) (bytes : List ℕ) (steps : List (Attribute × Verdict)) (runs : Bool) (attrs : Attrs) → AreAttributes p external [] bytes steps runs → Octets bytes → AreAttrs p external (kept_by steps runs).0 attrs → IsReadable p external attrs
     → Every (IsNoLonger (kept_by steps runs).0) (sent_attributes p.as4 attrs)
 unfolding rule_of
-sent_no_longer p external bytes steps runs attrs are octets is =
+sent_no_longer p external bytes steps runs attrs are octets is readable =
     let P = IsNoLonger kept in
-    let u = unrecognized_attributes true attrs.unrecognized in
+    let u = unrecognized_attributes first attrs.unrecognized in
     let m = mandatory_attributes p.as4 attrs in
     let f = further_attributes p.as4 attrs in
-    let v = unrecognized_attributes false attrs.unrecognized in
-    every_append P ((u ++ m) ++ f) v
-    (every_append P (u ++ m) f (every_append P u m (unrecognized_no_longer true kept attrs.unrecognized unrecognized) (origin, (path, (next_hop, tt)))) further)
-    (unrecognized_no_longer false kept attrs.unrecognized unrecognized)
+    let v = unrecognized_attributes middle attrs.unrecognized in
+    let r = reflection_attributes attrs.reflection in
+    let w = unrecognized_attributes last attrs.unrecognized in
+    let placed : (place : Place) → Every P (unrecognized_attributes place attrs.unrecognized) = λ place. unrecognized_no_longer place kept attrs.unrecognized unrecognized in
+    every_append P (u ++ m ++ f ++ v ++ r) w
+    (every_append P (u ++ m ++ f ++ v) r
+    (every_append P (u ++ m ++ f) v (every_append P (u ++ m) f (every_append P u m (placed first) (origin, (path, (next_hop, tt)))) further) (placed middle))
+    (every_append P (optional (λ n. spelled 128 9 (big_bytes 4 n)) attrs.reflection.originator) (clusters_attributes attrs.reflection.clusters) (every_optional P (λ n. spelled 128 9 (big_bytes 4 n)) attrs.reflection.originator originator) (clusters attrs.reflection.clusters refl)))
+    (placed last)
   where
     kept : List Attribute
     kept = (kept_by steps runs).0
 
-    sized : (kind n : ℕ) (optional transitive : Bool) → rule_of p.as4 kind ≡ Some (record { optional = optional; transitive = transitive; size = Some n }) → (a : Attribute) → kept_of kind (kept_by steps runs).0 ≡ Some a → length a.value ≡ n
+    sized : (kind n : ℕ) (optional transitive : Bool) → rule_of p external kind ≡ Some (record { optional = optional; transitive = transitive; size = fixed n }) → (a : Attribute) → kept_of kind (kept_by steps runs).0 ≡ Some a → length a.value ≡ n
     sized kind n optional transitive ruled a e =
-        let r : TypeRule = record { optional = optional; transitive = transitive; size = Some n } in
+        let r : TypeRule = record { optional = optional; transitive = transitive; size = fixed n } in
         right_size p.as4 r a n refl (good p external kind a r ruled (held p external bytes steps runs are octets kind a e))
 
-    four : (kind flags n : ℕ) (optional transitive : Bool) → rule_of p.as4 kind ≡ Some (record { optional = optional; transitive = transitive; size = Some 4 }) → number_of kind (kept_by steps runs).0 ≡ Some n
+    four : (kind flags n : ℕ) (optional transitive : Bool) → rule_of p external kind ≡ Some (record { optional = optional; transitive = transitive; size = fixed 4 }) → number_of kind (kept_by steps runs).0 ≡ Some n
         → IsNoLonger (kept_by steps runs).0 (spelled flags kind (big_bytes 4 n))
     four kind flags n optional transitive ruled e =
         let a = found_from (λ (a : Attribute). big_number 4 a.value) (kept_of kind (kept_by steps runs).0) n e in
@@ -211,8 +249,15 @@ sent_no_longer p external bytes steps runs attrs are octets is =
         widths true = refl
         widths false = refl
 
-    unrecognized : Every (λ (u : Unrecognized). IsNoLonger (kept_by steps runs).0 (spelled 224 u.kind u.value)) attrs.unrecognized
-    unrecognized = each_type (λ (u : Unrecognized). IsNoLonger (kept_by steps runs).0 (spelled 224 u.kind u.value)) 0 attrs.unrecognized is.unrecognized.order (λ u e.
+    originator : (n : ℕ) → attrs.reflection.originator ≡ Some n → IsNoLonger (kept_by steps runs).0 (spelled 128 9 (big_bytes 4 n))
+    originator n e = four 9 128 n true false (rule_at_9 p external (readable.originator n e).0) (if_reflects p.reflect (number_of 9 (kept_by steps runs).0) n (sym is.originator ∙ e))
+
+    clusters : (cs : List ℕ) → attrs.reflection.clusters ≡ cs → Every (IsNoLonger (kept_by steps runs).0) (clusters_attributes cs)
+    clusters [] e = tt
+    clusters (c ∷ cs) e = let h = clusters_held p external bytes steps runs attrs are octets is readable c cs e in (by_value (kept_by steps runs).0 128 10 (flat_map (big_bytes 4) (c ∷ cs)) h.0 h.1 h.2, tt)
+
+    unrecognized : Every (λ (u : Unrecognized). IsNoLonger (kept_by steps runs).0 (unrecognized_attribute u)) attrs.unrecognized
+    unrecognized = each_type (λ (u : Unrecognized). IsNoLonger (kept_by steps runs).0 (unrecognized_attribute u)) 0 attrs.unrecognized is.unrecognized.order (λ u e.
         let k = unrecognized_held p external bytes steps runs are octets attrs.unrecognized is.unrecognized u.kind u.value e in
         by_value (kept_by steps runs).0 224 u.kind u.value k.1.0 k.1.1 (ap length k.1.2))
 
@@ -231,31 +276,38 @@ value_within : (long : Bool) (n : ℕ) → n ≤ cond long 4 3 + n
 value_within long n = omega arith
 
 -- what was read fits the fields of the lengths
-lengths_fit : (p : Profile) (external : Bool) (bytes : List ℕ) (steps : List (Attribute × Verdict)) (runs : Bool) (attrs : Attrs) → AreAttributes p external [] bytes steps runs → Octets bytes → AreAttrs p.as4 external (kept_by steps runs).0 attrs
-    → length bytes < 65536 → FitLengths p.as4 attrs
-lengths_fit p external bytes steps runs attrs are octets is fits =
+lengths_fit : (p : Profile) (external : Bool) (bytes : List ℕ) (steps : List (Attribute × Verdict)) (runs : Bool) (attrs : Attrs) → AreAttributes p external [] bytes steps runs → Octets bytes → AreAttrs p external (kept_by steps runs).0 attrs
+    → IsReadable p external attrs → length bytes < 65536 → FitLengths p.as4 attrs
+lengths_fit p external bytes steps runs attrs are octets is readable fits =
     let kept = (kept_by steps runs).0 in
     let whole = total_read p external [] bytes steps runs are octets in
     let s = some_in (kept_of 2 kept) (λ a. IsPath (width_of p.as4) a.value attrs.path) is.path in
     let path = weight_within 2 kept s.0 s.1 in
     record {
       path = omega (arith, length-path p.as4 s.0.value attrs.path s.2, path, value_within (is_long s.0.value) (length s.0.value));
+      clusters = clusters attrs.reflection.clusters refl whole;
       unrecognized = every_all (λ (u : Unrecognized). length u.value < 65536) attrs.unrecognized (each_type (λ (u : Unrecognized). length u.value < 65536) 0 attrs.unrecognized is.unrecognized.order (λ u e.
           let k = unrecognized_held p external bytes steps runs are octets attrs.unrecognized is.unrecognized u.kind u.value e in
           omega (arith, weight_within u.kind kept k.1.0 k.1.1, value_within (is_long k.1.0.value) (length k.1.0.value), ap length k.1.2, whole, fits)));
     }
+  where
+    clusters : (cs : List ℕ) → attrs.reflection.clusters ≡ cs → total (kept_by steps runs).0 ≤ length bytes → length (flat_map (big_bytes 4) cs) < 65536
+    clusters [] e whole = omega arith
+    clusters (c ∷ cs) e whole =
+        let h = clusters_held p external bytes steps runs attrs are octets is readable c cs e in
+        omega (arith, weight_within 10 (kept_by steps runs).0 h.0 h.1, value_within (is_long h.0.value) (length h.0.value), h.2, whole, fits)
 
 -- the attributes that are sent are no longer than those that were read
-pub attributes_no_longer : (p : Profile) (external : Bool) (bytes : List ℕ) (steps : List (Attribute × Verdict)) (runs : Bool) (attrs : Attrs) → AreAttributes p external [] bytes steps runs → Octets bytes → AreAttrs p.as4 external (kept_by steps runs).0 attrs
+pub attributes_no_longer : (p : Profile) (external : Bool) (bytes : List ℕ) (steps : List (Attribute × Verdict)) (runs : Bool) (attrs : Attrs) → AreAttributes p external [] bytes steps runs → Octets bytes → AreAttrs p external (kept_by steps runs).0 attrs
     → IsReadable p external attrs → length bytes < 65536 → attributes_length p.as4 attrs ≤ length bytes
 unfolding attributes_length
 attributes_no_longer p external bytes steps runs attrs are octets is readable fits =
     let kept = (kept_by steps runs).0 in
     let sent = sent_attributes p.as4 attrs in
-    let sound = sound_sent p external attrs readable (lengths_fit p external bytes steps runs attrs are octets is fits) in
+    let sound = sound_sent p external attrs readable (lengths_fit p external bytes steps runs attrs are octets is readable fits) in
     omega (
       arith,
-      no_longer sent kept (sent_no_longer p external bytes steps runs attrs are octets is),
+      no_longer sent kept (sent_no_longer p external bytes steps runs attrs are octets is readable),
       within_total 0 sent kept (ascends p external 0 sound.0 sent sound.1),
       total_read p external [] bytes steps runs are octets,
     )

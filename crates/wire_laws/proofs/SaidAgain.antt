@@ -1,5 +1,5 @@
 -- What a peer said in an UPDATE of one prefix is said again in the one spelling, and is read as it was.
-use Rattle.std.proofs.Common.{◌≡◌, ℕ, ◌+◌, ◌≤◌, ◌<◌, Bool, true, false, List, [], ◌∷◌, length, Option, Some, None, refl, sym, ap, subst, arith}
+use Rattle.std.proofs.Common.{◌≡◌, ℕ, ◌+◌, ◌≤◌, ◌<◌, Bool, true, false, not, ◌&&◌, List, [], ◌∷◌, length, Option, Some, None, refl, sym, ap, subst, arith}
 use Rattle.std.specs.Prelude.{All}
 use Rattle.std.proofs.lemmas.List.{length-append, length-take}
 use Rattle.byteorder.specs.Endian.{big_bytes}
@@ -28,12 +28,12 @@ announced_length as4 n a short = omega (arith, length-announcement as4 n a, leng
 one_announced : (bytes : List ℕ) (n : Network) → ArePrefixes bytes (n ∷ []) → (length bytes ≡ 1 + octets_for n.length) × (n.length ≤ 32)
 one_announced bytes n are = (omega (arith, ap length are.2, length-append are.0 are.1, ap length are.3.spelled, are.3.fewest, ap length are.4), are.3.short)
 
-announced_again : (p : Profile) (external : Bool) (bytes : List ℕ) (r : Reading) (is : IsReading p external bytes r) → Octets bytes → (n : Network) (a : Attrs) → IsNetwork n → IsReadable p external a → ArePrefixes is.announced (n ∷ []) → AreAttrs p.as4 external r.kept a
+announced_again : (p : Profile) (external : Bool) (bytes : List ℕ) (r : Reading) (is : IsReading p external bytes r) → Octets bytes → (n : Network) (a : Attrs) → IsNetwork n → IsReadable p external a → ArePrefixes is.announced (n ∷ []) → AreAttrs p external r.kept a
     → Reads p external (update_octets p.as4 (announcement n a)) (messages.Update (announcement n a))
 announced_again p external bytes r is octets n a network readable prefix are =
     let f = field_octets p external bytes r is octets in
     let one = one_announced is.announced n prefix in
-    let shorter = attributes_no_longer p external is.attributes is.steps is.runs a is.are f.attributes (subst (λ kept. AreAttrs p.as4 external kept a) is.kept are) readable (omega (arith, f.whole, is.frame.top)) in
+    let shorter = attributes_no_longer p external is.attributes is.steps is.runs a is.are f.attributes (subst (λ kept. AreAttrs p external kept a) is.kept are) readable (omega (arith, f.whole, is.frame.top)) in
     announcement_is_read p external n a network readable
     (omega (arith, announced_length p.as4 n a one.1, shorter, one.0, f.whole, is.frame.top))
 
@@ -47,7 +47,7 @@ withdrawn_again p external (w ∷ []) [] (Some a) none nothing networks one = ab
 withdrawn_again p external (w ∷ []) [] None none nothing networks one = withdrawal_is_read p external w (networks 0 w (omega arith))
 
 plain_again : (p : Profile) (external : Bool) (bytes : List ℕ) (r : Reading) (is : IsReading p external bytes r) → Octets bytes → (ws ns : List Network) (attrs : Option Attrs)
-    → ArePrefixes is.announced ns → AreAttrsFor p.as4 external r.kept ns attrs → IsReadableUpdate p external (record { withdrawn = ws; announced = ns; attrs = attrs }) → length ws + length ns ≡ 1
+    → ArePrefixes is.announced ns → AreAttrsFor p external r.kept ns attrs → IsReadableUpdate p external (record { withdrawn = ws; announced = ns; attrs = attrs }) → length ws + length ns ≡ 1
     → Reads p external (update_octets p.as4 (record { withdrawn = ws; announced = ns; attrs = attrs })) (messages.Update (record { withdrawn = ws; announced = ns; attrs = attrs }))
 plain_again p external bytes r is octets ws [] attrs prefixes are readable one = withdrawn_again p external ws [] attrs refl are readable.withdrawn one
 plain_again p external bytes r is octets [] (n ∷ []) None prefixes are readable one = absurd are
@@ -56,13 +56,13 @@ plain_again p external bytes r is octets [] (n ∷ []) (Some a) prefixes are rea
 plain_again p external bytes r is octets ws (n ∷ m ∷ ns) attrs prefixes are readable one = absurd (omega arith)
 plain_again p external bytes r is octets (w ∷ ws) (n ∷ []) attrs prefixes are readable one = absurd (omega arith)
 
-again_by : (p : Profile) (external : Bool) (bytes : List ℕ) (r : Reading) (is : IsReading p external bytes r) → Octets bytes → (withdraw : Bool) (u : Update) → IsUpdateBy p.as4 external r withdraw u → IsReadableUpdate p external u → HasOnePrefix u
+again_by : (p : Profile) (external : Bool) (bytes : List ℕ) (r : Reading) (is : IsReading p external bytes r) → Octets bytes → (withdraw : Bool) (u : Update) → IsUpdateBy p external r withdraw u → IsReadableUpdate p external u → HasOnePrefix u
     → Reads p external (update_octets p.as4 u) (messages.Update u)
 again_by p external bytes r is octets true u by readable one = withdrawn_again p external u.withdrawn u.announced u.attrs by.announced by.attrs readable.withdrawn one
 again_by p external bytes r is octets false u by readable one =
     plain_again p external bytes r is octets u.withdrawn u.announced u.attrs
     (subst (ArePrefixes is.announced) (sym by.announced) is.announces)
-    (subst (λ ns. AreAttrsFor p.as4 external r.kept ns u.attrs) (sym by.announced) by.attrs)
+    (subst (λ ns. AreAttrsFor p external r.kept ns u.attrs) (sym by.announced) by.attrs)
     readable one
 
 pub said_again : (p : Profile) (external : Bool) (bytes : List ℕ) (u : Update) → AreOctets bytes → Reads p external bytes (messages.Update u) → HasOnePrefix u → Reads p external (update_octets p.as4 u) (messages.Update u)
@@ -77,6 +77,12 @@ internal_reads p external a readable = record {
   med = readable.med;
   local_pref = λ n e. (refl, (readable.local_pref n e).1);
   aggregator = readable.aggregator;
+  originator = λ n e. let o = readable.originator n e in (inside p.reflect external o.0, o.1);
+  clusters = λ k d lt. let c = readable.clusters k d lt in (inside p.reflect external c.0, c.1);
   order = readable.order;
   types = readable.types;
 }
+  where
+    inside : (reflect external : Bool) → (reflect && not external) ≡ true → (reflect && true) ≡ true
+    inside true external e = refl
+    inside false external e = absurd (cc)

@@ -1,10 +1,9 @@
 -- What is written of attributes is judged good, and stands by ascending type.
-use Rattle.std.proofs.Common.{◌≡◌, ◌⊎◌, ℕ, suc, ◌+◌, ◌*◌, ◌/◌, ◌%◌, ◌^◌, ◌≤◌, ◌<◌, Bool, true, false, cond, eqb, not, ◌||◌, ◌&&◌, List, [], ◌∷◌, ◌++◌, length, map, Option, Some, None, Ok, Err, refl, sym, ap, subst, ◌∙◌, inl, inr, arith}
+use Rattle.std.proofs.Common.{◌≡◌, ◌⊎◌, ℕ, suc, ◌+◌, ◌*◌, ◌/◌, ◌%◌, ◌^◌, ◌≤◌, ◌<◌, Bool, true, false, cond, eqb, ltb, not, ◌||◌, ◌&&◌, List, [], ◌∷◌, ◌++◌, length, map, Option, Some, None, Ok, Err, refl, sym, ap, subst, ◌∙◌, inl, inr, arith}
 use Rattle.std.specs.Prelude.{All, filter}
-use Rattle.std.specs.List.{list_any}
+use Rattle.std.specs.List.{list_any, flat_map}
 use Rattle.std.proofs.lemmas.List.{length-append}
-use Rattle.std.proofs.lemmas.Bool.{eqb-true, eqb-false, eq-eqb}
-use mathlib.Core.Bool.{beq}
+use Rattle.std.proofs.lemmas.Bool.{ltb-true, eqb-true, eqb-false, eq-eqb}
 use Rattle.byteorder.specs.Endian.{big_bytes}
 use Rattle.byteorder.specs.Numbers.{length-bytes_high_first}
 use Rattle.bgp_attr.specs.declared.attrs.Aggregator.{Aggregator}
@@ -14,18 +13,20 @@ use Rattle.bgp_attr.specs.declared.attrs.Origin.TheVariants.{Igp, Egp, Incomplet
 use Rattle.bgp_attr.specs.declared.path.Segment.{Segment}
 use Rattle.bgp_attr.specs.declared.speaker.Profile.{Profile}
 use Rattle.bgp_attr.specs.declared.unrecognized.Unrecognized.{Unrecognized}
-use Rattle.bgp_wire.proofs.JudgedTypes.{TypeRule, Verdict, keep, discard, withdraw}
+use Rattle.bgp_attr.specs.Reflections.{Reflected}
+use Rattle.bgp_wire.proofs.JudgedTypes.{TypeRule, Verdict, keep, discard, withdraw, any, fixed, fours, Place, first, middle, last}
 use Rattle.bgp_wire.specs.Faults.{notice, err_of}
 use Rattle.bgp_wire.specs.Paths.{width_of}
-use Rattle.bgp_wire.specs.Attributes.{Attribute, is_extended, IsAttribute, rule_of, milder, is_no_host, is_old_form, value_fault, judge_value, has_wrong_size, has_wrong_flags, judge_by, judgement, AreAttributes, kept_by}
+use Rattle.bgp_wire.specs.Attributes.{Attribute, is_extended, IsAttribute, is_reflection, rule, rule_of, milder, is_no_host, is_old_form, value_fault, judge_value, has_wrong_size, has_wrong_flags, judge_by, judgement, AreAttributes, kept_by}
 use Rattle.bgp_wire.specs.Routes.{code_of_origin, is_unrecognized, AscendsFrom}
-use Rattle.bgp_wire.specs.Spelling.{path_octets, is_long, spelled_octets, spelled, optional, aggregator_value, aggregator_flags, comes_first, unrecognized_attributes, mandatory_attributes, further_attributes, sent_attributes, octets_of}
-use Rattle.bgp_wire.specs.Readable.{IsReadableSegment, IsHost, IsReadable}
-use Rattle.bgp_wire.proofs.TestLemmas.{unequal, or_false_left, or_false_right}
+use Rattle.bgp_wire.specs.Spelling.{path_octets, is_long, spelled_octets, spelled, optional, aggregator_value, aggregator_flags, stands_in, unrecognized_attribute, unrecognized_attributes, mandatory_attributes, further_attributes, clusters_attributes, reflection_attributes, sent_attributes, octets_of}
+use Rattle.bgp_wire.specs.Readable.{IsReadableSegment, IsHost, reads_reflection, IsReadable}
+use Rattle.bgp_wire.proofs.TestLemmas.{unequal, and_left, not_both, not_true, or_false_left, or_false_right}
 use Rattle.bgp_wire.proofs.PathLaws.{path_again}
 use Rattle.bgp_wire.proofs.RouteLaws.{IsKept, IsGood}
-use Rattle.wire_laws.proofs.SpelledNumbers.{all_first, all_later, spelled_path}
-use Rattle.bgp_wire.proofs.TypeLaws.{GoodType, unrecognized_kind, no_rule}
+use Rattle.wire_laws.proofs.SpelledNumbers.{all_first, all_later, all_cons, spelled_path}
+use Rattle.bgp_wire.proofs.TypeLaws.{GoodType, no_reflection, no_rule}
+use Rattle.bgp_wire.proofs.SpelledLengths.{length-numbers}
 
 -- ---- one attribute
 
@@ -48,7 +49,7 @@ spelled_is : (flags kind : ℕ) (value : List ℕ) → is_extended flags ≡ fal
 spelled_is flags kind value short long fits = by_length flags kind value (is_long value) short long fits
 
 -- a recognized one
-good_is_kept : (p : Profile) (external : Bool) (a : Attribute) (r : TypeRule) → rule_of p.as4 a.kind ≡ Some r → (p.revised && (external && eqb a.kind 5)) ≡ false → IsGood p.as4 r a → IsKept p external a
+good_is_kept : (p : Profile) (external : Bool) (a : Attribute) (r : TypeRule) → rule_of p external a.kind ≡ Some r → (p.revised && (external && eqb a.kind 5)) ≡ false → IsGood p.as4 r a → IsKept p external a
 good_is_kept p external a r ruled plain good =
     ap (judge_by p external a) ruled
     ∙ ap (λ b. cond b (Ok discard) (cond (has_wrong_flags r a) (milder p withdraw (notice 3 4 a.octets)) (cond (has_wrong_size r.size a.value) (milder p (cond (eqb a.kind 6 || eqb a.kind 7) discard withdraw) (notice 3 5 a.octets)) (judge_value p (value_fault p.as4 a))))) plain
@@ -80,7 +81,7 @@ sound_origin : (p : Profile) (external : Bool) (o : Origin) → IsSound p extern
 unfolding rule_of value_fault
 sound_origin p external o = record {
   is = spelled_is 64 1 (code_of_origin o ∷ []) refl refl (omega arith);
-  kept = good_is_kept p external (spelled 64 1 (code_of_origin o ∷ [])) (record { optional = false; transitive = true; size = Some 1 }) refl (not_five p.revised external false refl) (record { flags = refl; size = refl; value = by_code o });
+  kept = good_is_kept p external (spelled 64 1 (code_of_origin o ∷ [])) (record { optional = false; transitive = true; size = fixed 1 }) refl (not_five p.revised external false refl) (record { flags = refl; size = refl; value = by_code o });
 }
   where
     by_code : (o : Origin) → value_fault p.as4 (spelled 64 1 (code_of_origin o ∷ [])) ≡ None
@@ -94,8 +95,8 @@ sound_path p external path all fits =
     let value = path_octets (width_of p.as4) path in
     record {
       is = spelled_is 64 2 value refl refl fits;
-      kept = good_is_kept p external (spelled 64 2 value) (record { optional = false; transitive = true; size = None }) refl (not_five p.revised external false refl) (record {
-        flags = flags_right 64 2 value (spelled_octets (is_long value) 64 2 value) (is_long value) (record { optional = false; transitive = true; size = None }) refl refl;
+      kept = good_is_kept p external (spelled 64 2 value) (record { optional = false; transitive = true; size = any }) refl (not_five p.revised external false refl) (record {
+        flags = flags_right 64 2 value (spelled_octets (is_long value) 64 2 value) (is_long value) (record { optional = false; transitive = true; size = any }) refl refl;
         size = refl;
         value = ap err_of (path_again (width_of p.as4) value path (spelled_path p.as4 path all));
       });
@@ -109,7 +110,7 @@ sound_next_hop : (p : Profile) (external : Bool) (n : ℕ) → IsHost n → IsSo
 unfolding rule_of value_fault
 sound_next_hop p external n host = record {
   is = spelled_is 64 3 (big_bytes 4 n) refl refl (omega arith);
-  kept = good_is_kept p external (spelled 64 3 (big_bytes 4 n)) (record { optional = false; transitive = true; size = Some 4 }) refl (not_five p.revised external false refl) (record {
+  kept = good_is_kept p external (spelled 64 3 (big_bytes 4 n)) (record { optional = false; transitive = true; size = fixed 4 }) refl (not_five p.revised external false refl) (record {
     flags = refl;
     size = refl;
     value = ap (λ b. cond b (Some (notice 3 8 (spelled_octets false 64 3 (big_bytes 4 n)))) None) (ap is_no_host (first_octet n host.fits) ∙ host.first);
@@ -120,7 +121,7 @@ sound_med : (p : Profile) (external : Bool) (n : ℕ) → IsSound p external (sp
 unfolding rule_of value_fault
 sound_med p external n = record {
   is = spelled_is 128 4 (big_bytes 4 n) refl refl (omega arith);
-  kept = good_is_kept p external (spelled 128 4 (big_bytes 4 n)) (record { optional = true; transitive = false; size = Some 4 }) refl (not_five p.revised external false refl) (record { flags = refl; size = refl; value = refl });
+  kept = good_is_kept p external (spelled 128 4 (big_bytes 4 n)) (record { optional = true; transitive = false; size = fixed 4 }) refl (not_five p.revised external false refl) (record { flags = refl; size = refl; value = refl });
 }
 
 plain_internal : (a b : Bool) → b ≡ false → (a && (b && true)) ≡ false
@@ -131,14 +132,14 @@ sound_local_pref : (p : Profile) (external : Bool) (n : ℕ) → external ≡ fa
 unfolding rule_of value_fault
 sound_local_pref p external n internal = record {
   is = spelled_is 64 5 (big_bytes 4 n) refl refl (omega arith);
-  kept = good_is_kept p external (spelled 64 5 (big_bytes 4 n)) (record { optional = false; transitive = true; size = Some 4 }) refl (plain_internal p.revised external internal) (record { flags = refl; size = refl; value = refl });
+  kept = good_is_kept p external (spelled 64 5 (big_bytes 4 n)) (record { optional = false; transitive = true; size = fixed 4 }) refl (plain_internal p.revised external internal) (record { flags = refl; size = refl; value = refl });
 }
 
 sound_atomic : (p : Profile) (external : Bool) → IsSound p external (spelled 64 6 [])
 unfolding rule_of value_fault
 sound_atomic p external = record {
   is = spelled_is 64 6 [] refl refl (omega arith);
-  kept = good_is_kept p external (spelled 64 6 []) (record { optional = false; transitive = true; size = Some 0 }) refl (not_five p.revised external false refl) (record { flags = refl; size = refl; value = refl });
+  kept = good_is_kept p external (spelled 64 6 []) (record { optional = false; transitive = true; size = fixed 0 }) refl (not_five p.revised external false refl) (record { flags = refl; size = refl; value = refl });
 }
 
 sound_aggregator_value : (p : Profile) (external : Bool) (partial : Bool) (value : List ℕ) → length value ≡ cond p.as4 8 6 → length value < 65536 → IsSound p external (spelled (aggregator_flags partial) 7 value)
@@ -149,7 +150,7 @@ sound_aggregator_value p external partial value size fits = record {
 }
   where
     r : TypeRule
-    r = record { optional = true; transitive = true; size = Some (cond p.as4 8 6) }
+    r = record { optional = true; transitive = true; size = fixed (cond p.as4 8 6) }
 
     by_flags : (b : Bool) → IsAttribute (spelled (aggregator_flags b) 7 value)
     by_flags true = spelled_is 224 7 value refl refl fits
@@ -170,15 +171,55 @@ sound_aggregator p external g =
     let size = aggregator_size p.as4 (length (aggregator_value p.as4 g)) whole in
     sound_aggregator_value p external g.partial (aggregator_value p.as4 g) size.0 size.1
 
-sound_unrecognized : (p : Profile) (external : Bool) (u : Unrecognized) → is_unrecognized u.kind ≡ true → is_old_form p u.kind ≡ false → Fits16 u.value → IsSound p external (spelled 224 u.kind u.value)
+sound_unrecognized : (p : Profile) (external : Bool) (u : Unrecognized) → is_unrecognized p u.kind ≡ true → is_old_form p u.kind ≡ false → Fits16 u.value → IsSound p external (unrecognized_attribute u)
 sound_unrecognized p external u unknown recent fits = record {
   is = spelled_is 224 u.kind u.value refl refl fits;
-  kept = ap (judge_by p external (spelled 224 u.kind u.value)) (no_rule p.as4 u.kind unknown) ∙ judged (is_long u.value) (is_old_form p u.kind) recent;
+  kept = ap (judge_by p external (unrecognized_attribute u)) (no_rule p external u.kind unknown) ∙ judged (is_long u.value) (λ i. recent i || no_reflection p u.kind unknown i);
 }
   where
-    judged : (long old : Bool) → old ≡ false → cond (not (eqb (cond long 240 224 / 128 % 2) 1)) (Err (notice 3 2 (spelled_octets (is_long u.value) 224 u.kind u.value))) (cond (eqb (cond long 240 224 / 64 % 2) 1 && not old) (Ok keep) (Ok discard)) ≡ Ok keep
-    judged true old e = ap (λ b. cond (not b) (Ok keep) (Ok discard)) e
-    judged false old e = ap (λ b. cond (not b) (Ok keep) (Ok discard)) e
+    judged : (long : Bool) → (is_old_form p u.kind || is_reflection p u.kind) ≡ false
+        → cond (not (eqb (cond long 240 224 / 128 % 2) 1)) (Err (notice 3 2 (spelled_octets (is_long u.value) 224 u.kind u.value))) (cond (eqb (cond long 240 224 / 64 % 2) 1 && not (is_old_form p u.kind || is_reflection p u.kind)) (Ok keep) (Ok discard)) ≡ Ok keep
+    judged true e = ap (λ b. cond (not b) (Ok keep) (Ok discard)) e
+    judged false e = ap (λ b. cond (not b) (Ok keep) (Ok discard)) e
+
+-- what reflectors added
+
+reads_both : (reflect external : Bool) → (reflect && not external) ≡ true → (not (reflect && true) || external) ≡ false
+reads_both true false e = refl
+reads_both true true e = absurd (cc)
+reads_both false external e = absurd (cc)
+
+pub rule_at_9 : (p : Profile) (external : Bool) → reads_reflection p external ≡ true → rule_of p external 9 ≡ Some (record { optional = true; transitive = false; size = fixed 4 })
+unfolding rule_of
+rule_at_9 p external reads = ap (λ b. cond b None (rule true false (fixed 4))) (reads_both p.reflect external reads)
+
+pub rule_at_10 : (p : Profile) (external : Bool) → reads_reflection p external ≡ true → rule_of p external 10 ≡ Some (record { optional = true; transitive = false; size = fours })
+unfolding rule_of
+rule_at_10 p external reads = ap (λ b. cond b None (rule true false fours)) (reads_both p.reflect external reads)
+
+sound_originator : (p : Profile) (external : Bool) (n : ℕ) → reads_reflection p external ≡ true → IsSound p external (spelled 128 9 (big_bytes 4 n))
+unfolding value_fault
+sound_originator p external n reads = record {
+  is = spelled_is 128 9 (big_bytes 4 n) refl refl (omega arith);
+  kept = good_is_kept p external (spelled 128 9 (big_bytes 4 n)) (record { optional = true; transitive = false; size = fixed 4 }) (rule_at_9 p external reads) (not_five p.revised external false refl) (record { flags = refl; size = refl; value = refl });
+}
+
+fours_fit : (n k : ℕ) → n ≡ suc k * 4 → (eqb n 0 || not (eqb (n % 4) 0)) ≡ false
+fours_fit n k e = λ i. unequal n 0 (λ z. absurd (omega arith)) i || not (eq-eqb (n % 4) 0 (omega arith) i)
+
+sound_clusters : (p : Profile) (external : Bool) (c : ℕ) (cs : List ℕ) → reads_reflection p external ≡ true → Fits16 (flat_map (big_bytes 4) (c ∷ cs)) → IsSound p external (spelled 128 10 (flat_map (big_bytes 4) (c ∷ cs)))
+unfolding value_fault
+sound_clusters p external c cs reads fits =
+    let value = flat_map (big_bytes 4) (c ∷ cs) in
+    let r : TypeRule = record { optional = true; transitive = false; size = fours } in
+    record {
+      is = spelled_is 128 10 value refl refl fits;
+      kept = good_is_kept p external (spelled 128 10 value) r (rule_at_10 p external reads) (not_five p.revised external false refl) (record {
+        flags = flags_right 128 10 value (spelled_octets (is_long value) 128 10 value) (is_long value) r refl refl;
+        size = fours_fit (length value) (length cs) (length-numbers 4 (c ∷ cs));
+        value = refl;
+      });
+    }
 
 -- ---- all that are sent
 
@@ -203,55 +244,44 @@ sound_if : (p : Profile) (external : Bool) (kind : ℕ) (a : Attribute) (b : Boo
 sound_if p external kind a true e is = (omega arith, is, omega arith)
 sound_if p external kind a false e is = omega arith
 
--- types that are above the first place have nothing before ORIGIN
-none_first : (n : ℕ) (us : List Unrecognized) → AscendsFrom (suc n) us → unrecognized_attributes true us ≡ []
-none_first n [] order = refl
-none_first n (u ∷ us) order =
-    ap (λ b. map (λ (u : Unrecognized). spelled 224 u.kind u.value) (cond (beq b true) (u ∷ filter (λ u. beq (comes_first u) true) us) (filter (λ u. beq (comes_first u) true) us))) (unequal u.kind 0 (λ e. absurd (omega (arith, order.0))))
-    ∙ none_first u.kind us order.1
-
 abbrev pub AllFit16 : List Unrecognized → Type 0
 AllFit16 us = All (λ (u : Unrecognized). length u.value < 65536) us
 
-sound_first : (p : Profile) (external : Bool) (us : List Unrecognized) → AscendsFrom 0 us → All (GoodType p) us → AllFit16 us → AreSound p external 0 1 (unrecognized_attributes true us)
-sound_first p external [] order good fit = omega arith
-sound_first p external (u ∷ us) order good fit = elim (eqb u.kind 0) as (λ b. eqb u.kind 0 ≡ b → AreSound p external 0 1 (map (λ (u : Unrecognized). spelled 224 u.kind u.value) (cond (beq b true) (u ∷ filter (λ u. beq (comes_first u) true) us) (filter (λ u. beq (comes_first u) true) us)))) [
-  | true ↦ λ is.
-      let zero_kind : u.kind ≡ 0 = eqb-true _ _ is in
-      let g = all_first (GoodType p) u us good in
-      let sound = sound_unrecognized p external u g.0 g.1 (all_first (λ (u : Unrecognized). length u.value < 65536) u us fit) in
-      (omega arith, sound, subst (AreSound p external (suc u.kind) 1) (sym (none_first u.kind us order.1)) (omega arith))
-  | false ↦ λ is. subst (AreSound p external 0 1) (sym (none_first u.kind us order.1)) (omega arith)
-] refl
-
--- the types of the others ascend behind AGGREGATOR
-sound_others : (p : Profile) (external : Bool) (n m : ℕ) (us : List Unrecognized) → AscendsFrom n us → (m ≤ n) ⊎ (m ≤ 8) → All (GoodType p) us → AllFit16 us → (end : ℕ) × AreSound p external m end (unrecognized_attributes false us)
-sound_others p external n m [] order low good fit = (m, omega arith)
-sound_others p external n m (u ∷ us) order low good fit =
-    by_test (eqb u.kind 0) refl
-    (sound_others p external (suc u.kind) (suc u.kind) us order.1 (inl (omega arith)) (all_later (GoodType p) u us good) (all_later (λ (u : Unrecognized). length u.value < 65536) u us fit))
-    (λ low. sound_others p external (suc u.kind) m us order.1 low (all_later (GoodType p) u us good) (all_later (λ (u : Unrecognized). length u.value < 65536) u us fit))
+-- the unrecognized ones of a place, by where their types begin and end
+sound_place : (p : Profile) (external : Bool) (place : Place) (from end n : ℕ) (us : List Unrecognized) → AscendsFrom n us → All (GoodType p) us → AllFit16 us → from ≤ end
+    → ((kind : ℕ) → n ≤ kind → is_unrecognized p kind ≡ true → stands_in place kind ≡ true → from ≤ kind) → All (λ (u : Unrecognized). stands_in place u.kind ≡ true → u.kind < end) us → AreSound p external from end (unrecognized_attributes place us)
+sound_place p external place from end n [] order good fit le above below = le
+sound_place p external place from end n (u ∷ us) order good fit le above below =
+    by_place (stands_in place u.kind) refl
+    (λ from le above. sound_place p external place from end (suc u.kind) us order.1 (all_later (GoodType p) u us good) (all_later (λ (u : Unrecognized). length u.value < 65536) u us fit) le above (all_later (λ (u : Unrecognized). stands_in place u.kind ≡ true → u.kind < end) u us below))
   where
-    by_test : (b : Bool) → eqb u.kind 0 ≡ b → (end : ℕ) × AreSound p external (suc u.kind) end (unrecognized_attributes false us) → ((m ≤ suc u.kind) ⊎ (m ≤ 8) → (end : ℕ) × AreSound p external m end (unrecognized_attributes false us))
-        → (end : ℕ) × AreSound p external m end (map (λ (u : Unrecognized). spelled 224 u.kind u.value) (cond (beq b false) (u ∷ filter (λ u. beq (comes_first u) false) us) (filter (λ u. beq (comes_first u) false) us)))
-    by_test true is here later = later (still low)
-      where
-        still : (m ≤ n) ⊎ (m ≤ 8) → (m ≤ suc u.kind) ⊎ (m ≤ 8)
-        still (inl le) = inl (omega (arith, order.0))
-        still (inr le) = inr le
-    by_test false is here later =
-        let g = all_first (GoodType p) u us good in
-        let above : m ≤ u.kind = behind low (unrecognized_kind u.kind g.0) in
-        (here.0, (above, sound_unrecognized p external u g.0 g.1 (all_first (λ (u : Unrecognized). length u.value < 65536) u us fit), here.1))
-      where
-        behind : (m ≤ n) ⊎ (m ≤ 8) → (u.kind ≡ 0) ⊎ (8 ≤ u.kind) → m ≤ u.kind
-        behind (inl le) k = omega (arith, order.0)
-        behind (inr le) (inl zero_kind) = absurd (omega (arith, eqb-false _ _ is))
-        behind (inr le) (inr more) = omega arith
+    later : List Unrecognized
+    later = filter (λ u. stands_in place u.kind) us
+
+    by_place : (b : Bool) → stands_in place u.kind ≡ b
+        → ((from : ℕ) → from ≤ end → ((kind : ℕ) → suc u.kind ≤ kind → is_unrecognized p kind ≡ true → stands_in place kind ≡ true → from ≤ kind) → AreSound p external from end (map unrecognized_attribute later))
+        → AreSound p external from end (map unrecognized_attribute (cond b (u ∷ later) later))
+    by_place true here rest =
+        let g = all_first (GoodType p) u us good in (
+          above u.kind order.0 g.0 here,
+          sound_unrecognized p external u g.0 g.1 (all_first (λ (u : Unrecognized). length u.value < 65536) u us fit),
+          rest (suc u.kind) (all_first (λ (u : Unrecognized). stands_in place u.kind ≡ true → u.kind < end) u us below here) (λ kind more unknown stands. more),
+        )
+    by_place false here rest = rest from le (λ kind more unknown stands. above kind (omega (arith, order.0)) unknown stands)
+
+-- above all types
+abbrev top : List Unrecognized → ℕ
+top [] = 0
+top (u ∷ us) = suc u.kind + top us
+
+below_top : (P : Unrecognized → Type 0) (m : ℕ) (us : List Unrecognized) → top us ≤ m → All (λ (u : Unrecognized). P u → u.kind < m) us
+below_top P m [] le = λ k d lt. absurd (omega arith)
+below_top P m (u ∷ us) le = all_cons (λ (u : Unrecognized). P u → u.kind < m) u us (λ _. omega arith) (below_top P m us (omega arith))
 
 -- the values of the attributes of any length fit the field of their length
 pub record FitLengths (as4 : Bool) (a : Attrs) : Type 0 where
   pub path : Fits16 (path_octets (width_of as4) a.path)
+  pub clusters : Fits16 (flat_map (big_bytes 4) a.reflection.clusters)
   pub unrecognized : AllFit16 a.unrecognized
 
 sound_further : (p : Profile) (external : Bool) (a : Attrs) → IsReadable p external a → AreSound p external 4 8 (further_attributes p.as4 a)
@@ -264,18 +294,83 @@ sound_further p external a is =
     (sound_if p external 6 (spelled 64 6 []) a.atomic refl (sound_atomic p external)))
     (sound_optional p external 7 (λ g. spelled (aggregator_flags g.partial) 7 (aggregator_value p.as4 g)) a.aggregator (λ g e. (refl, sound_aggregator p external g)))
 
+-- what reflectors added is read by a route reflector alone
+pub nothing_added : (p : Profile) (external : Bool) (a : Attrs) → IsReadable p external a → p.reflect ≡ false → (a.reflection.originator ≡ None) × (a.reflection.clusters ≡ [])
+nothing_added p external a is plain = (no_originator a.reflection.originator refl, no_cluster a.reflection.clusters refl)
+  where
+    never : reads_reflection p external ≡ true → ⊥
+    never reads = not_both p.reflect (and_left p.reflect (not external) reads) plain
+
+    no_originator : (o : Option ℕ) → a.reflection.originator ≡ o → a.reflection.originator ≡ None
+    no_originator None e = e
+    no_originator (Some n) e = absurd (never (is.originator n e).0)
+
+    no_cluster : (cs : List ℕ) → a.reflection.clusters ≡ cs → a.reflection.clusters ≡ []
+    no_cluster [] e = e
+    no_cluster (c ∷ cs) e = absurd (never (all_first (λ n. (reads_reflection p external ≡ true) × (n < 2 ^ 32)) c cs (subst (All (λ n. (reads_reflection p external ≡ true) × (n < 2 ^ 32))) e is.clusters)).0)
+
+pub nothing_reflected : (p : Profile) (external : Bool) (a : Attrs) → IsReadable p external a → p.reflect ≡ false → reflection_attributes a.reflection ≡ []
+nothing_reflected p external a is plain =
+    let none = nothing_added p external a is plain in
+    λ i. optional (λ n. spelled 128 9 (big_bytes 4 n)) (none.0 i) ++ clusters_attributes (none.1 i)
+
+-- behind what reflectors added, where a route reflector reads
+abbrev behind_reflection : Bool → ℕ
+behind_reflection reflect = cond reflect 11 9
+
+sound_reflection : (p : Profile) (external : Bool) (a : Attrs) → IsReadable p external a → Fits16 (flat_map (big_bytes 4) a.reflection.clusters) → AreSound p external 9 (behind_reflection p.reflect) (reflection_attributes a.reflection)
+sound_reflection p external a is fit = by_reflect p.reflect refl
+  where
+    clusters : (cs : List ℕ) → All (λ n. (reads_reflection p external ≡ true) × (n < 2 ^ 32)) cs → Fits16 (flat_map (big_bytes 4) cs) → AreSound p external 10 11 (clusters_attributes cs)
+    clusters [] read fit = omega arith
+    clusters (c ∷ cs) read fit = (omega arith, sound_clusters p external c cs (all_first (λ n. (reads_reflection p external ≡ true) × (n < 2 ^ 32)) c cs read).0 fit, omega arith)
+
+    by_reflect : (b : Bool) → p.reflect ≡ b → AreSound p external 9 (behind_reflection b) (reflection_attributes a.reflection)
+    by_reflect true e =
+        sound_append p external 9 10 11 _ _
+        (sound_optional p external 9 (λ n. spelled 128 9 (big_bytes 4 n)) a.reflection.originator (λ n e. (refl, sound_originator p external n (is.originator n e).0)))
+        (clusters a.reflection.clusters is.clusters fit)
+    by_reflect false e = subst (AreSound p external 9 9) (sym (nothing_reflected p external a is e)) (omega arith)
+
+-- an unrecognized type of the last place stands behind them
+last_above : (p : Profile) (kind : ℕ) → is_unrecognized p kind ≡ true → stands_in last kind ≡ true → behind_reflection p.reflect ≤ kind
+last_above p kind unknown stands = by_reflect p.reflect (no_reflection p kind unknown)
+  where
+    neither : (eqb kind 0 || eqb kind 8) ≡ false
+    neither = not_true (eqb kind 0 || eqb kind 8) stands
+
+    no_zero : eqb kind 0 ≡ false
+    no_zero = or_false_left (eqb kind 0) (eqb kind 8) neither
+
+    above_seven : (ltb 7 kind && not (is_reflection p kind)) ≡ true
+    above_seven = ap (λ b. b || (ltb 7 kind && not (is_reflection p kind))) (sym no_zero) ∙ unknown
+
+    nine : 9 ≤ kind
+    nine = omega (arith, ltb-true 7 kind (and_left (ltb 7 kind) (not (is_reflection p kind)) above_seven), eqb-false kind 8 (or_false_right (eqb kind 0) (eqb kind 8) neither))
+
+    by_reflect : (b : Bool) → (b && (eqb kind 9 || eqb kind 10)) ≡ false → behind_reflection b ≤ kind
+    by_reflect true e = omega (arith, nine, eqb-false kind 9 (or_false_left (eqb kind 9) (eqb kind 10) e), eqb-false kind 10 (or_false_right (eqb kind 9) (eqb kind 10) e))
+    by_reflect false e = nine
+
 pub sound_sent : (p : Profile) (external : Bool) (a : Attrs) → IsReadable p external a → FitLengths p.as4 a → (end : ℕ) × AreSound p external 0 end (sent_attributes p.as4 a)
 sound_sent p external a is fit =
-    let others = sound_others p external 0 8 a.unrecognized is.order (inr (omega arith)) is.types fit.unrecognized in
+    let us = a.unrecognized in
+    let between = behind_reflection p.reflect in
+    let end = between + top us in
+    let before : AreSound p external 0 1 (unrecognized_attributes first us) = sound_place p external first 0 1 0 us is.order is.types fit.unrecognized (omega arith) (λ kind le unknown stands. omega arith) (λ k d lt here. omega (arith, eqb-true _ 0 here)) in
     let mandatory : AreSound p external 1 4 (mandatory_attributes p.as4 a) = (
       omega arith,
       sound_origin p external a.origin,
       (omega arith, sound_path p external a.path is.path fit.path, (omega arith, sound_next_hop p external a.next_hop is.next_hop, omega arith)),
-    ) in (
-      others.0,
-      sound_append p external 0 8 others.0 _ _
-          (sound_append p external 0 4 8 _ _ (sound_append p external 0 1 4 _ _ (sound_first p external a.unrecognized is.order is.types fit.unrecognized) mandatory) (sound_further p external a is))
-          others.1,
+    ) in
+    let eighth : AreSound p external 8 9 (unrecognized_attributes middle us) = sound_place p external middle 8 9 0 us is.order is.types fit.unrecognized (omega arith) (λ kind le unknown stands. omega (arith, eqb-true kind 8 stands)) (λ k d lt here. omega (arith, eqb-true _ 8 here)) in
+    let behind : AreSound p external between end (unrecognized_attributes last us) = sound_place p external last between end 0 us is.order is.types fit.unrecognized (omega arith) (λ kind le unknown stands. last_above p kind unknown stands) (below_top (λ (u : Unrecognized). stands_in last u.kind ≡ true) end us (omega arith)) in (
+      end,
+      sound_append p external 0 between end _ _
+          (sound_append p external 0 9 between _ _
+          (sound_append p external 0 8 9 _ _ (sound_append p external 0 4 8 _ _ (sound_append p external 0 1 4 _ _ before mandatory) (sound_further p external a is)) eighth)
+          (sound_reflection p external a is fit.clusters))
+          behind,
     )
 
 -- ---- they are read one after the other
@@ -295,7 +390,7 @@ still_behind n m seen behind le kind above =
 
 judged : (p : Profile) (external : Bool) (seen : List ℕ) (a : Attribute) → list_any (λ k. eqb k a.kind) seen ≡ false → IsKept p external a → judgement p external seen a ≡ Ok keep
 unfolding judgement
-judged p external seen a new kept = ap (λ b. cond b (milder p discard (notice 3 1 [])) (judge_by p external a (rule_of p.as4 a.kind))) new ∙ kept
+judged p external seen a new kept = ap (λ b. cond b (milder p discard (notice 3 1 [])) (judge_by p external a (rule_of p external a.kind))) new ∙ kept
 
 abbrev pub all_kept : List Attribute → List (Attribute × Verdict)
 all_kept xs = map (λ a. (a, keep)) xs

@@ -1,8 +1,8 @@
 -- What is written of an UPDATE is read as it was.
 use Rattle.std.proofs.Common.{◌≡◌, ℕ, zero, suc, ◌+◌, ◌*◌, ◌/◌, ◌%◌, ◌≤◌, ◌<◌, Bool, true, false, cond, eqb, ◌||◌, map, List, [], ◌∷◌, ◌++◌, length, Ok, refl, sym, ap, subst, ◌∙◌, arith}
-use Rattle.std.specs.Prelude.{All, filter}
+use Rattle.std.specs.Prelude.{All}
+use Rattle.std.specs.List.{flat_map}
 use Rattle.std.proofs.lemmas.List.{length-append}
-use mathlib.Core.Bool.{beq}
 use Rattle.byteorder.specs.Endian.{big_bytes}
 use Rattle.addr4.specs.Prefixes.{Network}
 use Rattle.bgp_attr.specs.declared.attrs.Attrs.{Attrs}
@@ -14,12 +14,12 @@ use Rattle.bgp_wire.specs.Attributes.{Attribute}
 use Rattle.bgp_wire.specs.Routes.{code_of_origin}
 use Rattle.bgp_wire.specs.Updates.{has_kind, missing, lack}
 use Rattle.bgp_wire.specs.Grammar.{IsFrame, IsReading, Reads}
-use Rattle.bgp_wire.specs.Spelling.{path_octets, spelled, is_long, spelled_octets, comes_first, unrecognized_attributes, mandatory_attributes, further_attributes, sent_attributes, octets_of, prefixes_octets, fields_octets, framed, update_octets}
+use Rattle.bgp_wire.specs.Spelling.{path_octets, spelled, is_long, spelled_octets, optional, unrecognized_attribute, mandatory_attributes, clusters_attributes, sent_attributes, octets_of, prefixes_octets, fields_octets, framed, update_octets}
 use Rattle.bgp_wire.specs.Lengths.{announcement_length}
 use Rattle.bgp_wire.specs.Readable.{IsNetwork, IsReadable, withdrawal, announcement}
-use Rattle.bgp_wire.proofs.SpelledLengths.{length-framed, fields_parts, length-fields, length-octets-append}
+use Rattle.bgp_wire.proofs.SpelledLengths.{length-framed, fields_parts, length-fields, length-octets-append, length-spelled, length-first, length-sent}
 use Rattle.bgp_wire.proofs.SpellingLemmas.{alone}
-use Rattle.wire_laws.proofs.SpelledNumbers.{spelled_prefixes}
+use Rattle.wire_laws.proofs.SpelledNumbers.{all_cons, spelled_prefixes}
 use Rattle.wire_laws.proofs.SpelledAttributes.{FitLengths, all_kept, sound_sent, sound_are, all_are_kept}
 use Rattle.wire_laws.proofs.SpelledRoutes.{attrs_are, has_mandatory}
 
@@ -69,35 +69,21 @@ withdrawal_is_read p external n is =
 
 -- ---- the lengths of values, by the length of all
 
-pub length-spelled : (long : Bool) (flags kind : ℕ) (value : List ℕ) → length (spelled_octets long flags kind value) ≡ cond long 4 3 + length value
-length-spelled true flags kind value = omega (arith, length-append (big_bytes 2 (length value)) value)
-length-spelled false flags kind value = omega arith
-
 value_shorter : (flags kind : ℕ) (value : List ℕ) → length value ≤ length (spelled_octets (is_long value) flags kind value)
 value_shorter flags kind value = omega (arith, length-spelled (is_long value) flags kind value)
 
-all_cons : {A : Type 0} (P : A → Type 0) (x : A) (xs : List A) → P x → All P xs → All P (x ∷ xs)
-all_cons P x xs first later zero d lt = first
-all_cons P x xs first later (suc k) d lt = later k d (omega arith)
-
-unrecognized_fit : (n : ℕ) (us : List Unrecognized) → length (octets_of (unrecognized_attributes true us)) + length (octets_of (unrecognized_attributes false us)) < n → All (λ (u : Unrecognized). length u.value < n) us
+unrecognized_fit : (n : ℕ) (us : List Unrecognized) → length (octets_of (map unrecognized_attribute us)) < n → All (λ (u : Unrecognized). length u.value < n) us
 unrecognized_fit n [] lt = λ k d h. absurd (omega arith)
-unrecognized_fit n (u ∷ us) lt = by_test (eqb u.kind 0) lt (λ lt. unrecognized_fit n us lt)
-  where
-    part : Bool → Bool → List Attribute
-    part b first = map (λ (u : Unrecognized). spelled 224 u.kind u.value) (cond (beq b first) (u ∷ filter (λ u. beq (comes_first u) first) us) (filter (λ u. beq (comes_first u) first) us))
+unrecognized_fit n (u ∷ us) lt =
+    let whole = length-first (unrecognized_attribute u) (map unrecognized_attribute us) in
+    let value = value_shorter 224 u.kind u.value in
+    all_cons (λ (u : Unrecognized). length u.value < n) u us (omega (arith, whole, value, lt)) (unrecognized_fit n us (omega (arith, whole, lt)))
 
-    front : (xs : List Attribute) → length u.value + length (octets_of xs) ≤ length (octets_of (spelled 224 u.kind u.value ∷ xs))
-    front xs = omega (arith, length-append (spelled_octets (is_long u.value) 224 u.kind u.value) (octets_of xs), value_shorter 224 u.kind u.value)
-
-    by_test : (b : Bool) → length (octets_of (part b true)) + length (octets_of (part b false)) < n → (length (octets_of (unrecognized_attributes true us)) + length (octets_of (unrecognized_attributes false us)) < n → All (λ (u : Unrecognized). length u.value < n) us)
-        → All (λ (u : Unrecognized). length u.value < n) (u ∷ us)
-    by_test true lt later =
-        let f = front (unrecognized_attributes true us) in
-        all_cons (λ (u : Unrecognized). length u.value < n) u us (omega (arith, f, lt)) (later (omega (arith, f, lt)))
-    by_test false lt later =
-        let f = front (unrecognized_attributes false us) in
-        all_cons (λ (u : Unrecognized). length u.value < n) u us (omega (arith, f, lt)) (later (omega (arith, f, lt)))
+clusters_within : (cs : List ℕ) → length (flat_map (big_bytes 4) cs) ≤ length (octets_of (clusters_attributes cs))
+clusters_within [] = omega arith
+clusters_within (c ∷ cs) =
+    let value = flat_map (big_bytes 4) (c ∷ cs) in
+    omega (arith, length-first (spelled 128 10 value) [], value_shorter 128 10 value)
 
 pub path_within : (as4 : Bool) (a : Attrs) → length (path_octets (width_of as4) a.path) ≤ length (octets_of (mandatory_attributes as4 a))
 path_within as4 a =
@@ -108,13 +94,13 @@ path_within as4 a =
 
 fit_lengths : (as4 : Bool) (a : Attrs) → length (octets_of (sent_attributes as4 a)) < 65536 → FitLengths as4 a
 fit_lengths as4 a fits =
-    let u = unrecognized_attributes true a.unrecognized in
-    let m = mandatory_attributes as4 a in
-    let f = further_attributes as4 a in
-    let v = unrecognized_attributes false a.unrecognized in
-    let whole : length (octets_of (sent_attributes as4 a)) ≡ length (octets_of u) + length (octets_of m) + length (octets_of f) + length (octets_of v) =
-    omega (arith, length-octets-append ((u ++ m) ++ f) v, length-octets-append (u ++ m) f, length-octets-append u m) in
-    record { path = omega (arith, path_within as4 a, whole, fits); unrecognized = unrecognized_fit 65536 a.unrecognized (omega (arith, whole, fits)) }
+    let whole = length-sent as4 a in
+    let originator = optional (λ n. spelled 128 9 (big_bytes 4 n)) a.reflection.originator in
+    record {
+      path = omega (arith, path_within as4 a, whole, fits);
+      clusters = omega (arith, clusters_within a.reflection.clusters, length-octets-append originator (clusters_attributes a.reflection.clusters), whole, fits);
+      unrecognized = unrecognized_fit 65536 a.unrecognized (omega (arith, whole, fits));
+    }
 
 -- ---- one prefix is announced
 

@@ -21,6 +21,10 @@ all_first P x xs all = all 0 x (omega arith)
 pub all_later : {A : Type 0} (P : A → Type 0) (x : A) (xs : List A) → All P (x ∷ xs) → All P xs
 all_later P x xs all = λ k d lt. all (suc k) d (omega arith)
 
+pub all_cons : {A : Type 0} (P : A → Type 0) (x : A) (xs : List A) → P x → All P xs → All P (x ∷ xs)
+all_cons P x xs first later zero d lt = first
+all_cons P x xs first later (suc k) d lt = later k d (omega arith)
+
 -- ---- prefixes
 
 -- the low octets of a masked prefix are zero
@@ -73,7 +77,7 @@ spelled_prefixes p is = (prefix_octets p, [], refl, spelled_prefix p is, refl)
 
 -- ---- paths
 
-numbers_again : (width : ℕ) (ns : List ℕ) → All (λ n. n < 256 ^ width) ns → ns ≡ numbers_at width (length ns) (flat_map (big_bytes width) ns)
+pub numbers_again : (width : ℕ) (ns : List ℕ) → All (λ n. n < 256 ^ width) ns → ns ≡ numbers_at width (length ns) (flat_map (big_bytes width) ns)
 numbers_again width [] fit = refl
 numbers_again width (n ∷ ns) fit =
     let rest = flat_map (big_bytes width) ns in

@@ -1,24 +1,29 @@
 -- What is written of a route's attributes says of the route what they are.
-use Rattle.std.proofs.Common.{◌≡◌, ℕ, ◌+◌, ◌/◌, ◌%◌, ◌^◌, ◌<◌, Bool, true, false, cond, eqb, ◌||◌, List, [], ◌∷◌, ◌++◌, drop, map, get_or, Option, Some, None, refl, sym, ap, subst, ◌∙◌}
+use Rattle.std.proofs.Common.{◌≡◌, ℕ, ◌+◌, ◌/◌, ◌%◌, ◌^◌, ◌<◌, Bool, true, false, cond, eqb, not, ◌||◌, ◌&&◌, List, [], ◌∷◌, ◌++◌, length, drop, map, get_or, Option, Some, None, refl, sym, ap, subst, ◌∙◌, arith}
 use Rattle.std.specs.Prelude.{All, filter, is_some, option_map, IsSomeAnd}
+use Rattle.std.specs.List.{flat_map}
 use Rattle.std.specs.Option.{ForSome}
+use Rattle.std.proofs.lemmas.Bool.{eqb-true}
 use Rattle.std.proofs.lemmas.List.{drop_at}
-use mathlib.Core.Bool.{beq}
 use Rattle.byteorder.specs.Endian.{big_number, big_bytes}
 use Rattle.byteorder.specs.Numbers.{big_number-reads_back, length-bytes_high_first}
 use Rattle.bgp_attr.specs.declared.attrs.Aggregator.{Aggregator}
 use Rattle.bgp_attr.specs.declared.attrs.Attrs.{Attrs}
 use Rattle.bgp_attr.specs.declared.speaker.Profile.{Profile}
 use Rattle.bgp_attr.specs.declared.unrecognized.Unrecognized.{Unrecognized}
-use Rattle.bgp_wire.specs.Paths.{width_of, IsPath}
+use Rattle.bgp_attr.specs.Reflections.{Reflected}
+use Rattle.bgp_wire.proofs.JudgedTypes.{Place, first, middle, last}
+use Rattle.bgp_wire.specs.Paths.{width_of, numbers_at, IsPath}
 use Rattle.bgp_wire.specs.Attributes.{Attribute}
-use Rattle.bgp_wire.specs.Routes.{kept_of, code_of_origin, aggregator_of, is_unrecognized, value_of, AreUnrecognized, AreAttrs}
+use Rattle.bgp_wire.specs.Routes.{kept_of, code_of_origin, aggregator_of, clusters_of, is_unrecognized, value_of, AreUnrecognized, AreAttrs}
 use Rattle.bgp_wire.specs.Updates.{has_kind}
-use Rattle.bgp_wire.specs.Spelling.{path_octets, is_long, spelled, optional, aggregator_value, aggregator_flags, comes_first, unrecognized_attributes, mandatory_attributes, further_attributes, sent_attributes}
+use Rattle.bgp_wire.specs.Spelling.{path_octets, is_long, spelled, optional, aggregator_value, aggregator_flags, stands_in, unrecognized_attribute, unrecognized_attributes, mandatory_attributes, further_attributes, clusters_attributes, reflection_attributes, sent_attributes}
 use Rattle.bgp_wire.specs.Readable.{IsReadable}
-use Rattle.bgp_wire.proofs.TestLemmas.{unequal}
-use Rattle.wire_laws.proofs.SpelledNumbers.{all_first, all_later, spelled_path}
-use Rattle.bgp_wire.proofs.TypeLaws.{GoodType}
+use Rattle.bgp_wire.proofs.TestLemmas.{unequal, not_both}
+use Rattle.wire_laws.proofs.SpelledNumbers.{all_first, all_later, numbers_again, spelled_path}
+use Rattle.wire_laws.proofs.SpelledAttributes.{nothing_added, nothing_reflected}
+use Rattle.bgp_wire.proofs.SpelledLengths.{length-numbers}
+use Rattle.bgp_wire.proofs.TypeLaws.{GoodType, other_type}
 
 -- the first that is there
 abbrev pub first_some : {A : Type 0} → Option A → Option A → Option A
@@ -36,58 +41,92 @@ kept_append kind (x ∷ xs) ys = elim (eqb x.kind kind) as (λ b. cond b (Some x
   | false ↦ kept_append kind xs ys
 ]
 
+-- what the other part has nothing of
+skip_left : (kind : ℕ) (xs ys : List Attribute) → kept_of kind xs ≡ None → kept_of kind (xs ++ ys) ≡ kept_of kind ys
+skip_left kind xs ys none = kept_append kind xs ys ∙ ap (λ o. first_some o (kept_of kind ys)) none
+
+skip_right : (kind : ℕ) (xs ys : List Attribute) → kept_of kind ys ≡ None → kept_of kind (xs ++ ys) ≡ kept_of kind xs
+skip_right kind xs ys none = kept_append kind xs ys ∙ ap (first_some (kept_of kind xs)) none ∙ none_right (kept_of kind xs)
+
+skip_both : (kind : ℕ) (xs ys : List Attribute) → kept_of kind xs ≡ None → kept_of kind ys ≡ None → kept_of kind (xs ++ ys) ≡ None
+skip_both kind xs ys none also = skip_left kind xs ys none ∙ also
+
 -- ---- the unrecognized ones
 
+-- where no attribute of a place is of the type
+not_in_place : (place : Place) (kind : ℕ) (us : List Unrecognized) → All (λ (u : Unrecognized). stands_in place u.kind ≡ true → eqb u.kind kind ≡ false) us → kept_of kind (unrecognized_attributes place us) ≡ None
+not_in_place place kind [] others = refl
+not_in_place place kind (u ∷ us) others =
+    by_place (stands_in place u.kind) refl (not_in_place place kind us (all_later (λ (u : Unrecognized). stands_in place u.kind ≡ true → eqb u.kind kind ≡ false) u us others))
+  where
+    later : List Unrecognized
+    later = filter (λ u. stands_in place u.kind) us
+
+    by_place : (b : Bool) → stands_in place u.kind ≡ b → kept_of kind (map unrecognized_attribute later) ≡ None → kept_of kind (map unrecognized_attribute (cond b (u ∷ later) later)) ≡ None
+    by_place true here none =
+        ap (λ b. cond b (Some (unrecognized_attribute u)) (kept_of kind (map unrecognized_attribute later))) (all_first (λ (u : Unrecognized). stands_in place u.kind ≡ true → eqb u.kind kind ≡ false) u us others here) ∙ none
+    by_place false here none = none
+
 -- they are of no recognized type
-no_recognized : (p : Profile) (first : Bool) (kind : ℕ) (us : List Unrecognized) → All (GoodType p) us → is_unrecognized kind ≡ false → kept_of kind (unrecognized_attributes first us) ≡ None
-no_recognized p first kind [] good known = refl
-no_recognized p first kind (u ∷ us) good known =
-    by_place (beq (comes_first u) first) (no_recognized p first kind us (all_later (GoodType p) u us good) known)
+no_recognized : (p : Profile) (place : Place) (kind : ℕ) (us : List Unrecognized) → All (GoodType p) us → is_unrecognized p kind ≡ false → kept_of kind (unrecognized_attributes place us) ≡ None
+no_recognized p place kind us good known = not_in_place place kind us (λ k d lt here. other_type p _ kind (good k d lt).0 known)
+
+-- a type stands in one place
+other_place : (place : Place) (kind : ℕ) (us : List Unrecognized) → stands_in place kind ≡ false → kept_of kind (unrecognized_attributes place us) ≡ None
+other_place place kind us elsewhere = not_in_place place kind us (λ k d lt here. unequal _ kind (λ e. not_both (stands_in place kind) (ap (stands_in place) (sym e) ∙ here) elsewhere))
+
+same_place : (place : Place) (kind : ℕ) (us : List Unrecognized) → stands_in place kind ≡ true → option_map (λ a. a.value) (kept_of kind (unrecognized_attributes place us)) ≡ value_of kind us
+same_place place kind [] here = refl
+same_place place kind (u ∷ us) here = by_place (stands_in place u.kind) refl (same_place place kind us here)
   where
-    never : is_unrecognized kind ≡ true → ⊥
-    never e = absurd (cc)
+    later : List Unrecognized
+    later = filter (λ u. stands_in place u.kind) us
 
-    apart : eqb u.kind kind ≡ false
-    apart = unequal u.kind kind (λ e. never (ap is_unrecognized (sym e) ∙ (all_first (GoodType p) u us good).0))
+    by_kind : (b : Bool) → option_map (λ a. a.value) (kept_of kind (map unrecognized_attribute later)) ≡ value_of kind us
+        → option_map (λ a. a.value) (cond b (Some (unrecognized_attribute u)) (kept_of kind (map unrecognized_attribute later))) ≡ cond b (Some u.value) (value_of kind us)
+    by_kind true same = refl
+    by_kind false same = same
 
-    by_place : (b : Bool) → kept_of kind (unrecognized_attributes first us) ≡ None → kept_of kind (map (λ (u : Unrecognized). spelled 224 u.kind u.value) (cond b (u ∷ filter (λ u. beq (comes_first u) first) us) (filter (λ u. beq (comes_first u) first) us))) ≡ None
-    by_place true later = ap (λ b. cond b (Some (spelled 224 u.kind u.value)) (kept_of kind (unrecognized_attributes first us))) apart ∙ later
-    by_place false later = later
+    by_place : (b : Bool) → stands_in place u.kind ≡ b → option_map (λ a. a.value) (kept_of kind (map unrecognized_attribute later)) ≡ value_of kind us
+        → option_map (λ a. a.value) (kept_of kind (map unrecognized_attribute (cond b (u ∷ later) later))) ≡ value_of kind (u ∷ us)
+    by_place true stands same = by_kind (eqb u.kind kind) same
+    by_place false stands same =
+        let apart = unequal u.kind kind (λ e. not_both (stands_in place u.kind) (ap (stands_in place) e ∙ here) stands) in
+        same ∙ sym (ap (λ b. cond b (Some u.value) (value_of kind us)) apart)
 
--- a type stands on one side of ORIGIN
-other_side : (first : Bool) (kind : ℕ) (us : List Unrecognized) → beq (eqb kind 0) first ≡ false → kept_of kind (unrecognized_attributes first us) ≡ None
-other_side first kind [] side = refl
-other_side first kind (u ∷ us) side = by_place (beq (eqb u.kind 0) first) refl (other_side first kind us side)
+-- the value of a type, in whichever place it stands
+one_place : (kind : ℕ) (us : List Unrecognized)
+    → option_map (λ a. a.value) (first_some (first_some (kept_of kind (unrecognized_attributes first us)) (kept_of kind (unrecognized_attributes middle us))) (kept_of kind (unrecognized_attributes last us))) ≡ value_of kind us
+one_place kind us = by_tests (eqb kind 0) refl (eqb kind 8) refl
   where
-    never : (b : Bool) → b ≡ true → b ≡ false → ⊥
-    never true e f = absurd (cc)
-    never false e f = absurd (cc)
+    value : Option Attribute → Option (List ℕ)
+    value o = option_map (λ a. a.value) o
 
-    by_place : (b : Bool) → beq (eqb u.kind 0) first ≡ b → kept_of kind (unrecognized_attributes first us) ≡ None → kept_of kind (map (λ (u : Unrecognized). spelled 224 u.kind u.value) (cond b (u ∷ filter (λ u. beq (comes_first u) first) us) (filter (λ u. beq (comes_first u) first) us))) ≡ None
-    by_place true here later =
-        let apart = unequal u.kind kind (λ e. never (beq (eqb u.kind 0) first) here (ap (λ k. beq (eqb k 0) first) e ∙ side)) in
-        ap (λ b. cond b (Some (spelled 224 u.kind u.value)) (kept_of kind (unrecognized_attributes first us))) apart ∙ later
-    by_place false here later = later
+    f : Option Attribute
+    f = kept_of kind (unrecognized_attributes first us)
 
-same_side : (first : Bool) (kind : ℕ) (us : List Unrecognized) → beq (eqb kind 0) first ≡ true → option_map (λ a. a.value) (kept_of kind (unrecognized_attributes first us)) ≡ value_of kind us
-same_side first kind [] side = refl
-same_side first kind (u ∷ us) side = by_place (beq (eqb u.kind 0) first) refl (same_side first kind us side)
-  where
-    never : (b : Bool) → b ≡ true → b ≡ false → ⊥
-    never true e f = absurd (cc)
-    never false e f = absurd (cc)
+    m : Option Attribute
+    m = kept_of kind (unrecognized_attributes middle us)
 
-    by_kind : (b : Bool) → option_map (λ a. a.value) (kept_of kind (unrecognized_attributes first us)) ≡ value_of kind us
-        → option_map (λ a. a.value) (cond b (Some (spelled 224 u.kind u.value)) (kept_of kind (unrecognized_attributes first us))) ≡ cond b (Some u.value) (value_of kind us)
-    by_kind true later = refl
-    by_kind false later = later
+    l : Option Attribute
+    l = kept_of kind (unrecognized_attributes last us)
 
-    by_place : (b : Bool) → beq (eqb u.kind 0) first ≡ b → option_map (λ a. a.value) (kept_of kind (unrecognized_attributes first us)) ≡ value_of kind us
-        → option_map (λ a. a.value) (kept_of kind (map (λ (u : Unrecognized). spelled 224 u.kind u.value) (cond b (u ∷ filter (λ u. beq (comes_first u) first) us) (filter (λ u. beq (comes_first u) first) us)))) ≡ value_of kind (u ∷ us)
-    by_place true here later = by_kind (eqb u.kind kind) later
-    by_place false here later =
-        let apart = unequal u.kind kind (λ e. never (beq (eqb u.kind 0) first) (ap (λ k. beq (eqb k 0) first) e ∙ side) here) in
-        later ∙ sym (ap (λ b. cond b (Some u.value) (value_of kind us)) apart)
+    by_tests : (a : Bool) → eqb kind 0 ≡ a → (b : Bool) → eqb kind 8 ≡ b → value (first_some (first_some f m) l) ≡ value_of kind us
+    by_tests true e true g = absurd (omega (arith, eqb-true _ _ e, eqb-true _ _ g))
+    by_tests true e false g =
+        ap (λ o. value (first_some (first_some f o) l)) (other_place middle kind us g)
+        ∙ ap (λ o. value (first_some (first_some f None) o)) (other_place last kind us (ap (λ b. not (b || eqb kind 8)) e))
+        ∙ ap value (none_right (first_some f None) ∙ none_right f)
+        ∙ same_place first kind us e
+    by_tests false e true g =
+        ap (λ o. value (first_some (first_some o m) l)) (other_place first kind us e)
+        ∙ ap (λ o. value (first_some m o)) (other_place last kind us (λ i. not (e i || g i)))
+        ∙ ap value (none_right m)
+        ∙ same_place middle kind us g
+    by_tests false e false g =
+        ap (λ o. value (first_some (first_some o m) l)) (other_place first kind us e)
+        ∙ ap (λ o. value (first_some o l)) (other_place middle kind us g)
+        ∙ same_place last kind us (λ i. not (e i || g i))
 
 -- ---- the recognized ones
 
@@ -168,79 +207,99 @@ further_7 as4 a =
     ∙ only_fourth _ _ _ _ (no_optional 7 med_of a.med (λ x. refl)) (no_optional 7 local_pref_of a.local_pref (λ x. refl)) (no_if 7 atomic_one a.atomic refl)
     ∙ kept_optional 7 (aggregator_by as4) a.aggregator (λ x. refl)
 
--- the parts of all
-all_pieces : (as4 : Bool) (kind : ℕ) (a : Attrs) → kept_of kind (sent_attributes as4 a)
-    ≡ Pieces (kept_of kind (unrecognized_attributes true a.unrecognized)) (kept_of kind (mandatory_attributes as4 a)) (kept_of kind (further_attributes as4 a)) (kept_of kind (unrecognized_attributes false a.unrecognized))
-all_pieces as4 kind a =
-    let u = unrecognized_attributes true a.unrecognized in
-    let m = mandatory_attributes as4 a in
-    let f = further_attributes as4 a in
-    let v = unrecognized_attributes false a.unrecognized in
-    kept_append kind ((u ++ m) ++ f) v
-    ∙ ap (λ o. first_some o (kept_of kind v)) (kept_append kind (u ++ m) f ∙ ap (λ o. first_some o (kept_of kind f)) (kept_append kind u m))
+-- what reflectors added
 
-recognized_at : (p : Profile) (kind : ℕ) (a : Attrs) → All (GoodType p) a.unrecognized → is_unrecognized kind ≡ false
+abbrev pub originator_of : ℕ → Attribute
+originator_of n = spelled 128 9 (big_bytes 4 n)
+
+no_clusters : (kind : ℕ) (cs : List ℕ) → eqb 10 kind ≡ false → kept_of kind (clusters_attributes cs) ≡ None
+no_clusters kind [] other = refl
+no_clusters kind (c ∷ cs) other = ap (λ b. cond b (Some (spelled 128 10 (flat_map (big_bytes 4) (c ∷ cs)))) None) other
+
+no_reflected : (kind : ℕ) (r : Reflected) → eqb 9 kind ≡ false → eqb 10 kind ≡ false → kept_of kind (reflection_attributes r) ≡ None
+no_reflected kind r nine ten = skip_both kind (optional originator_of r.originator) (clusters_attributes r.clusters) (no_optional kind originator_of r.originator (λ x. nine)) (no_clusters kind r.clusters ten)
+
+reflected_9 : (r : Reflected) → kept_of 9 (reflection_attributes r) ≡ option_map originator_of r.originator
+reflected_9 r = skip_right 9 (optional originator_of r.originator) (clusters_attributes r.clusters) (no_clusters 9 r.clusters refl) ∙ kept_optional 9 originator_of r.originator (λ x. refl)
+
+reflected_10 : (r : Reflected) → kept_of 10 (reflection_attributes r) ≡ kept_of 10 (clusters_attributes r.clusters)
+reflected_10 r = skip_left 10 (optional originator_of r.originator) (clusters_attributes r.clusters) (no_optional 10 originator_of r.originator (λ x. refl))
+
+-- ---- the parts of all
+
+-- those of a recognized type, but for what reflectors added
+recognized_at : (p : Profile) (kind : ℕ) (a : Attrs) → All (GoodType p) a.unrecognized → is_unrecognized p kind ≡ false → eqb 9 kind ≡ false → eqb 10 kind ≡ false
     → kept_of kind (sent_attributes p.as4 a) ≡ first_some (kept_of kind (mandatory_attributes p.as4 a)) (kept_of kind (further_attributes p.as4 a))
-recognized_at p kind a good known =
-    let m = kept_of kind (mandatory_attributes p.as4 a) in
-    let f = kept_of kind (further_attributes p.as4 a) in
-    let v = kept_of kind (unrecognized_attributes false a.unrecognized) in
-    all_pieces p.as4 kind a
-    ∙ ap (λ o. Pieces o m f v) (no_recognized p true kind a.unrecognized good known)
-    ∙ ap (λ o. Pieces None m f o) (no_recognized p false kind a.unrecognized good known)
-    ∙ none_right (first_some m f)
+recognized_at p kind a good known nine ten =
+    let u = unrecognized_attributes first a.unrecognized in
+    let m = mandatory_attributes p.as4 a in
+    let f = further_attributes p.as4 a in
+    let v = unrecognized_attributes middle a.unrecognized in
+    let r = reflection_attributes a.reflection in
+    let w = unrecognized_attributes last a.unrecognized in
+    let none : (place : Place) → kept_of kind (unrecognized_attributes place a.unrecognized) ≡ None = λ place. no_recognized p place kind a.unrecognized good known in
+    skip_right kind (u ++ m ++ f ++ v ++ r) w (none last)
+    ∙ skip_right kind (u ++ m ++ f ++ v) r (no_reflected kind a.reflection nine ten)
+    ∙ skip_right kind (u ++ m ++ f) v (none middle)
+    ∙ kept_append kind (u ++ m) f
+    ∙ ap (λ o. first_some o (kept_of kind f)) (skip_left kind u m (none first))
 
--- and those of an unrecognized type
-no_mandatory : (as4 : Bool) (kind : ℕ) (a : Attrs) → is_unrecognized kind ≡ true → kept_of kind (mandatory_attributes as4 a) ≡ None
-no_mandatory as4 kind a unknown = rw (other 1 (λ e. absurd (cc)), other 2 (λ e. absurd (cc)), other 3 (λ e. absurd (cc))) refl
-  where
-    other : (k : ℕ) → (is_unrecognized k ≡ true → ⊥) → eqb k kind ≡ false
-    other k known = unequal k kind (λ e. known (ap is_unrecognized e ∙ unknown))
+-- and what these added, where it is recognized
+reflected_at : (p : Profile) (kind : ℕ) (a : Attrs) → All (GoodType p) a.unrecognized → is_unrecognized p kind ≡ false → kept_of kind (mandatory_attributes p.as4 a) ≡ None → kept_of kind (further_attributes p.as4 a) ≡ None
+    → kept_of kind (sent_attributes p.as4 a) ≡ kept_of kind (reflection_attributes a.reflection)
+reflected_at p kind a good known no_first no_more =
+    let u = unrecognized_attributes first a.unrecognized in
+    let m = mandatory_attributes p.as4 a in
+    let f = further_attributes p.as4 a in
+    let v = unrecognized_attributes middle a.unrecognized in
+    let r = reflection_attributes a.reflection in
+    let w = unrecognized_attributes last a.unrecognized in
+    let none : (place : Place) → kept_of kind (unrecognized_attributes place a.unrecognized) ≡ None = λ place. no_recognized p place kind a.unrecognized good known in
+    skip_right kind (u ++ m ++ f ++ v ++ r) w (none last)
+    ∙ skip_left kind (u ++ m ++ f ++ v) r (skip_both kind (u ++ m ++ f) v (skip_both kind (u ++ m) f (skip_both kind u m (none first) no_first) no_more) (none middle))
 
-no_further : (as4 : Bool) (kind : ℕ) (a : Attrs) → is_unrecognized kind ≡ true → kept_of kind (further_attributes as4 a) ≡ None
-no_further as4 kind a unknown =
+no_further : (as4 : Bool) (kind : ℕ) (a : Attrs) → eqb 4 kind ≡ false → eqb 5 kind ≡ false → eqb 6 kind ≡ false → eqb 7 kind ≡ false → kept_of kind (further_attributes as4 a) ≡ None
+no_further as4 kind a four five six seven =
     further_pieces as4 kind a
-    ∙ only_first _ _ _ _ (no_optional kind local_pref_of a.local_pref (λ x. other 5 (λ e. absurd (cc)))) (no_if kind atomic_one a.atomic (other 6 (λ e. absurd (cc)))) (no_optional kind (aggregator_by as4) a.aggregator (λ x. other 7 (λ e. absurd (cc))))
-    ∙ no_optional kind med_of a.med (λ x. other 4 (λ e. absurd (cc)))
+    ∙ only_first _ _ _ _ (no_optional kind local_pref_of a.local_pref (λ x. five)) (no_if kind atomic_one a.atomic six) (no_optional kind (aggregator_by as4) a.aggregator (λ x. seven))
+    ∙ no_optional kind med_of a.med (λ x. four)
+
+-- those of an unrecognized type
+unrecognized_at : (p : Profile) (external : Bool) (kind : ℕ) (a : Attrs) → IsReadable p external a → is_unrecognized p kind ≡ true
+    → kept_of kind (sent_attributes p.as4 a) ≡ first_some (first_some (kept_of kind (unrecognized_attributes first a.unrecognized)) (kept_of kind (unrecognized_attributes middle a.unrecognized))) (kept_of kind (unrecognized_attributes last a.unrecognized))
+unrecognized_at p external kind a is unknown =
+    let u = unrecognized_attributes first a.unrecognized in
+    let m = mandatory_attributes p.as4 a in
+    let f = further_attributes p.as4 a in
+    let v = unrecognized_attributes middle a.unrecognized in
+    let r = reflection_attributes a.reflection in
+    let w = unrecognized_attributes last a.unrecognized in
+    kept_append kind (u ++ m ++ f ++ v ++ r) w
+    ∙ ap (λ o. first_some o (kept_of kind w)) (skip_right kind (u ++ m ++ f ++ v) r (no_added p.reflect refl)
+    ∙ kept_append kind (u ++ m ++ f) v
+    ∙ ap (λ o. first_some o (kept_of kind v)) (skip_right kind (u ++ m) f (no_further p.as4 kind a (other 4 refl) (other 5 refl) (other 6 refl) (other 7 refl)) ∙ skip_right kind u m no_mandatory))
   where
-    other : (k : ℕ) → (is_unrecognized k ≡ true → ⊥) → eqb k kind ≡ false
-    other k known = unequal k kind (λ e. known (ap is_unrecognized e ∙ unknown))
+    other : (k : ℕ) → is_unrecognized p k ≡ false → eqb k kind ≡ false
+    other k known = unequal k kind (λ e. not_both (is_unrecognized p k) (ap (is_unrecognized p) e ∙ unknown) known)
 
-unrecognized_at : (as4 : Bool) (kind : ℕ) (a : Attrs) → is_unrecognized kind ≡ true
-    → kept_of kind (sent_attributes as4 a) ≡ first_some (kept_of kind (unrecognized_attributes true a.unrecognized)) (kept_of kind (unrecognized_attributes false a.unrecognized))
-unrecognized_at as4 kind a unknown =
-    let u = kept_of kind (unrecognized_attributes true a.unrecognized) in
-    let f = kept_of kind (further_attributes as4 a) in
-    let v = kept_of kind (unrecognized_attributes false a.unrecognized) in
-    all_pieces as4 kind a
-    ∙ ap (λ o. Pieces u o f v) (no_mandatory as4 kind a unknown)
-    ∙ ap (λ o. Pieces u None o v) (no_further as4 kind a unknown)
-    ∙ ap (λ o. first_some o v) (none_right (first_some u None) ∙ none_right u)
+    no_mandatory : kept_of kind (mandatory_attributes p.as4 a) ≡ None
+    no_mandatory = rw (other 1 refl, other 2 refl, other 3 refl) refl
 
-one_side : (kind : ℕ) (us : List Unrecognized) → option_map (λ a. a.value) (first_some (kept_of kind (unrecognized_attributes true us)) (kept_of kind (unrecognized_attributes false us))) ≡ value_of kind us
-one_side kind us = by_zero (eqb kind 0) refl
-  where
-    by_zero : (b : Bool) → eqb kind 0 ≡ b → option_map (λ a. a.value) (first_some (kept_of kind (unrecognized_attributes true us)) (kept_of kind (unrecognized_attributes false us))) ≡ value_of kind us
-    by_zero true e =
-        ap (λ o. option_map (λ (a : Attribute). a.value) (first_some (kept_of kind (unrecognized_attributes true us)) o)) (other_side false kind us (ap (λ b. beq b false) e))
-        ∙ ap (option_map (λ (a : Attribute). a.value)) (none_right (kept_of kind (unrecognized_attributes true us)))
-        ∙ same_side true kind us (ap (λ b. beq b true) e)
-    by_zero false e =
-        ap (λ o. option_map (λ (a : Attribute). a.value) (first_some o (kept_of kind (unrecognized_attributes false us)))) (other_side true kind us (ap (λ b. beq b true) e))
-        ∙ same_side false kind us (ap (λ b. beq b false) e)
+    no_added : (b : Bool) → p.reflect ≡ b → kept_of kind (reflection_attributes a.reflection) ≡ None
+    no_added true e = no_reflected kind a.reflection (other 9 (ap (λ b. not (b && true)) e)) (other 10 (ap (λ b. not (b && true)) e))
+    no_added false e = ap (kept_of kind) (nothing_reflected p external a is e)
 
-no_value : (p : Profile) (kind : ℕ) (us : List Unrecognized) → All (GoodType p) us → is_unrecognized kind ≡ false → value_of kind us ≡ None
+no_value : (p : Profile) (kind : ℕ) (us : List Unrecognized) → All (GoodType p) us → is_unrecognized p kind ≡ false → value_of kind us ≡ None
 no_value p kind us good known =
-    sym (one_side kind us)
-    ∙ ap (λ o. option_map (λ (a : Attribute). a.value) (first_some o (kept_of kind (unrecognized_attributes false us)))) (no_recognized p true kind us good known)
-    ∙ ap (option_map (λ (a : Attribute). a.value)) (no_recognized p false kind us good known)
+    let none : (place : Place) → kept_of kind (unrecognized_attributes place us) ≡ None = λ place. no_recognized p place kind us good known in
+    sym (one_place kind us) ∙ (λ i. option_map (λ (a : Attribute). a.value) (first_some (first_some (none first i) (none middle i)) (none last i)))
 
-pub unrecognized_are : (p : Profile) (external : Bool) (a : Attrs) → IsReadable p external a → AreUnrecognized (sent_attributes p.as4 a) a.unrecognized
-unrecognized_are p external a is = record { order = is.order; values = λ kind. by_test kind (is_unrecognized kind) refl }
+pub unrecognized_are : (p : Profile) (external : Bool) (a : Attrs) → IsReadable p external a → AreUnrecognized p (sent_attributes p.as4 a) a.unrecognized
+unrecognized_are p external a is = record { order = is.order; values = λ kind. by_test kind (is_unrecognized p kind) refl }
   where
-    by_test : (kind : ℕ) (b : Bool) → is_unrecognized kind ≡ b → value_of kind a.unrecognized ≡ cond (is_unrecognized kind) (option_map (λ a. a.value) (kept_of kind (sent_attributes p.as4 a))) None
+    by_test : (kind : ℕ) (b : Bool) → is_unrecognized p kind ≡ b → value_of kind a.unrecognized ≡ cond (is_unrecognized p kind) (option_map (λ a. a.value) (kept_of kind (sent_attributes p.as4 a))) None
     by_test kind true unknown =
-        sym (one_side kind a.unrecognized) ∙ ap (option_map (λ (a : Attribute). a.value)) (sym (unrecognized_at p.as4 kind a unknown))
+        sym (one_place kind a.unrecognized) ∙ ap (option_map (λ (a : Attribute). a.value)) (sym (unrecognized_at p external kind a is unknown))
         ∙ sym (ap (λ b. cond b (option_map (λ a. a.value) (kept_of kind (sent_attributes p.as4 a))) None) unknown)
     by_test kind false known =
         no_value p kind a.unrecognized is.types known ∙ sym (ap (λ b. cond b (option_map (λ a. a.value) (kept_of kind (sent_attributes p.as4 a))) None) known)
@@ -280,16 +339,36 @@ aggregator_back as4 (Some g) fit =
     let addr : big_number 4 (drop width (front ++ big_bytes 4 g.addr)) ≡ g.addr = ap (big_number 4) later ∙ four_back g.addr f.1 in
     λ i. Some (record { asn = sym asn i; addr = sym addr i; partial = partial_back g.partial (is_long (aggregator_value as4 g)) i })
 
-pub attrs_are : (p : Profile) (external : Bool) (a : Attrs) → IsReadable p external a → AreAttrs p.as4 external (sent_attributes p.as4 a) a
+identifiers_back : (cs : List ℕ) → All (λ n. n < 2 ^ 32) cs → cs ≡ clusters_of (kept_of 10 (clusters_attributes cs))
+identifiers_back [] fit = refl
+identifiers_back (c ∷ cs) fit =
+    let value = flat_map (big_bytes 4) (c ∷ cs) in
+    let count : length (c ∷ cs) ≡ length value / 4 = omega (arith, length-numbers 4 (c ∷ cs)) in
+    numbers_again 4 (c ∷ cs) fit ∙ ap (λ n. numbers_at 4 n value) count
+
+-- what reflectors added is said, where it is read
+originator_back : (p : Profile) (external : Bool) (a : Attrs) → IsReadable p external a → (b : Bool) → p.reflect ≡ b → a.reflection.originator ≡ cond b (option_map (λ a. big_number 4 a.value) (kept_of 9 (sent_attributes p.as4 a))) None
+originator_back p external a is true e =
+    let at_9 = reflected_at p 9 a is.types (ap (λ b. not (b && true)) e) refl (no_further p.as4 9 a refl refl refl refl) ∙ reflected_9 a.reflection in
+    number_back a.reflection.originator originator_of (λ n. refl) (λ n e. (is.originator n e).1) ∙ ap (option_map (λ (a : Attribute). big_number 4 a.value)) (sym at_9)
+originator_back p external a is false e = (nothing_added p external a is e).0
+
+clusters_back : (p : Profile) (external : Bool) (a : Attrs) → IsReadable p external a → (b : Bool) → p.reflect ≡ b → a.reflection.clusters ≡ cond b (clusters_of (kept_of 10 (sent_attributes p.as4 a))) []
+clusters_back p external a is true e =
+    let at_10 = reflected_at p 10 a is.types (ap (λ b. not (b && true)) e) refl (no_further p.as4 10 a refl refl refl refl) ∙ reflected_10 a.reflection in
+    identifiers_back a.reflection.clusters (λ k d lt. (is.clusters k d lt).1) ∙ ap clusters_of (sym at_10)
+clusters_back p external a is false e = (nothing_added p external a is e).1
+
+pub attrs_are : (p : Profile) (external : Bool) (a : Attrs) → IsReadable p external a → AreAttrs p external (sent_attributes p.as4 a) a
 attrs_are p external a is =
     let sent = sent_attributes p.as4 a in
-    let at_1 : kept_of 1 sent ≡ Some (spelled 64 1 (code_of_origin a.origin ∷ [])) = recognized_at p 1 a is.types refl in
-    let at_2 : kept_of 2 sent ≡ Some (spelled 64 2 (path_octets (width_of p.as4) a.path)) = recognized_at p 2 a is.types refl in
-    let at_3 : kept_of 3 sent ≡ Some (spelled 64 3 (big_bytes 4 a.next_hop)) = recognized_at p 3 a is.types refl in
-    let at_4 : kept_of 4 sent ≡ option_map med_of a.med = recognized_at p 4 a is.types refl ∙ further_4 p.as4 a in
-    let at_5 : kept_of 5 sent ≡ option_map local_pref_of a.local_pref = recognized_at p 5 a is.types refl ∙ further_5 p.as4 a in
-    let at_6 : is_some (kept_of 6 sent) ≡ a.atomic = ap is_some (recognized_at p 6 a is.types refl) ∙ further_6 p.as4 a in
-    let at_7 : kept_of 7 sent ≡ option_map (aggregator_by p.as4) a.aggregator = recognized_at p 7 a is.types refl ∙ further_7 p.as4 a in
+    let at_1 : kept_of 1 sent ≡ Some (spelled 64 1 (code_of_origin a.origin ∷ [])) = recognized_at p 1 a is.types refl refl refl in
+    let at_2 : kept_of 2 sent ≡ Some (spelled 64 2 (path_octets (width_of p.as4) a.path)) = recognized_at p 2 a is.types refl refl refl in
+    let at_3 : kept_of 3 sent ≡ Some (spelled 64 3 (big_bytes 4 a.next_hop)) = recognized_at p 3 a is.types refl refl refl in
+    let at_4 : kept_of 4 sent ≡ option_map med_of a.med = recognized_at p 4 a is.types refl refl refl ∙ further_4 p.as4 a in
+    let at_5 : kept_of 5 sent ≡ option_map local_pref_of a.local_pref = recognized_at p 5 a is.types refl refl refl ∙ further_5 p.as4 a in
+    let at_6 : is_some (kept_of 6 sent) ≡ a.atomic = ap is_some (recognized_at p 6 a is.types refl refl refl) ∙ further_6 p.as4 a in
+    let at_7 : kept_of 7 sent ≡ option_map (aggregator_by p.as4) a.aggregator = recognized_at p 7 a is.types refl refl refl ∙ further_7 p.as4 a in
     record {
       origin = ap (option_map (λ (a : Attribute). get_or a.value 0 0)) at_1;
       path = some_and (kept_of 2 sent) (spelled 64 2 (path_octets (width_of p.as4) a.path)) (λ x. IsPath (width_of p.as4) x.value a.path) at_2 (spelled_path p.as4 a.path is.path);
@@ -298,6 +377,8 @@ attrs_are p external a is =
       local_pref = local_pref_back external a.local_pref is.local_pref ∙ ap (λ o. cond external None (option_map (λ (a : Attribute). big_number 4 a.value) o)) (sym at_5);
       atomic = sym at_6;
       aggregator = aggregator_back p.as4 a.aggregator is.aggregator ∙ ap (option_map (aggregator_of p.as4)) (sym at_7);
+      originator = originator_back p external a is p.reflect refl;
+      clusters = clusters_back p external a is p.reflect refl;
       unrecognized = unrecognized_are p external a is;
     }
 
@@ -312,7 +393,7 @@ has_from_kept kind (x ∷ xs) a e = by_test (eqb x.kind kind) (has_from_kept kin
 
 pub has_mandatory : (p : Profile) (external : Bool) (a : Attrs) → IsReadable p external a → (has_kind 1 (sent_attributes p.as4 a) ≡ true) × (has_kind 2 (sent_attributes p.as4 a) ≡ true) × (has_kind 3 (sent_attributes p.as4 a) ≡ true)
 has_mandatory p external a is = (
-  has_from_kept 1 (sent_attributes p.as4 a) _ (recognized_at p 1 a is.types refl),
-  has_from_kept 2 (sent_attributes p.as4 a) _ (recognized_at p 2 a is.types refl),
-  has_from_kept 3 (sent_attributes p.as4 a) _ (recognized_at p 3 a is.types refl),
+  has_from_kept 1 (sent_attributes p.as4 a) _ (recognized_at p 1 a is.types refl refl refl),
+  has_from_kept 2 (sent_attributes p.as4 a) _ (recognized_at p 2 a is.types refl refl refl),
+  has_from_kept 3 (sent_attributes p.as4 a) _ (recognized_at p 3 a is.types refl refl refl),
 )

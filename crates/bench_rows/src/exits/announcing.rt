@@ -6,7 +6,9 @@ ghost use Rattle.peer_out.specs.Changes.{IsSender, MayBeHeard};
 use crate::exits::prefix_at;
 use crate::measured::Measured;
 use addr4::{Addr, Memory};
-use bgp_attr::{AsPath, Attrs, Origin, Profile, Route, SharedAttrs, Speaker, UnrecognizedAttrs};
+use bgp_attr::{
+    AsPath, Attrs, Origin, Profile, Reflection, Route, SharedAttrs, Speaker, UnrecognizedAttrs,
+};
 use link_change::Change;
 use peer_out::{PeerOut, local_routes_may_be_heard};
 use std::alloc::Global;
@@ -15,6 +17,7 @@ use std::alloc::Global;
 const PROFILE: Profile = Profile {
     as4: false,
     revised: false,
+    reflect: false,
 };
 
 fn speaker() -> Speaker
@@ -40,7 +43,8 @@ fn own(alloc: Global) -> Result<Route, Memory>
         local_pref: None,
         atomic: false,
         aggregator: None,
-        unrecognized: UnrecognizedAttrs::new(alloc),
+        reflection: Reflection::none(),
+        unrecognized: UnrecognizedAttrs::none(),
     };
     Ok(Route {
         attrs: SharedAttrs::new(alloc, attrs)?,

@@ -5,18 +5,19 @@ ghost use Rattle.std.specs.Option.{ForSome};
 ghost use Rattle.byteorder.specs.Endian.{big_bytes};
 ghost use Rattle.bgp_wire.specs.Paths.{width_of};
 ghost use Rattle.bgp_wire.specs.Routes.{code_of_origin};
-ghost use Rattle.bgp_wire.specs.Spelling.{FitsWidth, FitsSegment, FitsAttrs, segment_octets, path_octets, spelled, optional, aggregator_value, aggregator_flags, unrecognized_attributes, mandatory_attributes, further_attributes, sent_attributes, octets_of};
+ghost use Rattle.bgp_wire.specs.Spelling.{FitsWidth, FitsSegment, FitsAttrs, segment_octets, path_octets, spelled, optional, aggregator_value, aggregator_flags, unrecognized_attributes, mandatory_attributes, further_attributes, clusters_attributes, reflection_attributes, sent_attributes, stands_in, octets_of};
 ghost use Rattle.bgp_wire.specs.Lengths.{head_octets};
 
 use crate::attributes::{
-    AGGREGATOR, AS_PATH, ATOMIC_AGGREGATE, LOCAL_PREF, MULTI_EXIT_DISC, NEXT_HOP, ORIGIN,
+    AGGREGATOR, AS_PATH, ATOMIC_AGGREGATE, CLUSTER_LIST, LOCAL_PREF, MULTI_EXIT_DISC, NEXT_HOP,
+    ORIGIN, ORIGINATOR_ID,
 };
 use crate::numbers::width;
 use crate::path::{AS_SEQUENCE, AS_SET};
 use crate::writing::lengths::path_length;
 use crate::writing::numbers::{push_asn, push_u16, push_u32};
-use addr4::Memory;
-use bgp_attr::{Aggregator, AsPath, Attrs, Origin, Segment, SegmentKind, Unrecognized};
+use addr4::{Addr, Memory};
+use bgp_attr::{Aggregator, AsPath, Attrs, Origin, Reflection, Segment, SegmentKind, Unrecognized};
 
 const WELL_KNOWN: u8 = 0x40;
 
@@ -28,16 +29,40 @@ const PARTIAL: u8 = 0x20;
 
 const EXTENDED_LENGTH: u8 = 0x10;
 
+/// Where unrecognized attributes stand among the others, by their types.
+#[derive(Clone, Copy, PartialEq, Eq)]
+enum Place {
+    /// Before ORIGIN.
+    First,
+    /// Between AGGREGATOR and ORIGINATOR_ID.
+    Middle,
+    /// Behind CLUSTER_LIST; and all the others, where a route has neither.
+    Last,
+}
+
+/// Whether an unrecognized type stands there.
+fn stands_in(place: Place, kind: u8) -> bool
+    ensures { result ≡ stands_in place kind }
+{
+    match place {
+        Place::First => kind == 0,
+        Place::Middle => kind == 8,
+        Place::Last => kind != 0 && kind != 8,
+    }
+}
+
 /// A route's attributes by ascending type.
 pub(crate) fn push_attrs(out: &mut Vec<u8>, as4: bool, attrs: &Attrs) -> Result<(), Memory>
     requires { FitsAttrs as4 attrs.now }
     ensures { OnOk result (out.new.items ≡ out.old.items ++ octets_of (sent_attributes as4 attrs.now)) }
 {
-    push_unrecognized(out, true, attrs.unrecognized.as_slice())?;
+    let unrecognized = attrs.unrecognized.as_slice();
+    push_unrecognized(out, Place::First, unrecognized)?;
     push_mandatory(out, as4, attrs)?;
     push_further(out, as4, attrs)?;
-    push_unrecognized(out, false, attrs.unrecognized.as_slice())?;
-    Ok(())
+    push_unrecognized(out, Place::Middle, unrecognized)?;
+    push_reflection(out, &attrs.reflection)?;
+    push_unrecognized(out, Place::Last, unrecognized)
 }
 
 /// ORIGIN, AS_PATH and NEXT_HOP.
@@ -172,13 +197,36 @@ fn push_aggregator(
     push_u32(out, aggregator.addr.number())
 }
 
-/// Those unrecognized attributes whose type stands before ORIGIN, or the others. They have passed a speaker that doesn't
-/// recognize them, so the partial flag is set.
-fn push_unrecognized(out: &mut Vec<u8>, first: bool, items: &[Unrecognized]) -> Result<(), Memory>
-    ensures { OnOk result (out.new.items ≡ out.old.items ++ octets_of (unrecognized_attributes first items.now)) }
+/// ORIGINATOR_ID and CLUSTER_LIST, if they are there (RFC 4456, section 8).
+fn push_reflection(out: &mut Vec<u8>, reflection: &Reflection) -> Result<(), Memory>
+    ensures { OnOk result (out.new.items ≡ out.old.items ++ octets_of (reflection_attributes reflection.now)) }
+{
+    let originator = reflection.originator().map(|id| id.number());
+    push_number(out, OPTIONAL, ORIGINATOR_ID, originator)?;
+    push_clusters(out, reflection.clusters())
+}
+
+/// CLUSTER_LIST, if there is a cluster.
+fn push_clusters(out: &mut Vec<u8>, clusters: &[Addr]) -> Result<(), Memory>
+    ensures { OnOk result (out.new.items ≡ out.old.items ++ octets_of (clusters_attributes clusters.now)) }
+{
+    if clusters.is_empty() {
+        return Ok(());
+    }
+    push_head(out, OPTIONAL, CLUSTER_LIST, 4 * clusters.len() as u128)?;
+    for cluster in clusters {
+        push_u32(out, cluster.number())?;
+    }
+    Ok(())
+}
+
+/// Those unrecognized attributes that stand in this place. They have passed a speaker that doesn't recognize them, so the partial
+/// flag is set.
+fn push_unrecognized(out: &mut Vec<u8>, place: Place, items: &[Unrecognized]) -> Result<(), Memory>
+    ensures { OnOk result (out.new.items ≡ out.old.items ++ octets_of (unrecognized_attributes place items.now)) }
 {
     for item in items {
-        if (item.kind < ORIGIN) == first {
+        if stands_in(place, item.kind) {
             push_attribute(
                 out,
                 OPTIONAL_TRANSITIVE + PARTIAL,

@@ -1,17 +1,17 @@
 //! How many octets are written, without writing them.
 
-ghost use Rattle.std.specs.Prelude.{◌≡◌, ◌+◌, ◌<◌, ◌≤◌, ◌^◌, length, nat_le, Bool, ℕ, if◌then◌else◌, [], ◌∷◌};
+ghost use Rattle.std.specs.Prelude.{◌≡◌, ◌+◌, ◌<◌, ◌≤◌, ◌^◌, length, map, nat_le, Bool, ℕ, if◌then◌else◌, [], ◌∷◌};
 ghost use Rattle.byteorder.specs.Endian.{big_bytes};
 ghost use Rattle.bgp_attr.specs.declared.attrs.Attrs.{Attrs as Route};
 ghost use Rattle.bgp_wire.specs.Paths.{width_of};
 ghost use Rattle.bgp_wire.specs.Lengths.{spelled_length, attributes_length, announcement_length};
-ghost use Rattle.bgp_wire.specs.Spelling.{segment_octets, path_octets, prefix_octets, prefixes_octets, spelled, optional, aggregator_value, aggregator_flags, unrecognized_attributes, mandatory_attributes, further_attributes, octets_of};
+ghost use Rattle.bgp_wire.specs.Spelling.{segment_octets, path_octets, prefix_octets, prefixes_octets, spelled, optional, aggregator_value, aggregator_flags, unrecognized_attribute, mandatory_attributes, further_attributes, clusters_attributes, reflection_attributes, octets_of};
 
 use crate::header::LONGEST;
 use crate::numbers::width;
 use crate::prefixes::octets_for;
-use addr4::Prefix;
-use bgp_attr::{Aggregator, AsPath, Attrs, Profile, Segment, Unrecognized};
+use addr4::{Addr, Prefix};
+use bgp_attr::{Aggregator, AsPath, Attrs, Profile, Reflection, Segment, Unrecognized};
 
 /// The octets of an attribute whose value has so many.
 pub(crate) fn spelled_length(size: u128) -> u128
@@ -68,16 +68,39 @@ fn aggregator_length(as4: bool, aggregator: Option<Aggregator>) -> u128
     }
 }
 
-/// The octets of those unrecognized attributes whose type stands before ORIGIN, or of the others.
-fn unrecognized_length(first: bool, items: &[Unrecognized]) -> u128
-    ensures value { result ≡ length (octets_of (unrecognized_attributes first items.now)) }
+fn originator_length(originator: Option<Addr>) -> u128
+    ensures value { result ≡ length (octets_of (optional (λ n. spelled 128 9 (big_bytes 4 n)) originator)) }
+    ensures small { result ≤ 7 }
+{
+    if originator.is_some() { 7 } else { 0 }
+}
+
+fn clusters_length(clusters: &[Addr]) -> u128
+    ensures value { result ≡ length (octets_of (clusters_attributes clusters.now)) }
+    ensures small { result < 2 ^ 70 }
+{
+    match clusters {
+        [] => 0,
+        [_, ..] => spelled_length(4 * clusters.len() as u128),
+    }
+}
+
+/// The octets of ORIGINATOR_ID and CLUSTER_LIST, of those that are there.
+fn reflection_length(reflection: &Reflection) -> u128
+    ensures value { result ≡ length (octets_of (reflection_attributes reflection.now)) }
+    ensures small { result < 2 ^ 71 }
+{
+    originator_length(reflection.originator()) + clusters_length(reflection.clusters())
+}
+
+/// The octets of the unrecognized attributes, wherever they stand.
+fn unrecognized_length(items: &[Unrecognized]) -> u128
+    ensures value { result ≡ length (octets_of (map unrecognized_attribute items.now)) }
     ensures small { result < 2 ^ 126 + 2 ^ 66 }
 {
     let mut total: u128 = 0;
     for item in items {
-        if (item.kind < 1) == first {
-            total += spelled_length(item.value.as_slice().len() as u128);
-        }
+        total += spelled_length(item.value.as_slice().len() as u128);
     }
     total
 }
@@ -126,11 +149,10 @@ pub fn attributes_length(profile: Profile, attrs: &Attrs) -> u128
     ensures value { result ≡ attributes_length profile.as4 attrs.now }
     ensures small { result + 28 < 2 ^ 128 }
 {
-    let unrecognized = attrs.unrecognized.as_slice();
-    unrecognized_length(true, unrecognized)
+    unrecognized_length(attrs.unrecognized.as_slice())
         + mandatory_length(profile.as4, attrs)
         + further_length(profile.as4, attrs)
-        + unrecognized_length(false, unrecognized)
+        + reflection_length(&attrs.reflection)
 }
 
 /// How many octets the UPDATE has that announces one prefix with these attributes, whether or not it fits into a message.

@@ -1,5 +1,5 @@
 use Rattle.std.proofs.Common.{◌≡◌, ◌≤◌, ◌∙◌, ap, subst, length, arith}
-use Rattle.best_path.specs.declared.step.Step.TheVariants.{Preference, PathLength, Origin, Med, External, InteriorMetric, Identifier, Address}
+use Rattle.best_path.specs.declared.step.Step.TheVariants.{Preference, PathLength, Origin, Med, External, InteriorMetric, Identifier, ClusterCount, Address}
 use Rattle.best_path.specs.Keys.{candidate_of}
 use Rattle.best_path.specs.Marks.{marked, IsPlaceOfFirst, IsPlaceOfOnly}
 use Rattle.best_path.specs.Steps.{kept_by, left_by_all}
@@ -28,6 +28,7 @@ returns c = λ routes is.
     let e5 = c.keep_level-external.ensures routes is ∙ ap (kept_by External) e4 in
     let e6 = c.keep_level-nearest.ensures routes is ∙ ap (kept_by InteriorMetric) e5 in
     let e7 = c.keep_level-identified.ensures routes is ∙ ap (kept_by Identifier) e6 in
-    let e8 : marked routes c.keep_level-left.result ≡ left_by_all routes = c.keep_level-left.ensures routes is ∙ ap (kept_by Address) e7 in
+    let e8 = c.keep_level-reflected.ensures routes is ∙ ap (kept_by ClusterCount) e7 in
+    let e9 : marked routes c.keep_level-left.result ≡ left_by_all routes = c.keep_level-left.ensures routes is ∙ ap (kept_by Address) e8 in
     picked_left routes c.first_marked.result (c.in_default.ensures routes is)
-    (subst (λ l. IsPlaceOfFirst routes l c.first_marked.result) e8 (c.first_marked.ensures routes is))
+    (subst (λ l. IsPlaceOfFirst routes l c.first_marked.result) e9 (c.first_marked.ensures routes is))

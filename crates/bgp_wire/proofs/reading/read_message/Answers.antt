@@ -25,5 +25,5 @@ returns-in-Ok-clause-readable c =
 
 pub returns-in-Err-Fault-clause-short : goal.returns-in-Err-Fault-clause-short
 returns-in-Err-Fault-clause-short c =
-    notice_fits c.args.profile c.args.bytes.now c.in-Err-Fault.notice
+    notice_fits c.args.profile c.args.external c.args.bytes.now c.in-Err-Fault.notice
     (answers_fault c.args.profile c.args.external c.args.bytes.now c.in-Err-Fault.notice (subst (λ e. Fails e (content_at c.args.profile c.args.external c.args.bytes.now)) c.in-Err-Fault.field-0-is c.in-Err-Fault.ensures))

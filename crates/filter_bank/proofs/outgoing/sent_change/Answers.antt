@@ -1,4 +1,4 @@
-use Rattle.std.proofs.Common.{◌≡◌, ◌∙◌, ap, subst}
+use Rattle.std.proofs.Common.{◌∙◌, ap, subst}
 use Rattle.link_change.specs.Changes.{IsChangeOf}
 use Rattle.filter_bank.specs.Outgoing.{outgoing}
 use Rattle.filter_bank.proofs.outgoing.sent_change.Goals as goal

@@ -2,4 +2,4 @@ use Rattle.std.proofs.Common.{refl}
 use Rattle.bgp_wire.proofs.found.Gathered.new.Goals as goal
 
 pub returns : goal.returns
-returns c = λ as4. record { types = c.new.ensures; new = λ kind e. refl; found = c.new-2.ensures as4; withdraw = refl }
+returns c = λ p. record { types = c.new.ensures; new = λ kind e. refl; found = c.new-2.ensures p; withdraw = refl }

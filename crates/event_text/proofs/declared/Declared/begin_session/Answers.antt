@@ -20,4 +20,4 @@ returns-clause-kept c =
     let refused = subst (λ d. refusal d (events.Up c.args.number) ≡ None) (sym c.self.view_is) c.requires in
     let e = refilled c.self.inside.peers.len c.begin_at.new.peers c.self.inside.peers.items (omega (arith, c.self.inside.peers.ok.0)) (sym c.self.inside.peers.ok.0) ∙ c.begin_at.ensures ∙ ap (map (begun_at c.args.number)) c.as_mut_slice.ensures.value in
     let before = subst IsDeclaration (sym c.self.view_is) declared in
-    subst (IsDeclaredBy c.self.inside.profile.as4 c.self.inside.speaker) (sym e) (session_kept (record { profile = c.self.inside.profile; speaker = c.self.inside.speaker; peers = c.self.inside.peers.items }) c.args.number before refused)
+    subst (IsDeclaredBy c.self.inside.profile c.self.inside.speaker) (sym e) (session_kept (record { profile = c.self.inside.profile; speaker = c.self.inside.speaker; peers = c.self.inside.peers.items }) c.args.number before refused)

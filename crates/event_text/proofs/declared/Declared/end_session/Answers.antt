@@ -14,4 +14,4 @@ returns-clause-kept c =
     λ declared.
     let e = refilled c.self.inside.peers.len c.end_at.new.peers c.self.inside.peers.items (omega (arith, c.self.inside.peers.ok.0)) (sym c.self.inside.peers.ok.0) ∙ c.end_at.ensures ∙ ap (map (ended_at c.args.number)) c.as_mut_slice.ensures.value in
     let before = subst IsDeclaration (sym c.self.view_is) declared in
-    subst (IsDeclaredBy c.self.inside.profile.as4 c.self.inside.speaker) (sym e) (end_kept (record { profile = c.self.inside.profile; speaker = c.self.inside.speaker; peers = c.self.inside.peers.items }) c.args.number before)
+    subst (IsDeclaredBy c.self.inside.profile c.self.inside.speaker) (sym e) (end_kept (record { profile = c.self.inside.profile; speaker = c.self.inside.speaker; peers = c.self.inside.peers.items }) c.args.number before)

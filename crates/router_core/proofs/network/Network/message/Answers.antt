@@ -9,7 +9,7 @@ pub receive-turns-requires-clause-admitted : goal.receive-turns-requires-clause-
 receive-turns-requires-clause-admitted c = subst (λ (octets : List ℕ). refusal c.args.self.now.declared (events.Bgp c.args.number octets) ≡ None) (sym c.as_slice.ensures) c.requires.admitted
 
 pub receive-turns-requires-clause-formed : goal.receive-turns-requires-clause-formed
-receive-turns-requires-clause-formed c = subst (λ (octets : List ℕ). IsWellFormed c.args.self.now.declared.profile.as4 (events.Bgp c.args.number octets)) (sym c.as_slice.ensures) c.requires.formed
+receive-turns-requires-clause-formed c = subst (λ (octets : List ℕ). IsWellFormed c.args.self.now.declared.profile (events.Bgp c.args.number octets)) (sym c.as_slice.ensures) c.requires.formed
 
 pub returns : goal.returns
 returns c =

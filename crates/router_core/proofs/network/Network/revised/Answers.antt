@@ -1,4 +1,4 @@
-use Rattle.router_core.proofs.Common.{ap, refl, true, Profile, with_revised, revised_is_first}
+use Rattle.router_core.proofs.Common.{ap, refl, true, Profile, with_revised, with_reflection, revised_is_first, reflect_is_first}
 use Rattle.event_text.specs.declared.event.Event.TheVariants as events
 use Rattle.router_core.proofs.ProfileLemmas.{profile_is_stepped}
 use Rattle.router_core.proofs.network.Network.revised.Goals as goal
@@ -6,4 +6,4 @@ use Rattle.router_core.proofs.network.Network.revised.Goals as goal
 pub returns : goal.returns
 returns c =
     profile_is_stepped c.args.self.now c.set_profile.new.self events.Revised _ (with_revised c.args.self.now.declared.profile) c.args.journal.now c.flush.new.self c.requires.stands
-    (revised_is_first c.args.self.now.declared c.requires.admitted) c.set_profile.ensures (ap (λ (f : Profile). record { as4 = f.as4; revised = true }) c.profile-as4.ensures) (refl, refl, refl) refl c.in_ok-flush.ensures.ok
+    (revised_is_first c.args.self.now.declared c.requires.admitted) c.set_profile.ensures (ap with_revised c.profile-as4.ensures) (refl, refl, refl) refl c.in_ok-flush.ensures.ok

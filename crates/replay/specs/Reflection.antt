@@ -1,0 +1,25 @@
+-- What peers of a route reflector are told (RFC 4456).
+use Rattle.std.specs.Prelude.{◌≡◌, ℕ, true, List, Some}
+use Rattle.std.specs.FinMap as tables
+use Rattle.addr4.specs.Prefixes.{Network}
+use Rattle.bgp_attr.specs.declared.attrs.Attrs.{Attrs}
+use Rattle.bgp_attr.specs.declared.speaker.Speaker.{Speaker}
+use Rattle.journal_text.specs.declared.line.Line.{Line}
+use Rattle.event_text.specs.declared.event.Event.TheVariants.{Idle}
+use Rattle.event_text.specs.declared.declared.DeclaredPeer.{DeclaredPeer}
+use Rattle.event_text.specs.Declarations.{peer_at}
+use Rattle.live_state.specs.Reflected.{IsBestAsSent}
+use Rattle.exit_laws.specs.Views.{views_of}
+use Rattle.router_core.specs.Lives.{live_state}
+use Rattle.router_core.specs.Moments.{Moment, first_moment}
+use Rattle.replay.specs.Output.{Step, Run}
+
+-- Behind some lines comes an idle. Each route that a peer that is up has heard then is the best of those that are live, decided from scratch,
+-- as the peer that it is from announced it, passed on as RFC 4456 asks: never to that peer; and from one internal peer to another only
+-- where one of them is a client, with the local ID in front of a CLUSTER_LIST that is one longer than received and didn't have it.
+abbrev pub ReflectedRoutesAreMarked : Type 0
+ReflectedRoutesAreMarked =
+    (lines : List (List ℕ)) (out : List Line) (m : Moment) → Run 1 first_moment lines out m
+    → (n : ℕ) (line : List ℕ) (said : List Line) (next : Moment) → (step : Step n m line said next) → step.event ≡ Idle
+    → (me : Speaker) (j : ℕ) (to : DeclaredPeer) → next.declared.speaker ≡ Some me → peer_at j next.declared.peers ≡ Some to → to.up ≡ true
+    → (p : Network) (sent : Attrs) → tables.get (views_of next.exits j) p ≡ Some sent → IsBestAsSent (live_state next) me to.words p sent
