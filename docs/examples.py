@@ -37,6 +37,11 @@ TOPICS = [
     ('Routes that are sent again', 'RFC 2918; docs/BGP.md, "Route refresh".',
      'refreshed refresh_between_turns refresh_during_losses refresh_under_new_rules sixty_four_refreshes '
      'refresh_of_a_wrong_length'),
+    ('Route reflection', 'RFC 4456; docs/BGP.md, "Route reflection".',
+     'client_to_client client_to_non_client non_client_to_client non_client_to_non_client second_reflector '
+     'reflected_no_further own_originator own_cluster by_originator by_cluster_list cluster_lists cluster_list_of_1000 '
+     'cluster_list_too_long reflectors_attributes_from_outside reflectors_attributes_unread '
+     'faults_of_reflectors_attributes faults_of_reflectors_attributes_revised'),
     ('Interior routes', 'docs/LANGUAGE.md.',
      'merged protocol_losses seventeenth_protocol_loss longest_matches'),
     ('Routes of this speaker\'s own', 'docs/LANGUAGE.md, "Redistribution".',
@@ -69,7 +74,9 @@ TOPICS = [
      'path_65536 peer_70000 peer_65 peer_65_of_a_used_address rules_65 rules_65_out rules_65_of_no_peer '
      'refresh_of_no_peer refresh_without_a_number '
      'redist_before_local settled_before_local settled_no_prefix settled_two_prefixes settled_33_bits only_the_two_lines '
-     'as4_twice as4_after_local as4_then_no_local as4_with_a_word revised_twice revised_after_local revised_with_a_word'),
+     'as4_twice as4_after_local as4_then_no_local as4_with_a_word revised_twice revised_after_local revised_with_a_word '
+     'reflect_twice reflect_after_local reflect_with_a_word client_without_reflect client_and_a_word client_of_another_as '
+     'client_of_a_used_number client_65_of_another_as'),
     ('Journals that `check` judges', 'docs/OUTPUT.md.',
      'skipped_lines joined_stages both_line_ends added_twice answer_without_a_row wrong_answer begun_twice unequal_weld '
      'dropped_line no_journal no_journal_first empty_line two_spaces host_bits no_value return_at_the_end '

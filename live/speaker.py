@@ -6,7 +6,7 @@ Speaks BGP over TCP, and nothing else: it answers the OPENs of the peers that SE
 `replay run`, and each line `out K HEX` or `note K HEX` that comes back goes to the peer as the message. A session that comes up is the line
 `up K`; one that ends by the connection or by the hold timer is `down K`. Behind the messages of each read stands `idle`.
 
-SETUP is the front of an event file (docs/LANGUAGE.md): `as4`, `revised`, `local`, `peer`, `filter`, `route`, `redist`. Lines of these kinds, and
+SETUP is the front of an event file (docs/LANGUAGE.md): `as4`, `revised`, `reflect`, `local`, `peer`, `filter`, `route`, `redist`. Lines of these kinds, and
 `show`, `ask`, `settled` and `lost`, may come on standard input at any time; what the program answers goes to standard output. What
 becomes of sessions is said on standard error, each with the seconds since the begin. It runs until it gets SIGINT or SIGTERM.
 
@@ -31,7 +31,7 @@ import eventfile
 import program
 import wire
 
-TAKEN = ('as4', 'revised', 'local', 'peer', 'filter', 'route', 'redist')
+TAKEN = ('as4', 'revised', 'reflect', 'local', 'peer', 'filter', 'route', 'redist')
 ASKED = ('show', 'ask', 'settled')
 OPEN_SENT, OPEN_CONFIRM, ESTABLISHED, ENDED = 'OpenSent', 'OpenConfirm', 'Established', 'ended'
 OPENED_WITHIN = 10  # seconds
