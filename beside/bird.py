@@ -25,7 +25,7 @@ INTERIOR = '''protocol static from_%s { ipv4 { table interior; preference %d; };
 PEER = '''protocol bgp peer%(number)d {
   local %(local)s as %(own)d; neighbor %(address)s as %(asn)d;
   passive on; hold time 0; connect delay time 1; connect retry time 1; error wait time 1, 1; error forget time 1;
-  deterministic med on;
+  deterministic med on;%(reflected)s
   ipv4 { import table on; gateway recursive; igp table interior; %(self)s
     import filter {
 %(in)s    };
@@ -80,6 +80,7 @@ class Bird(Router):
         return PEER % {
             'number': peer.number, 'local': wanted.address, 'own': wanted.asn, 'address': peer.address, 'asn': peer.asn,
             'self': '' if inner else 'next hop self;',
+            'reflected': ' rr cluster id %s;%s' % (wanted.identifier, ' rr client;' * peer.client) if inner and wanted.reflects else '',
             'in': ''.join(filtered(wanted.filters['in'].get(peer.number, []), '')),
             'out': ''.join(filtered(wanted.filters['out'].get(peer.number, []), '' if inner else 'prepended(); '))}
 

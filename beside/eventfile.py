@@ -8,7 +8,9 @@ import ipaddress
 PROTOCOLS = ('connected', 'static', 'ospf', 'rip')  # by administrative distance, the least first
 DISTANCES = {'connected': 0, 'static': 1, 'ospf': 110, 'rip': 120}
 
-Peer = collections.namedtuple('Peer', 'number asn identifier address')
+DECLARATIONS = ('as4', 'revised', 'reflect', 'local', 'peer')
+
+Peer = collections.namedtuple('Peer', 'number asn identifier address client')
 Rule = collections.namedtuple('Rule', 'condition actions verdict')  # words; (word, number or None) pairs; a word
 Way = collections.namedtuple('Way', 'gateway interface metric')  # of an interior route; no gateway where it is direct
 
@@ -37,7 +39,7 @@ class Wanted:
 
     def __init__(self):
         self.asn = self.identifier = self.address = None
-        self.wide = self.revised = False
+        self.wide = self.revised = self.reflects = False
         self.peers, self.filters = {}, {'in': {}, 'out': {}}
         self.interior = {protocol: {} for protocol in PROTOCOLS}
         self.redistributed = set()
@@ -55,11 +57,14 @@ class Wanted:
     def take_revised(self, _):
         self.revised = True
 
+    def take_reflect(self, _):
+        self.reflects = True
+
     def take_local(self, words):
         self.asn, self.identifier, self.address = int(words[0]), words[1], words[2]
 
     def take_peer(self, words):
-        self.peers[int(words[0])] = Peer(int(words[0]), int(words[1]), words[2], words[3])
+        self.peers[int(words[0])] = Peer(int(words[0]), int(words[1]), words[2], words[3], words[4:] == ['client'])
 
     def take_filter(self, words):
         self.filters[words[0]][int(words[1])] = rules(words[2:])

@@ -1,9 +1,10 @@
 """The faults of an UPDATE's attributes, read by RFC 4271, section 6.3, alone: nothing here knows the program."""
 import wire
 
-LENGTHS = {wire.ORIGIN: 1, wire.NEXT_HOP: 4, wire.MED: 4, wire.LOCAL_PREF: 4, wire.ATOMIC_AGGREGATE: 0}
+LENGTHS = {wire.ORIGIN: 1, wire.NEXT_HOP: 4, wire.MED: 4, wire.LOCAL_PREF: 4, wire.ATOMIC_AGGREGATE: 0,
+           wire.ORIGINATOR_ID: 4}
 FLAGS = {wire.ORIGIN: 0x40, wire.AS_PATH: 0x40, wire.NEXT_HOP: 0x40, wire.MED: 0x80, wire.LOCAL_PREF: 0x40, wire.ATOMIC_AGGREGATE: 0x40,
-         wire.AGGREGATOR: 0xc0}
+         wire.AGGREGATOR: 0xc0, wire.ORIGINATOR_ID: 0x80, wire.CLUSTER_LIST: 0x80}
 
 
 def faults(octets, announces, width):
@@ -37,6 +38,8 @@ def of_one(flags, kind, value, width):
     if flags & 0xc0 != FLAGS[kind]:
         yield 'flags'
     if len(value) != LENGTHS.get(kind, 4 + width if kind == wire.AGGREGATOR else len(value)):
+        yield 'length'
+    elif kind == wire.CLUSTER_LIST and (not value or len(value) % 4):
         yield 'length'
     elif kind == wire.ORIGIN and value[0] > 2 or kind == wire.NEXT_HOP and (value[0] in (0, 127) or value[0] >= 224):
         yield 'value'

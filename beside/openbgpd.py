@@ -19,7 +19,7 @@ PEER = '''neighbor %(address)s {
   remote-as %(asn)d
   passive
   enforce neighbor-as no
-}
+%(reflected)s}
 '''
 
 
@@ -61,7 +61,9 @@ class OpenBgpd(Router):
     def config(self):
         wanted = self.wanted
         said = HEAD % {'asn': wanted.asn, 'identifier': wanted.identifier, 'address': wanted.address, 'socket': self.path('ctl')}
-        said += ''.join(PEER % peer._asdict() for peer in wanted.peers.values())
+        for peer in wanted.peers.values():
+            reflected = '  route-reflector %s\n' % wanted.identifier if peer.client else ''
+            said += PEER % {'address': peer.address, 'asn': peer.asn, 'reflected': reflected}
         said += ''.join('network %s set origin incomplete\n' % prefix for prefix in wanted.own())
         said += 'allow from any\nallow to any\n'
         for peer in wanted.peers.values():
@@ -78,6 +80,8 @@ class OpenBgpd(Router):
         os.makedirs('/run/openbgpd', exist_ok=True)  # its own place, which its service makes
         self.run(['bgpd', '-d', '-f', self.write('conf', self.config())])
         self.wait(lambda: 'Neighbor' in self.control('show', True))
+        # its parts read the configuration each in its own time; it takes no other one before all have
+        self.wait(lambda: 'processed' in self.control('reload', True))
 
     def apply(self, before, wanted):
         self.wanted = wanted

@@ -49,7 +49,7 @@ class Run:
         self.wanted = eventfile.Wanted()
         self.sessions, self.sender, self.started = {}, None, False
         for step in steps:
-            if step.words[0] in ('as4', 'revised', 'local', 'peer'):
+            if step.words[0] in eventfile.DECLARATIONS:
                 self.wanted.take(step.words)
         # the capability is said where some peer asks for all routes again: a daemon needs it, and else may ask itself
         self.refreshes = any(step.words[0] == 'bgp' and step.words[2][36:38] == '05' for step in steps)
@@ -90,7 +90,7 @@ class Run:
             self.router = self.router_class(self.folder, self.names[0], self.wanted)
             self.started = True
             self.router.start()
-        if words[0] in ('as4', 'revised', 'local', 'peer') or step.ignored and words[0] in ('up', 'down', 'route'):
+        if words[0] in eventfile.DECLARATIONS or step.ignored and words[0] in ('up', 'down', 'route'):
             return
         if words[0] in ('up', 'down', 'bgp'):
             getattr(self, words[0])(int(words[1]), *words[2:])

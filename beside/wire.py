@@ -13,6 +13,7 @@ AS_TRANS = 23456  # stands for a number of four octets (RFC 6793)
 IPV4_UNICAST = bytes([2, 6, 1, 4, 0, 1, 0, 1])  # a capability (RFC 4760)
 REFRESH = bytes([2, 2, 2, 0])  # and that of RFC 2918
 ORIGIN, AS_PATH, NEXT_HOP, MED, LOCAL_PREF, ATOMIC_AGGREGATE, AGGREGATOR = range(1, 8)
+ORIGINATOR_ID, CLUSTER_LIST = 9, 10  # RFC 4456, section 8
 NAMES = {OPEN: 'OPEN', UPDATE: 'UPDATE', NOTIFICATION: 'NOTIFICATION', KEEPALIVE: 'KEEPALIVE', ROUTE_REFRESH: 'ROUTE-REFRESH'}
 
 Update = collections.namedtuple('Update', 'withdrawn attributes announced')
@@ -119,6 +120,17 @@ def path(octets, width=2):
     return said
 
 
+def reflected(said):
+    """The words of what route reflectors add, by type: where it isn't transitive and has a length that it may have."""
+    words = {}
+    if said.get(ORIGINATOR_ID, (0x40, b''))[0] & 0x40 == 0 and len(said[ORIGINATOR_ID][1]) == 4:
+        words[ORIGINATOR_ID] = 'r' + address(said[ORIGINATOR_ID][1])
+    if said.get(CLUSTER_LIST, (0x40, b''))[0] & 0x40 == 0 and said[CLUSTER_LIST][1] and len(said[CLUSTER_LIST][1]) % 4 == 0:
+        octets = said[CLUSTER_LIST][1]
+        words[CLUSTER_LIST] = 'c' + ';'.join(address(octets[at:at + 4]) for at in range(0, len(octets), 4))
+    return words
+
+
 def text(said, width=2):
     """The word that tells these attributes."""
     words = ['o%d' % said[ORIGIN][1][0], 'p' + path(said[AS_PATH][1], width), 'n' + address(said[NEXT_HOP][1])]
@@ -131,6 +143,8 @@ def text(said, width=2):
     if AGGREGATOR in said:
         flags, value = said[AGGREGATOR]
         words.append('g%d/%s%s' % (int.from_bytes(value[:-4], 'big'), address(value[-4:]), '!' if flags & 0x20 else ''))
-    for kind in sorted(set(said) - set(range(1, 8))):
+    added = reflected(said)
+    words += [added[kind] for kind in sorted(added)]
+    for kind in sorted(set(said) - set(range(1, 8)) - set(added)):
         words.append('x%d:%s' % (kind, said[kind][1].hex()))
     return ','.join(words)
