@@ -3,3 +3,4 @@ pub mod WordLaws
 pub mod FrontLaws
 pub mod HasLaws
 pub mod MarkLaws
+pub mod LentLaws

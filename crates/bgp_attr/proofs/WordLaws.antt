@@ -185,5 +185,5 @@ no_more_than_words n [] = omega arith
 no_more_than_words zero (head ∷ words) = let l = no_more_than_words (count_in head) words in omega (arith, l)
 no_more_than_words (suc n) (word ∷ words) = let l = no_more_than_words n words in omega (arith, l)
 
-pub few_segments : (words lent : List ℕ) (path : List Segment) → segments_after 0 words ≡ path → lent ≡ words → length lent < 2 ^ 63 → length path < 2 ^ 63
+pub few_segments : (words lent : List ℕ) (path : List Segment) → segments_after 0 words ≡ path → lent ≡ words → length lent < 2 ^ 62 → length path < 2 ^ 62
 few_segments words lent path e f few = omega (arith, ap length e, ap length f, no_more_than_words 0 words)

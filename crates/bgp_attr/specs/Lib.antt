@@ -4,3 +4,4 @@ pub mod Words
 pub mod Hosts
 pub mod Speakers
 pub mod Reflections
+pub mod Lent

@@ -1,5 +1,5 @@
 -- AS paths, in the words of RFC 4271.
-use Rattle.std.specs.Prelude.{ℕ, zero, suc, Bool, false, List, [], ◌∷◌, length, sum_by, Any, Contains, nat_lt, if◌then◌else◌, Option, Some, None}
+use Rattle.std.specs.Prelude.{ℕ, zero, suc, ◌-◌, Bool, false, List, [], ◌∷◌, length, sum_by, Any, Contains, nat_lt, if◌then◌else◌, Option, Some, None}
 use Rattle.bgp_attr.specs.declared.path.SegmentKind.{SegmentKind}
 use Rattle.bgp_attr.specs.declared.path.SegmentKind.TheVariants.{Set, Sequence}
 use Rattle.bgp_attr.specs.declared.path.Segment.{Segment}
@@ -32,6 +32,16 @@ first_as (s ∷ ss) = first_number s.kind s.numbers
 abbrev pub takes_one_more : SegmentKind → List ℕ → Bool
 takes_one_more Set numbers = false
 takes_one_more Sequence numbers = nat_lt (length numbers) 255
+
+-- how many more numbers a segment takes: an AS_SEQUENCE up to 255
+abbrev pub room_in : SegmentKind → List ℕ → ℕ
+room_in Set numbers = 0
+room_in Sequence numbers = 255 - length numbers
+
+-- and the leading one of some; 0 where there is none
+abbrev pub leading_room : List Segment → ℕ
+leading_room [] = 0
+leading_room (s ∷ ss) = room_in s.kind s.numbers
 
 -- an AS put in front: into a leading AS_SEQUENCE of fewer than 255 numbers, else as a new AS_SEQUENCE (section 5.1.2 b)
 abbrev pub in_front : ℕ → List Segment → List Segment

@@ -14,6 +14,8 @@
 //! gives the path that is sent to an external peer, or says whether two such paths are the same. It is one block of words,
 //! read segment by segment ([`Segments`]) and built number by number ([`PathBuilder`]). Attributes and routes are
 //! rows of tables and links ([`addr4::Row`]): they are copied, a route by sharing its attributes, and compared as a whole.
+//! [`LentAttrs`] is [`Attrs`] lent, where an AS may stand in front of the path ([`LentPath`]) and a cluster in front of the others
+//! ([`LentReflection`]): so what a peer gets of a route is counted and written from what is kept of the route, without making it.
 //! `bgp_wire` reads and writes the attributes of messages, the stages above pass routes on.
 #![tactic(auto)]
 
@@ -21,6 +23,7 @@ mod attrs;
 mod cluster_list;
 mod fronted;
 mod hosts;
+mod lent;
 mod marks;
 mod octets;
 mod path;
@@ -33,6 +36,7 @@ mod words;
 pub use attrs::{Aggregator, Attrs, Origin, SharedAttrs};
 pub use cluster_list::ClusterList;
 pub use hosts::{is_host, is_host_prefix};
+pub use lent::{LentAttrs, LentPath, LentReflection, LentSegment};
 pub use octets::Octets;
 pub use path::{AsPath, Numbers, PathBuilder, Segment, SegmentKind, Segments};
 pub use reflection::Reflection;

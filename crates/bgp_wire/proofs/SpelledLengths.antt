@@ -1,5 +1,5 @@
 -- How long the octets are that are sent, piece by piece.
-use Rattle.std.proofs.Common.{◌≡◌, ℕ, ◌+◌, ◌*◌, ◌/◌, ◌%◌, ◌<◌, Bool, true, false, cond, eqb, not, ◌||◌, List, [], ◌∷◌, ◌++◌, length, map, refl, sym, ap, ◌∙◌, append_assoc, arith}
+use Rattle.std.proofs.Common.{◌≡◌, ℕ, ◌+◌, ◌*◌, ◌/◌, ◌%◌, ◌<◌, Bool, true, false, cond, eqb, not, ◌||◌, List, [], ◌∷◌, ◌++◌, length, map, refl, ap, ◌∙◌, append_assoc, arith}
 use Rattle.std.specs.Prelude.{filter}
 use Rattle.std.specs.List.{flat_map}
 use Rattle.std.proofs.lemmas.Bool.{eqb-true}
@@ -20,8 +20,8 @@ pub length-numbers : (width : ℕ) (ns : List ℕ) → length (flat_map (big_byt
 length-numbers width [] = omega arith
 length-numbers width (n ∷ ns) = omega (arith, length-append (big_bytes width n) (flat_map (big_bytes width) ns), length-bytes_high_first width n, length-numbers width ns)
 
-pub length-segment : (width : ℕ) (s : Segment) (numbers : List ℕ) (w : ℕ) → numbers ≡ s.numbers → w ≡ width → 2 + length numbers * w ≡ length (segment_octets width s)
-length-segment width s numbers w e f = rw (e, f) (omega (arith, length-numbers width s.numbers))
+pub length-segment : (width : ℕ) (s : Segment) (count : ℕ) → count ≡ length s.numbers → 2 + count * width ≡ length (segment_octets width s)
+length-segment width s count e = rw e (omega (arith, length-numbers width s.numbers))
 
 pub octets-append : (xs ys : List Attribute) → octets_of (xs ++ ys) ≡ octets_of xs ++ octets_of ys
 octets-append xs ys = flat_map-append (λ (a : Attribute). a.octets) xs ys
@@ -46,12 +46,12 @@ spelled_size : (long : Bool) (n : ℕ) → cond long (n + 4) (n + 3) ≡ cond lo
 spelled_size true n = omega arith
 spelled_size false n = omega arith
 
-pub length-clusters : (cs : List ℕ) → 0 < length cs → spelled_length (4 * length cs) ≡ length (octets_of (clusters_attributes cs))
-length-clusters [] some = absurd (omega arith)
-length-clusters (c ∷ cs) some =
+pub length-clusters : (cs : List ℕ) (size : ℕ) → size ≡ 4 * length cs → 0 < size → spelled_length size ≡ length (octets_of (clusters_attributes cs))
+length-clusters [] size e some = absurd (omega arith)
+length-clusters (c ∷ cs) size e some =
     let value = flat_map (big_bytes 4) (c ∷ cs) in
-    let size : length value ≡ 4 * length (c ∷ cs) = omega (arith, length-numbers 4 (c ∷ cs)) in
-    ap spelled_length (sym size)
+    let all : size ≡ length value = omega (arith, length-numbers 4 (c ∷ cs)) in
+    ap spelled_length all
     ∙ omega (arith, spelled_size (is_long value) (length value), length-spelled (is_long value) 128 10 value, length-first (spelled 128 10 value) [])
 
 -- each unrecognized attribute stands in one place

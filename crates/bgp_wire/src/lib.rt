@@ -11,8 +11,9 @@
 //! `revised` an UPDATE whose attributes have a fault is a withdraw, in the manner of RFC 7606.
 //!
 //! [`write_update`] and [`write_notification`] give the one spelling of a message (`update_octets`, `notification_octets`).
-//! [`write_announcement`] and [`write_withdrawal`] give that of an UPDATE of one prefix, from attributes that are lent. How many
-//! octets it has is told without writing it ([`announcement_length`]), also of attributes that no message can hold.
+//! [`write_announcement`] and [`write_withdrawal`] give that of an UPDATE of one prefix. How many octets it has is told without
+//! writing it ([`announcement_length`]), also of attributes that no message can hold. What is counted and written is lent
+//! ([`bgp_attr::LentAttrs`]), so that what a peer gets of a route need not be made for that.
 //! What a peer can read as it is said is said in `specs/Readable`: all that [`read_message`] answers is so. That what is
 //! written is read as it was, the crate `wire_laws` says.
 #![tactic(auto)]

@@ -16,7 +16,7 @@ use crate::writing::attributes::push_attrs;
 use crate::writing::lengths::prefixes_length;
 use crate::writing::numbers::{push_prefix, push_u16};
 use addr4::{Memory, Prefix};
-use bgp_attr::{Attrs, Profile};
+use bgp_attr::{LentAttrs, Profile};
 pub use lengths::{announcement_fits, announcement_length, attributes_length};
 use std::alloc::Global;
 
@@ -35,11 +35,12 @@ pub fn write_update(
     requires fits { ForSome update.now.attrs (FitsAttrs profile.as4) }
     ensures { let octets = update_octets profile.as4 update.now in IfOk result (λ written. MatchOption written (4096 < length octets) (λ v. (length octets ≤ 4096) × (v.items ≡ octets))) }
 {
+    let attrs = update.attrs.as_ref().map(|attrs| attrs.lent());
     write_fields(
         alloc,
         profile,
         update.withdrawn.as_slice(),
-        update.attrs.as_ref(),
+        attrs.as_ref(),
         update.announced.as_slice(),
     )
 }
@@ -50,7 +51,7 @@ pub fn write_announcement(
     alloc: Global,
     profile: Profile,
     prefix: Prefix,
-    attrs: &Attrs,
+    attrs: &LentAttrs<'_>,
 ) -> Result<Option<Vec<u8>>, Memory>
     requires { FitsAttrs profile.as4 attrs.now }
     ensures { let octets = update_octets profile.as4 (announcement prefix attrs.now) in IfOk result (λ written. MatchOption written (4096 < length octets) (λ v. (length octets ≤ 4096) × (v.items ≡ octets))) }
@@ -93,7 +94,7 @@ fn write_fields(
     alloc: Global,
     profile: Profile,
     withdrawn: &[Prefix],
-    attrs: Option<&Attrs>,
+    attrs: Option<&LentAttrs<'_>>,
     announced: &[Prefix],
 ) -> Result<Option<Vec<u8>>, Memory>
     requires one { length withdrawn.now + length announced.now ≡ 1 }
@@ -125,7 +126,7 @@ fn push_fields(
     as4: bool,
     withdrawn: &[Prefix],
     attributes: u16,
-    attrs: Option<&Attrs>,
+    attrs: Option<&LentAttrs<'_>>,
     announced: &[Prefix],
 ) -> Result<(), Memory>
     requires few { length withdrawn.now ≤ 1 }
@@ -140,7 +141,7 @@ fn push_fields(
 }
 
 #[tactic(auto, unfolding(crate::specs::Lengths::attributes_length))]
-fn attrs_length(profile: Profile, attrs: Option<&Attrs>) -> u128
+fn attrs_length(profile: Profile, attrs: Option<&LentAttrs<'_>>) -> u128
     ensures { result ≡ length (attrs_octets profile.as4 (option_copied attrs.entry)) }
 {
     match attrs {
@@ -149,7 +150,7 @@ fn attrs_length(profile: Profile, attrs: Option<&Attrs>) -> u128
     }
 }
 
-fn push_option(out: &mut Vec<u8>, as4: bool, attrs: Option<&Attrs>) -> Result<(), Memory>
+fn push_option(out: &mut Vec<u8>, as4: bool, attrs: Option<&LentAttrs<'_>>) -> Result<(), Memory>
     requires { ForSome (option_copied attrs) (FitsAttrs as4) }
     ensures { OnOk result (out.new.items ≡ out.old.items ++ attrs_octets as4 (option_copied attrs.entry)) }
 {

@@ -92,7 +92,7 @@ fn announce_octets(
     ensures { IfOk result (λ octets. octets.items ≡ announce_octets peer x origin med) }
 {
     let attrs = announced(alloc, peer, origin, med)?;
-    let octets = write_announcement(alloc, PROFILE, block(x), &attrs)?;
+    let octets = write_announcement(alloc, PROFILE, block(x), &attrs.lent())?;
     Ok(octets.unwrap())
 }
 

@@ -50,8 +50,7 @@ use Rattle.journal_laws.specs.Printed.{IsPrintable, IsPrinted}
 use Rattle.journal_laws.proofs.ReadAttrs.{read_printable}
 use Rattle.journal_laws.proofs.PrintedFalls.{changes_printed}
 use Rattle.journal_laws.proofs.PrintedLines.{plain_printed}
-use Rattle.peer_out.specs.Forms.{sent_form}
-use Rattle.peer_out.specs.Remembered.{Exit}
+use Rattle.peer_out.specs.Forms.{Exit, sent_form}
 use Rattle.peer_out.specs.Changes.{saying, message_octets}
 use Rattle.out_chain.specs.Chains.{OutChained, IsOutChain, form_of, made_by, outf_rows, HasSent}
 use Rattle.out_chain.specs.Steps.{exit_to, new_out, sending_entries, message_lines, said_of, sent_after, ReadsFirst, WalksNext, IsTold}

@@ -20,8 +20,7 @@ use Rattle.journal_text.specs.Names.{IsNamed}
 use Rattle.journal_text.specs.declared.line.Line.{Line}
 use Rattle.journal_text.specs.declared.link.Link.TheVariants.{Adv}
 use Rattle.peer_out.specs.Changes.{IsSentOf}
-use Rattle.peer_out.specs.Forms.{sent_form}
-use Rattle.peer_out.specs.Remembered.{Exit}
+use Rattle.peer_out.specs.Forms.{Exit, sent_form}
 use Rattle.out_chain.specs.Chains.{OutChained, form_of, outf_rows, refreshed}
 use Rattle.out_chain.specs.Steps.{message_lines, announcing, IsTold}
 use Rattle.exit_side.specs.Exits.{chain_at, refreshed_by}

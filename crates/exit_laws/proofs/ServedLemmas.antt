@@ -19,7 +19,7 @@ use Rattle.fanout_queue.proofs.Cases.{by_bool}
 use Rattle.journal_text.specs.declared.line.Line.{Line}
 use Rattle.journal_text.specs.declared.line.Line.TheVariants.{Out}
 use Rattle.peer_out.specs.Changes.{saying, message_octets, IsReadAs}
-use Rattle.peer_out.specs.Remembered.{Exit}
+use Rattle.peer_out.specs.Forms.{Exit}
 use Rattle.out_chain.specs.Chains.{OutChained, beyond_in, walk_on, still_on, refreshed}
 use Rattle.out_chain.proofs.RefreshLemmas.{over_without_rows_beyond}
 use Rattle.out_chain.specs.Steps.{exit_to, new_out, with_rules, sent_after, refresh_after, announcing, message_lines, sending_entries}

@@ -6,10 +6,11 @@ ghost use Rattle.exit_side.specs.Steps.{PutsExit, ComesOut};
 
 use crate::exits::Exits;
 use addr4::Memory;
-use bgp_attr::{Route, SharedAttrs};
+use bgp_attr::Route;
 use journal_text::Journal;
 use link_change::{Change, Turn, Upstream};
 use out_chain::a_session_stands;
+use peer_out::SentRoute;
 
 impl Exits {
     /// A change of `best` joins the queue, once for all readers. No link of the exits changes yet.
@@ -39,7 +40,7 @@ impl Exits {
         number: u32,
         best: &U,
         journal: &mut Journal,
-    ) -> Result<Turn<SharedAttrs>, Memory>
+    ) -> Result<Turn<SentRoute>, Memory>
         requires sound { IsExits self.old }
         requires stand { AllStand (U.rows best.now) self.old }
         ensures { IfOk result (ComesOut number (U.candidates best.now) (U.rows best.now) self.old self.new journal.old journal.new) }

@@ -9,7 +9,7 @@ ghost use Rattle.pass_core.specs.Passed.{edited, holds_up, waits};
 ghost use Rattle.pass_core.specs.Turns.{passed, passed_rows, IsPassedOn, IsWalked};
 ghost use Rattle.filter_bank.specs.Outgoing.{Form, outgoing, first_walk};
 
-use crate::outgoing::{asked_row, sent_change, sent_row};
+use crate::outgoing::{sent_change, sent_row};
 use crate::sent::Sent;
 use addr4::{Memory, Place, Prefix};
 use bgp_attr::{Neighbour, Route};
@@ -81,11 +81,10 @@ impl OutFilter {
     pub fn take_in<S: Sent>(
         &self,
         change: Change<Route>,
-        form: &mut S,
+        form: &S,
         peer: &Neighbour,
     ) -> Result<Option<Change<S::Row>>, Memory>
-        ensures sent { IfOk result (IsPassedOn (outgoing (S.form form.old) peer.now) self.now change) }
-        ensures same { form.new ≡ form.old }
+        ensures { IfOk result (IsPassedOn (outgoing (S.form form.now) peer.now) self.now change) }
     {
         let rules = self.pass.at(change.prefix);
         let before = sent_row(form, peer, rules, change.prefix, change.before)?;
@@ -99,11 +98,10 @@ impl OutFilter {
     pub fn unit<U: Upstream<Row = Route>, S: Sent>(
         &mut self,
         upper: &U,
-        form: &mut S,
+        form: &S,
         peer: &Neighbour,
     ) -> Result<Turn<S::Row>, Memory>
-        ensures taken { IfOk result (IsWalked (outgoing (S.form form.old) peer.now) (U.candidates upper.now) (U.rows upper.now) self.old self.new) }
-        ensures same { form.new ≡ form.old }
+        ensures taken { IfOk result (IsWalked (outgoing (S.form form.now) peer.now) (U.candidates upper.now) (U.rows upper.now) self.old self.new) }
         ensures memory { OnErr result (self.new ≡ self.old) }
     {
         if !self.pass.busy() {
@@ -145,7 +143,7 @@ impl OutFilter {
     ) -> Result<Option<S::Row>, Memory>
         ensures { IfOk result (λ sent. sent ≡ passed (outgoing (S.form form.now) peer.now) self.now prefix row) }
     {
-        asked_row(form, peer, self.pass.at(prefix), prefix, row)
+        sent_row(form, peer, self.pass.at(prefix), prefix, row)
     }
 
     /// The least candidate of the link below beyond a place: those of the link above, of which some may have no row below.

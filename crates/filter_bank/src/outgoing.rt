@@ -70,57 +70,6 @@ fn let_out(
 
 /// What is sent of a row above.
 pub(crate) fn sent_row<S: Sent>(
-    form: &mut S,
-    peer: &Neighbour,
-    rules: &Option<Rules>,
-    prefix: Prefix,
-    row: Option<Route>,
-) -> Result<Option<S::Row>, Memory>
-    ensures sent { IfOk result (λ sent. sent ≡ outgoing (S.form form.old) peer.now rules.now prefix row) }
-    ensures same { form.new ≡ form.old }
-{
-    match let_out(peer, rules, prefix, row) {
-        None => Ok(None),
-        Some(route) => form.sent(&prefix, &route),
-    }
-}
-
-/// The same of a row that is needed again. It is copied only where there are rules.
-pub(crate) fn sent_before<S: Sent>(
-    form: &mut S,
-    peer: &Neighbour,
-    rules: &Option<Rules>,
-    prefix: Prefix,
-    row: &Option<Route>,
-) -> Result<Option<S::Row>, Memory>
-    ensures sent { IfOk result (λ sent. sent ≡ outgoing (S.form form.old) peer.now rules.now prefix row.now) }
-    ensures same { form.new ≡ form.old }
-{
-    match (rules, row) {
-        (Some(_), Some(route)) => sent_row(form, peer, rules, prefix, Some(route.copy()?)),
-        _ => Ok(None),
-    }
-}
-
-/// What other rules change of what is sent of a row above.
-pub(crate) fn sent_change<S: Sent>(
-    form: &mut S,
-    peer: &Neighbour,
-    former: &Option<Rules>,
-    latter: &Option<Rules>,
-    prefix: Prefix,
-    row: Option<Route>,
-) -> Result<Option<Change<S::Row>>, Memory>
-    ensures sent { IfOk result (IsChangeOf prefix (outgoing (S.form form.old) peer.now former.now prefix row) (outgoing (S.form form.old) peer.now latter.now prefix row)) }
-    ensures same { form.new ≡ form.old }
-{
-    let before = sent_before(form, peer, former, prefix, &row)?;
-    let after = sent_row(form, peer, latter, prefix, row)?;
-    Ok(Change::between(prefix, before, after))
-}
-
-/// What is sent of a row above, for a lookup.
-pub(crate) fn asked_row<S: Sent>(
     form: &S,
     peer: &Neighbour,
     rules: &Option<Rules>,
@@ -131,6 +80,38 @@ pub(crate) fn asked_row<S: Sent>(
 {
     match let_out(peer, rules, prefix, row) {
         None => Ok(None),
-        Some(route) => form.asked(&prefix, &route),
+        Some(route) => form.sent(&prefix, &route),
     }
+}
+
+/// The same of a row that is needed again. It is copied only where there are rules.
+fn sent_before<S: Sent>(
+    form: &S,
+    peer: &Neighbour,
+    rules: &Option<Rules>,
+    prefix: Prefix,
+    row: &Option<Route>,
+) -> Result<Option<S::Row>, Memory>
+    ensures { IfOk result (λ sent. sent ≡ outgoing (S.form form.now) peer.now rules.now prefix row.now) }
+{
+    match (rules, row) {
+        (Some(_), Some(route)) => sent_row(form, peer, rules, prefix, Some(route.copy()?)),
+        _ => Ok(None),
+    }
+}
+
+/// What other rules change of what is sent of a row above.
+pub(crate) fn sent_change<S: Sent>(
+    form: &S,
+    peer: &Neighbour,
+    former: &Option<Rules>,
+    latter: &Option<Rules>,
+    prefix: Prefix,
+    row: Option<Route>,
+) -> Result<Option<Change<S::Row>>, Memory>
+    ensures { IfOk result (IsChangeOf prefix (outgoing (S.form form.now) peer.now former.now prefix row) (outgoing (S.form form.now) peer.now latter.now prefix row)) }
+{
+    let before = sent_before(form, peer, former, prefix, &row)?;
+    let after = sent_row(form, peer, latter, prefix, row)?;
+    Ok(Change::between(prefix, before, after))
 }

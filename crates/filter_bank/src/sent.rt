@@ -7,7 +7,7 @@ ghost use Rattle.bgp_attr.specs.declared.route.Route.{Route};
 use addr4::{Memory, Prefix, Row};
 use bgp_attr::Route;
 
-/// Tells what one peer is sent of routes. What it remembers of the last ones changes no answer.
+/// Tells what one peer is sent of routes.
 pub trait Sent {
     /// What the peer is sent of a route. Two are equal where the peer gets the same.
     type Row: Row;
@@ -16,11 +16,6 @@ pub trait Sent {
     ghost form: { Self → Network → Route → Option Self.Row };
 
     /// What the peer is sent of a route. Memory only for want of memory.
-    fn sent(&mut self, p: &Prefix, row: &Route) -> Result<Option<Self::Row>, Memory>
-        ensures sent { IfOk result (λ sent. sent ≡ form self.old p.now row.now) }
-        ensures same { self.new ≡ self.old };
-
-    /// The same for a lookup: nothing more is remembered.
-    fn asked(&self, p: &Prefix, row: &Route) -> Result<Option<Self::Row>, Memory>
+    fn sent(&self, p: &Prefix, row: &Route) -> Result<Option<Self::Row>, Memory>
         ensures { IfOk result (λ sent. sent ≡ form self.now p.now row.now) };
 }

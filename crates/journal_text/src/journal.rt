@@ -13,8 +13,8 @@ use crate::line::Line;
 use crate::lines::is_entry;
 use crate::link::Link;
 use crate::reader::{TextReader, read_spans};
-use crate::value::Value;
-use crate::valued::{Valued, value_of};
+use crate::value::{Value, copy_of};
+use crate::valued::{Valued, values_of};
 use addr4::{Memory, Prefix};
 use link_change::Change;
 use std::alloc::Global;
@@ -83,9 +83,25 @@ impl Journal {
         if self.quiet {
             return Ok(());
         }
-        let before = value_of(&change.before)?;
-        let after = value_of(&change.after)?;
+        let (before, after) = values_of(change)?;
         self.push_values(link, change.prefix, before, after)
+    }
+
+    /// Appends the entries of one change of rows on two links, first on the one and then on the other. The values are made once.
+    pub fn push_change_on_both<R: Valued>(
+        &mut self,
+        first: Link,
+        second: Link,
+        change: &Change<R>,
+    ) -> Result<(), Memory>
+        ensures { OnOk result (self.new ≡ with_entries self.old (valued_change R.value first change.now ++ valued_change R.value second change.now)) }
+    {
+        if self.quiet {
+            return Ok(());
+        }
+        let (before, after) = values_of(change)?;
+        self.push_values(first, change.prefix, copy_of(&before)?, copy_of(&after)?)?;
+        self.push_values(second, change.prefix, before, after)
     }
 
     /// Appends the entry of what a stage sends on a link, if it sends something.

@@ -33,4 +33,4 @@ pub use lines::push_line;
 pub use link::{Link, Task};
 pub use reader::TextReader;
 pub use value::Value;
-pub use valued::Valued;
+pub use valued::{Valued, value_of};

@@ -1,5 +1,8 @@
 //! What stands at a prefix of a link.
 
+ghost use Rattle.std.specs.Prelude.{◌≡◌, IfOk};
+
+use addr4::{Memory, Row};
 use bgp_attr::{Route, SharedAttrs};
 use rib_route::{External, FibRow, Interior};
 
@@ -16,4 +19,29 @@ pub enum Value {
     External(External),
     /// On `fib`.
     FibRow(FibRow),
+}
+
+impl Value {
+    /// The same value once more. Memory only where the row can't be copied.
+    fn copy(&self) -> Result<Value, Memory>
+        ensures { IfOk result (λ value. value ≡ self.now) }
+    {
+        match self {
+            Value::Attrs(attrs) => Ok(Value::Attrs(attrs.copy()?)),
+            Value::Route(route) => Ok(Value::Route(route.copy()?)),
+            Value::Interior(row) => Ok(Value::Interior(*row)),
+            Value::External(row) => Ok(Value::External(*row)),
+            Value::FibRow(row) => Ok(Value::FibRow(*row)),
+        }
+    }
+}
+
+/// The same value once more, if there is one.
+pub(crate) fn copy_of(value: &Option<Value>) -> Result<Option<Value>, Memory>
+    ensures { IfOk result (λ copy. copy ≡ value.now) }
+{
+    match value {
+        Some(value) => Ok(Some(value.copy()?)),
+        None => Ok(None),
+    }
 }

@@ -7,6 +7,7 @@ ghost use Rattle.journal_text.specs.Values.{attrs_value, route_value, interior_v
 use crate::value::Value;
 use addr4::{Memory, Row};
 use bgp_attr::{Route, SharedAttrs};
+use link_change::Change;
 use rib_route::{External, FibRow, Interior};
 
 /// A row that has a value of its own on the journal's lines.
@@ -82,12 +83,24 @@ impl Valued for FibRow {
     }
 }
 
-/// The value of a row, if there is one.
-pub(crate) fn value_of<R: Valued>(row: &Option<R>) -> Result<Option<Value>, Memory>
+/// The value of a row, if there is one. Memory only where the row can't be copied.
+pub fn value_of<R: Valued>(row: &Option<R>) -> Result<Option<Value>, Memory>
     ensures { IfOk result (λ value. value ≡ option_map R.value row.now) }
 {
     match row {
         Some(row) => Ok(Some(row.to_value()?)),
         None => Ok(None),
     }
+}
+
+/// The values of the rows before and after a change.
+pub(crate) fn values_of<R: Valued>(
+    change: &Change<R>,
+) -> Result<(Option<Value>, Option<Value>), Memory>
+    ensures before { IfOk result (λ values. values.0 ≡ option_map R.value change.now.before) }
+    ensures after { IfOk result (λ values. values.1 ≡ option_map R.value change.now.after) }
+{
+    let before = value_of(&change.before)?;
+    let after = value_of(&change.after)?;
+    Ok((before, after))
 }

@@ -119,6 +119,9 @@ impl<R: Row> Live<R> {
     pub fn next_candidate(&self, after: Place) -> Option<Prefix>
         ensures { IsNextCandidate (with_rows (map.get self.now)) (key_of after) result }
     {
+        if self.is_empty() {
+            return None;
+        }
         self.live.next_after(after)
     }
 }

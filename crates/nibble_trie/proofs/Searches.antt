@@ -1,26 +1,27 @@
 -- What the descents to a key and to the next one find.
-use Rattle.std.proofs.Common.{◌≡◌, ℕ, ◌+◌, ◌-◌, ◌%◌, ◌<◌, ◌≤◌, true, false, Option, Some, None, IsSome, is_some, option_map, option_and_then, refl, sym, ap, subst, ◌∙◌, inl, inr, arith}
-use Rattle.std.proofs.lemmas.Nat.{mod_below}
-use Rattle.std.proofs.lemmas.Bool.{cases_lt}
+use Rattle.std.proofs.Common.{◌≡◌, ℕ, ◌+◌, ◌-◌, ◌%◌, ◌^◌, ◌<◌, ◌≤◌, true, false, Option, Some, None, IsSome, is_some, option_map, option_and_then, refl, sym, ap, subst, ◌∙◌, inl, inr, arith}
+use Rattle.std.proofs.lemmas.Bool.{cases_eq, cases_lt}
 use Rattle.slab.specs.Slab.{Slab, get, ContainsKey}
 use Rattle.addr4.specs.Places.{IsBeyond}
-use Rattle.addr4.specs.Prefixes.{Network, ComesBefore}
+use Rattle.addr4.specs.Prefixes.{Network}
 use Rattle.addr4.proofs.RankLemmas.{before_is, is_before}
 use Rattle.addr4.proofs.HalfLemmas.{one_network}
 use Rattle.nibble_trie.specs.declared.node.Node.{Node}
+use Rattle.nibble_trie.specs.declared.link.Link.{Link}
 use Rattle.nibble_trie.specs.declared.link.Target.{Target}
-use Rattle.nibble_trie.specs.declared.link.Target.TheVariants.{Inner}
+use Rattle.nibble_trie.specs.declared.link.Target.TheVariants.{Leaf, Inner}
+use Rattle.nibble_trie.specs.declared.branch.Branch.{Branch}
 use Rattle.nibble_trie.specs.declared.index.Index.{Index}
 use Rattle.nibble_trie.specs.declared.index.Spot.{Spot}
-use Rattle.nibble_trie.specs.Links.{leads, leaf_of}
-use Rattle.nibble_trie.specs.Keys.{prefix_in, longer_in, IsNextOf, IsSmall, IsChained, HasNext, IsFirstBehind, IsNextLeaf, IsLeafOf, IsHeadOf, rest_of, rest_behind}
-use Rattle.nibble_trie.specs.Index.{Layout, high, IsLaid, Stands, is_live, Lies}
-use Rattle.nibble_trie.specs.Next.{IsFirst, FromAt, FromIn, IsStart, CanStart, CanStartIn}
+use Rattle.nibble_trie.specs.Links.{leads, leaf_of, target_at}
+use Rattle.nibble_trie.specs.Keys.{prefix_in, longer_in, IsNextOf, IsSmall, IsChained, HasNext, IsFirstOf, IsFrom, IsOfAddressFrom, IsNextLeaf, IsLeafOf, IsHeadOf, rest_of, rest_behind}
+use Rattle.nibble_trie.specs.Index.{Layout, high, IsLaid, is_live, Lies, Fits}
+use Rattle.nibble_trie.specs.Next.{FromAt, FromIn, IsStart, Starts, CanStart}
 use Rattle.nibble_trie.proofs.Digits.{high_all}
 use Rattle.nibble_trie.proofs.Chains.{one_found, later_some}
 use Rattle.nibble_trie.proofs.Drops.{under}
-use Rattle.nibble_trie.proofs.Ways.{inner_fits, inner_level}
-use Rattle.nibble_trie.proofs.Firsts.{in_found, in_last, in_rest}
+use Rattle.nibble_trie.proofs.Ways.{inner_fits, inner_level, leaf_fits, target_some}
+use Rattle.nibble_trie.proofs.Firsts.{first_same, not_behind, first_inner, in_found, in_rest}
 
 module _ {V : Type 0} where
   -- a leaf that has a prefix is there
@@ -45,112 +46,112 @@ rest_falls keys longer key p (Some m) c found small is =
     let n : IsNextOf keys p.address (p.length + 1) (Some m) = subst (λ l. IsNextOf keys p.address (p.length + 1) l) is (c.linked key p found) in
     subst (λ r. rest_of r < rest_of (Some p)) (sym n.1) (omega (arith, n.3))
 
--- ---- the first address
-pub start_in : (index : Index) (heads : ℕ → Option ℕ) (layout : Layout) (spot : Spot) (branch from level : ℕ) → IsLaid index heads layout → Stands index layout spot → spot.target ≡ Inner branch → layout.level branch ≡ level → IsStart layout spot.at from → IsStart layout (Some (branch, high level from % 16)) from
-start_in index heads layout spot branch from level h s is same start = elim start [
-  | inl zero ↦ inl zero
-  | inr here ↦ inr (subst (λ n. Lies layout (Some (branch, high n from % 16)) from) same (under (is_live index) heads layout spot.at branch from (inner_fits index heads layout spot branch h s is) here))
-]
+-- where an address has no head no prefix has it
+headless : (keys : ℕ → Option Network) (heads : ℕ → Option ℕ) → ((a : ℕ) → IsNextOf keys a 0 (heads a)) → (a k : ℕ) (p : Network) → heads a ≡ None → keys k ≡ Some p → p.address ≡ a → ⊥
+headless keys heads shortest a k p none found same = let n : IsNextOf keys a 0 None = subst (λ l. IsNextOf keys a 0 l) none (shortest a) in absurd (omega (arith, n k p found same))
 
-pub level_below : (index : Index) (heads : ℕ → Option ℕ) (layout : Layout) (spot : Spot) (branch : ℕ) → IsLaid index heads layout → Stands index layout spot → spot.target ≡ Inner branch → layout.level branch ≡ spot.level - 1
-level_below index heads layout spot branch h s is = omega (arith, inner_level index heads layout spot branch h s is)
+-- ---- the first key
+-- a place's first leaf is the first of its address
+pub leaf_starts : (keys : ℕ → Option Network) (index : Index) (heads : ℕ → Option ℕ) (layout : Layout) (at : Option (ℕ × ℕ)) (target : Target) (level from least key : ℕ) (r : Option ℕ) → Starts keys index heads layout at target level from least → target ≡ Leaf key → ((a : ℕ) → IsNextOf keys a 0 (Some key) → IsFirstOf keys (IsOfAddressFrom a from least) r) → IsFirstOf keys (FromAt layout at from least) r
+leaf_starts keys index heads layout at target level from least key r s is first =
+    let f = leaf_fits index heads layout (record { at = at; level = level; target = target }) key s.holds s.stands is in
+    first_same keys (IsOfAddressFrom f.0 from least) (FromAt layout at from least) r
+    (λ p x. record { lies = subst (λ a. Lies layout at a) (sym x.0) f.1; from = x.1 })
+    (λ k p found x. elim (cases_eq p.address f.0) [
+      | inl e ↦ (e, x.from)
+      | inr n ↦ absurd (headless keys heads s.shortest p.address k p (f.3 p.address x.lies n) found refl)
+    ])
+    (first f.0 (subst (λ l. IsNextOf keys f.0 0 l) f.2 (s.shortest f.0)))
 
-pub can_start_in : (keys : ℕ → Option Network) (index : Index) (spot : Spot) (branch from : ℕ) → CanStart keys index spot from → spot.target ≡ Inner branch → CanStartIn keys index branch (high (spot.level - 1) from % 16) (spot.level - 1) from
-can_start_in keys index spot branch from s is =
-    let level = level_below index s.heads s.layout spot branch s.holds s.stands is in
-    record {
-      heads = s.heads;
-      layout = s.layout;
-      holds = s.holds;
-      names = s.names;
-      place = ((inner_fits index s.heads s.layout spot branch s.holds s.stands is).0, mod_below (high (spot.level - 1) from) 16 (omega arith));
-      level_is = level;
-      short = omega (arith, s.stands.short, inner_level index s.heads s.layout spot branch s.holds s.stands is);
-      start = start_in index s.heads s.layout spot branch from (spot.level - 1) s.holds s.stands is level s.start;
-    }
+module _ (keys : ℕ → Option Network) (index : Index) (branch level first length : ℕ) where
+  -- the first of what is left of a branch from a digit on is the first of the place that leads to it
+  abbrev pub IsLeft : ℕ → ℕ → ℕ → Type 0
+  IsLeft digit from least = (heads : ℕ → Option ℕ) (layout : Layout) (at : Option (ℕ × ℕ)) → Starts keys index heads layout at (Inner branch) level first length → IsStart layout (Some (branch, digit)) from least × ((r : Option ℕ) → IsFirstOf keys (FromIn layout branch digit from least) r → IsFirstOf keys (FromAt layout at first length) r)
 
--- what was found at a digit
-pub found_in_digit : (heads : ℕ → Option ℕ) (layout : Layout) (branch digit level from : ℕ) (target : Target) (r : Option ℕ) → digit < 16 → is_some r ≡ true → IsFirst (FromAt layout (record { at = Some (branch, digit); level = level; target = target }) from) heads r → IsFirst (FromIn layout branch digit from) heads r
-found_in_digit heads layout branch digit level from target None small some first = absurd (let x : is_some {T = ℕ} None ≡ true = some in cc)
-found_in_digit heads layout branch digit level from target (Some key) small some first = in_found heads layout branch digit level from target key small first
+  inner_of : (heads : ℕ → Option ℕ) (layout : Layout) (at : Option (ℕ × ℕ)) → Starts keys index heads layout at (Inner branch) level first length → Fits (is_live index) heads layout at (Inner branch) × (layout.level branch ≡ level - 1) × (0 < level)
+  inner_of heads layout at s =
+      let spot : Spot = record { at = at; level = level; target = Inner branch } in
+      let e = inner_level index heads layout spot branch s.holds s.stands refl in
+      (inner_fits index heads layout spot branch s.holds s.stands refl, omega arith, omega arith)
 
-pub none_in_digit : (heads : ℕ → Option ℕ) (layout : Layout) (branch digit level from : ℕ) (target : Target) (r : Option ℕ) → digit ≡ 15 → is_some r ≡ false → IsFirst (FromAt layout (record { at = Some (branch, digit); level = level; target = target }) from) heads r → IsFirst (FromIn layout branch digit from) heads None
-none_in_digit heads layout branch digit level from target None last none first = in_last heads layout branch digit level from target last first
-none_in_digit heads layout branch digit level from target (Some key) last none first = absurd (let x : is_some (Some key) ≡ false = none in cc)
+  -- a digit is left below a place that leads to a branch
+  pub inner_deep : CanStart keys index (Inner branch) level first length → 0 < level
+  inner_deep s = (inner_of s.heads s.layout s.at s.starts).2
 
-pub rest_in_digit : (heads : ℕ → Option ℕ) (layout : Layout) (branch digit level from : ℕ) (target : Target) (r result : Option ℕ) → IsStart layout (Some (branch, digit)) from → is_some r ≡ false → IsFirst (FromAt layout (record { at = Some (branch, digit); level = level; target = target }) from) heads r → IsFirst (FromIn layout branch (digit + 1) 0) heads result → IsFirst (FromIn layout branch digit from) heads result
-rest_in_digit heads layout branch digit level from target None result start none first rest = in_rest heads layout branch digit level from target result start first rest
-rest_in_digit heads layout branch digit level from target (Some key) result start none first rest = absurd (let x : is_some (Some key) ≡ false = none in cc)
-
--- ---- from addresses to prefixes
-module _ (keys : ℕ → Option Network) (heads : ℕ → Option ℕ) (layout : Layout) (target : Target) (shortest : (a : ℕ) → IsNextOf keys a 0 (heads a)) (small : IsSmall keys) where
-  abbrev top : Spot
-  top = record { at = None; level = 8; target = target }
-
-  -- where an address has no head no prefix has it
-  headless : (a k : ℕ) (p : Network) → heads a ≡ None → keys k ≡ Some p → p.address ≡ a → ⊥
-  headless a k p none found same = let n : IsNextOf keys a 0 None = subst (λ l. IsNextOf keys a 0 l) none (shortest a) in absurd (omega (arith, n k p found same))
-
-  lies_top : (k : ℕ) (p : Network) → keys k ≡ Some p → Lies layout None p.address
-  lies_top k p found = high_all p.address (small k p found).0
-
-  -- the head of the first address is the first
-  first_of : (from key : ℕ) (first : IsFirst (FromAt layout top from) heads (Some key)) → (q : Network) × (keys key ≡ Some q) × (from ≤ q.address) × ((k : ℕ) (p : Network) → keys k ≡ Some p → from ≤ p.address → ComesBefore p q → ⊥)
-  first_of from key first =
-      let n : IsNextOf keys first.0 0 (Some key) = subst (λ l. IsNextOf keys first.0 0 l) first.2 (shortest first.0) in (
-        n.0,
-        n.1,
-        subst (λ a. from ≤ a) (sym n.2) first.1.1,
-        λ k p found le before. elim (before_is p n.0 before) [
-          | inl less ↦ headless p.address k p (first.3 p.address (lies_top k p found, le) (omega (arith, n.2))) found refl
-          | inr same ↦ absurd (omega (arith, same.1, n.4 k p found (same.0 ∙ n.2) (omega arith)))
+  pub left_first : (digit : ℕ) → digit ≡ high (level - 1) first % 16 → IsLeft digit first length
+  left_first digit is = subst (λ d. IsLeft d first length) (sym is) (λ heads layout at s.
+      let i = inner_of heads layout at s in (
+        elim s.start [
+          | inl all ↦ inl all
+          | inr here ↦ inr (subst (λ n. Lies layout (Some (branch, high n first % 16)) first) i.1 (under (is_live index) heads layout at branch first i.0 here))
         ],
-      )
+        first_inner keys (is_live index) heads layout at branch first length (level - 1) i.0 i.1 s.start,
+      ))
 
-  pub first_behind_is : (a : ℕ) (r : Option ℕ) → IsFirst (FromAt layout top (a + 1)) heads r → IsFirstBehind keys a r
-  first_behind_is a None first = λ k p found. elim (cases_lt a p.address) [
-    | inl less ↦ absurd (headless p.address k p (first p.address (lies_top k p found, omega arith)) found refl)
-    | inr le ↦ le
-  ]
-  first_behind_is a (Some key) first = let f = first_of (a + 1) key first in (f.0, f.1, omega (arith, f.2), λ k p found less. f.3 k p found (omega arith))
+  module _ (digit from least : ℕ) (small : digit < 16) (links : Branch) (link : Link) (found : get index.branches branch ≡ Some links) (is : leads link ≡ target_at links digit) (left : IsLeft digit from least) where
+    starts_digit : (heads : ℕ → Option ℕ) (layout : Layout) (at : Option (ℕ × ℕ)) → Starts keys index heads layout at (Inner branch) level first length → Starts keys index heads layout (Some (branch, digit)) (leads link) (level - 1) from least
+    starts_digit heads layout at s =
+        let i = inner_of heads layout at s in
+        record {
+          holds = s.holds;
+          shortest = s.shortest;
+          stands = record { place = (i.0.0, small); level = i.1; leads = target_some _ _ digit found ∙ sym is; short = omega (arith, s.stands.short) };
+          start = (left heads layout at s).0;
+        }
 
-  pub first_leaf_is : (r : Option ℕ) → IsFirst (FromAt layout top 0) heads r → IsNextLeaf keys None r
-  first_leaf_is None first = λ k p found beyond. headless p.address k p (first p.address (lies_top k p found, omega arith)) found refl
-  first_leaf_is (Some key) first = let f = first_of 0 key first in (f.0, f.1, tt, λ k p found beyond. f.3 k p found (omega arith))
+    pub can_start_digit : CanStart keys index (Inner branch) level first length → CanStart keys index (leads link) (level - 1) from least
+    can_start_digit s = record { heads = s.heads; layout = s.layout; at = Some (branch, digit); starts = starts_digit s.heads s.layout s.at s.starts }
 
--- beyond a prefix: a longer one of its address, or one behind it
-pub longer_is : (keys : ℕ → Option Network) (q : Network) (r : Option ℕ) → is_some r ≡ true → IsNextOf keys q.address (q.length + 1) r → IsNextLeaf keys (Some q) r
-longer_is keys q None some next = absurd (let x : is_some {T = ℕ} None ≡ true = some in cc)
-longer_is keys q (Some key) some next = (
+    module _ (r : Option ℕ) (at_digit : (heads : ℕ → Option ℕ) (layout : Layout) (at : Option (ℕ × ℕ)) → Starts keys index heads layout at (leads link) (level - 1) from least → IsFirstOf keys (FromAt layout at from least) r) where
+      pub left_found : is_some r ≡ true → (heads : ℕ → Option ℕ) (layout : Layout) (at : Option (ℕ × ℕ)) → Starts keys index heads layout at (Inner branch) level first length → IsFirstOf keys (FromAt layout at first length) r
+      left_found some heads layout at s = (left heads layout at s).1 r (in_found keys layout branch digit from least r small some (at_digit heads layout (Some (branch, digit)) (starts_digit heads layout at s)))
+
+      pub left_next : is_some r ≡ false → IsLeft (digit + 1) 0 0
+      left_next none heads layout at s =
+          let l = left heads layout at s in
+          (inl (refl, refl), λ next rest. l.1 next (in_rest keys layout branch digit from least l.0 r next none (at_digit heads layout (Some (branch, digit)) (starts_digit heads layout at s)) rest))
+
+-- ---- from the root down
+pub top_starts : (keys : ℕ → Option Network) (index : Index) (heads : ℕ → Option ℕ) (layout : Layout) (from least : ℕ) → IsLaid index heads layout → ((a : ℕ) → IsNextOf keys a 0 (heads a)) → from < 2 ^ 32 → Starts keys index heads layout None (leads index.root) 8 from least
+top_starts keys index heads layout from least holds shortest fits = record {
+  holds = holds;
+  shortest = shortest;
+  stands = record { place = tt; level = refl; leads = refl; short = omega arith };
+  start = inr (high_all from fits);
+}
+
+pub top_first : (keys : ℕ → Option Network) (layout : Layout) (from least : ℕ) (r : Option ℕ) → IsSmall keys → IsFirstOf keys (FromAt layout None from least) r → IsFirstOf keys (IsFrom from least) r
+top_first keys layout from least r small first = first_same keys (FromAt layout None from least) (IsFrom from least) r (λ p x. x.from) (λ k p found x. record { lies = high_all p.address (small k p found).0; from = x }) first
+
+-- ---- beyond a place
+pub from_beyond : (keys : ℕ → Option Network) (q : Network) (from least : ℕ) (r : Option ℕ) → from ≡ q.address → least ≡ q.length + 1 → IsFirstOf keys (IsFrom from least) r → IsNextLeaf keys (Some q) r
+from_beyond keys q from least r same longer first = first_same keys (IsFrom from least) (IsBeyond (Some q)) r
+    (λ p x. is_before q p (elim (cases_lt q.address p.address) [
+      | inl less ↦ inl less
+      | inr le ↦
+          let e : p.address ≡ from = omega (arith, x.0) in
+          inr (omega arith, omega (arith, x.1 e))
+    ]))
+    (λ k p found b. elim (before_is q p b) [
+      | inl less ↦ (omega arith, λ e. absurd (omega arith))
+      | inr more ↦ (omega (arith, more.0), λ e. omega (arith, more.1))
+    ]) first
+
+-- a longer one of its address
+pub longer_beyond : (keys : ℕ → Option Network) (q : Network) (r : Option ℕ) → is_some r ≡ true → IsNextOf keys q.address (q.length + 1) r → IsNextLeaf keys (Some q) r
+longer_beyond keys q None some next = absurd (let x : is_some {T = ℕ} None ≡ true = some in cc)
+longer_beyond keys q (Some key) some next = (
   next.0,
   next.1,
   is_before q next.0 (inr (sym next.2, omega (arith, next.3))),
-  λ k p found beyond before.
-      elim (before_is p next.0 before) [
-        | inl less ↦ elim (before_is q p beyond) [
-          | inl more ↦ absurd (omega (arith, next.2))
-          | inr same ↦ absurd (omega (arith, next.2, same.0))
-        ]
-        | inr same ↦ elim (before_is q p beyond) [
-          | inl more ↦ absurd (omega (arith, next.2, same.0))
-          | inr far ↦ absurd (omega (arith, same.1, next.4 k p found (sym far.0) (omega (arith, far.1))))
-        ]
-      ],
-)
-
-pub behind_is : (keys : ℕ → Option Network) (q : Network) (longer r : Option ℕ) → is_some longer ≡ false → IsNextOf keys q.address (q.length + 1) longer → IsFirstBehind keys q.address r → IsNextLeaf keys (Some q) r
-behind_is keys q (Some key) r none next first = absurd (let x : is_some (Some key) ≡ false = none in cc)
-behind_is keys q None r none next first = by r first
-  where
-    beyond : (k : ℕ) (p : Network) → keys k ≡ Some p → IsBeyond (Some q) p → q.address < p.address
-    beyond k p found b = elim (before_is q p b) [
-      | inl less ↦ less
-      | inr same ↦ absurd (omega (arith, same.1, next k p found (sym same.0)))
+  λ k p found b before. elim (before_is q p b) [
+    | inl less ↦ absurd (omega (arith, next.2, not_behind p next.0 before))
+    | inr more ↦ elim (before_is p next.0 before) [
+      | inl less ↦ absurd (omega (arith, next.2, more.0))
+      | inr same ↦ absurd (omega (arith, same.1, next.4 k p found (sym more.0) (omega (arith, more.1))))
     ]
-
-    by : (r : Option ℕ) → IsFirstBehind keys q.address r → IsNextLeaf keys (Some q) r
-    by None f = λ k p found b. absurd (omega (arith, beyond k p found b, f k p found))
-    by (Some key) f = (f.0, f.1, is_before q f.0 (inl f.2), λ k p found b. f.3 k p found (beyond k p found b))
+  ],
+)
 
 pub link_rest : (keys : ℕ → Option Network) (link : Option ℕ) (key : ℕ) (p : Network) (less : ℕ) → link ≡ Some key → keys key ≡ Some p → less < rest_of (Some p) → less < rest_behind keys link
 link_rest keys link key p less is found lt = subst (λ l. less < rest_behind keys l) (sym is) (subst (λ r. less < rest_of r) (sym found) lt)
@@ -161,16 +162,9 @@ sought keys a length link next = record { address = a; from = length; within = o
 pub leaf_at : (keys : ℕ → Option Network) (p : Network) (a length : ℕ) (r : Option ℕ) → a ≡ p.address → length ≡ p.length → IsLeafOf keys (record { address = a; length = length }) r → IsLeafOf keys p r
 leaf_at keys p a length r ea el leaf = subst (λ q. IsLeafOf keys q r) (one_network (record { address = a; length = length }) p ea el) leaf
 
-pub next_at : (keys : ℕ → Option Network) (p : Network) (a length : ℕ) (r : Option ℕ) → a ≡ p.address → length ≡ p.length → IsNextOf keys a (length + 1) r → IsNextOf keys p.address (p.length + 1) r
-next_at keys p a length r ea el next = subst (λ n. IsNextOf keys p.address n r) (ap (λ n. n + 1) el) (subst (λ b. IsNextOf keys b (length + 1) r) ea next)
-
 -- the link of a prefix's leaf leads to the next one
 pub longer_in_node : {V : Type 0} (leaves : Slab (Node V)) (k : ℕ) (n : Node V) (p : Network) (r : Option ℕ) → IsChained (prefix_in leaves) (longer_in leaves) → get leaves k ≡ Some n → prefix_in leaves k ≡ Some p → r ≡ leaf_of (leads n.longer) → IsNextOf (prefix_in leaves) p.address (p.length + 1) r
 longer_in_node leaves k n p r chained found is e = subst (λ l. IsNextOf (prefix_in leaves) p.address (p.length + 1) l) (ap (option_and_then (λ (m : Node _). leaf_of (leads m.longer))) found ∙ sym e) (chained.linked k p is)
-
--- ---- the root's place
-pub top_stands : (index : Index) (layout : Layout) → Stands index layout (record { at = None; level = 8; target = leads index.root })
-top_stands index layout = record { place = tt; level = refl; leads = refl; short = omega arith }
 
 -- ---- the first leaf of an address, for a prefix of it
 -- there is none

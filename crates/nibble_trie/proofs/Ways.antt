@@ -1,14 +1,17 @@
 -- The way of an address from the root down.
-use Rattle.std.proofs.Common.{◌≡◌, ◌≢◌, ℕ, ◌+◌, ◌-◌, ◌%◌, ◌^◌, ◌<◌, true, [], get_or, Option, Some, None, is_some, refl, sym, ap, subst, ◌∙◌, arith}
+use Rattle.std.proofs.Common.{◌≡◌, ◌≢◌, ℕ, ◌+◌, ◌-◌, ◌%◌, ◌^◌, ◌<◌, ◌≤◌, true, cond, [], get_or, Option, Some, None, is_some, refl, sym, ap, subst, ◌∙◌, arith}
 use Rattle.std.proofs.lemmas.Nat.{mod_below}
 use Rattle.addr4.specs.Prefixes.{Network}
-use Rattle.slab.specs.Slab.{Slab, ContainsKey}
+use Rattle.std.proofs.lemmas.Bool.{ne_eqb}
+use Rattle.slab.specs.Slab.{Slab, get, ContainsKey}
 use Rattle.nibble_trie.specs.declared.link.Target.TheVariants.{Nothing, Leaf, Inner}
 use Rattle.nibble_trie.specs.declared.branch.Branch.{Branch}
 use Rattle.nibble_trie.specs.declared.index.Index.{Index}
 use Rattle.nibble_trie.specs.declared.index.Spot.{Spot}
+use Rattle.nibble_trie.specs.declared.index.End.{End}
+use Rattle.nibble_trie.specs.declared.link.Link.{Link}
 use Rattle.nibble_trie.specs.Links.{leads, IsCell, target_at}
-use Rattle.nibble_trie.specs.Index.{Layout, high, IsPlace, is_live, link_at, target_in, Lies, Fits, IsLaid, Names, OnWay, Stands, IsAbove, IsAlone}
+use Rattle.nibble_trie.specs.Index.{Layout, high, IsPlace, is_live, link_at, target_in, Lies, Fits, IsLaid, Names, OnWay, IsSpotOf, spot_at, Stands, HasHeads, IsAbove, IsAlone}
 use Rattle.nibble_trie.proofs.Digits.{high_all, some_same}
 use Rattle.nibble_trie.proofs.Cells.{alone_of}
 use Rattle.nibble_trie.proofs.Drops.{under}
@@ -43,6 +46,34 @@ below_way index heads layout a spot branch h is way =
       lies = subst (λ d. Lies layout (Some (branch, d)) a) digit (under (is_live index) heads layout spot.at branch a f way.lies);
     }
 
+-- where a digit of a branch leads
+pub target_some : (found : Option Branch) (branch : Branch) (digit : ℕ) → found ≡ Some branch → target_in found digit ≡ target_at branch digit
+target_some found branch digit e = ap (λ f. target_in f digit) e
+
+-- ---- where a way ends
+pub inner_known : (index : Index) (a : ℕ) (spot : Spot) (branch : ℕ) → HasHeads index → IsSpotOf index a spot → spot.target ≡ Inner branch → is_live index branch × (0 < spot.level) × (spot.level ≤ 8)
+inner_known index a spot branch has way is =
+    let h = has.indexes.holds in
+    let stands = (way has.heads has.indexes.layout h).stands in
+    (inner_live index has.heads has.indexes.layout spot branch h stands is, omega (arith, inner_level index has.heads has.indexes.layout spot branch h stands is), stands.short)
+
+pub spot_way : (index : Index) (layout : Layout) (end : End) (p a : ℕ) (spot : Spot) → a ≡ p → spot ≡ spot_at end a → OnWay index layout p (spot_at end p) → OnWay index layout a spot
+spot_way index layout end p a spot same is way = subst (OnWay index layout a) (sym is) (subst (λ b. OnWay index layout b (spot_at end b)) (sym same) way)
+
+pub spot_below : (end : End) (a : ℕ) → end.level < 8 → spot_at end a ≡ record { at = Some (end.branch, high end.level a % 16); level = end.level; target = leads end.link }
+spot_below end a lt =
+    let digit : Option (ℕ × ℕ) = Some (end.branch, high end.level a % 16) in
+    ap (λ t. record { at = cond t None digit; level = end.level; target = leads end.link }) (ne_eqb end.level 8 (λ e. absurd (omega arith)))
+
+-- one digit more
+pub end_way : (index : Index) (heads : ℕ → Option ℕ) (layout : Layout) (a : ℕ) (end : End) (branch : ℕ) (links : Branch) (link : Link) → IsLaid index heads layout → leads end.link ≡ Inner branch → get index.branches branch ≡ Some links → leads link ≡ target_at links (high (end.level - 1) a % 16) → OnWay index layout a (spot_at end a) → OnWay index layout a (spot_at (record { branch = branch; level = end.level - 1; link = link }) a)
+end_way index heads layout a end branch links link h is found leads_to way =
+    let level = end.level - 1 in
+    let short : level < 8 = omega (arith, way.stands.short, inner_level index heads layout (spot_at end a) branch h way.stands is) in
+    let same = target_some _ _ (high level a % 16) found ∙ sym leads_to in
+    let there : below index branch a level ≡ record { at = Some (branch, high level a % 16); level = level; target = leads link } = ap (λ t. record { at = Some (branch, high level a % 16); level = level; target = t }) same in
+    subst (OnWay index layout a) (there ∙ sym (spot_below (record { branch = branch; level = level; link = link }) a short)) (below_way index heads layout a (spot_at end a) branch h is way)
+
 pub top_way : (index : Index) (layout : Layout) (a : ℕ) → a < 2 ^ 32 → OnWay index layout a (record { at = None; level = 8; target = leads index.root })
 top_way index layout a fits = record { stands = record { place = tt; level = refl; leads = refl; short = omega arith }; lies = high_all a fits }
 
@@ -68,10 +99,6 @@ alone_nothing index heads layout a spot h s is = λ b lies n. (subst (λ t. Fits
 
 pub alone_head : (index : Index) (heads : ℕ → Option ℕ) (layout : Layout) (a : ℕ) (spot : Spot) (key : ℕ) → IsLaid index heads layout → OnWay index layout a spot → IsCell spot.target → heads a ≡ Some key → IsAlone heads layout spot.at a
 alone_head index heads layout a spot key h way cell has = alone_of (is_live index) heads layout spot.at spot.target a key cell (fits_spot index heads layout spot h way.stands) way.lies has
-
--- a link changes nothing about which branches there are, nor a capacity
-pub target_some : (found : Option Branch) (branch : Branch) (digit : ℕ) → found ≡ Some branch → target_in found digit ≡ target_at branch digit
-target_some found branch digit e = ap (λ f. target_in f digit) e
 
 -- ---- from a branch up
 pub above_step : (index : Index) (a branch : ℕ) (spot : Spot) (key : ℕ) → IsAbove index a branch spot → spot.target ≡ Inner key → key ≢ branch → IsAbove index a branch (below index key a (spot.level - 1))

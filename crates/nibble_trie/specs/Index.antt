@@ -1,5 +1,5 @@
 -- What an index of leaves by their addresses keeps true.
-use Rattle.std.specs.Prelude.{◌≡◌, ◌≢◌, ℕ, ◌+◌, ◌*◌, ◌/◌, ◌^◌, ◌<◌, ◌≤◌, Option, Some, None, if◌then◌else◌, nat_eq}
+use Rattle.std.specs.Prelude.{◌≡◌, ◌≢◌, ℕ, ◌+◌, ◌*◌, ◌/◌, ◌%◌, ◌^◌, ◌<◌, ◌≤◌, Option, Some, None, if◌then◌else◌, nat_eq}
 use Rattle.slab.specs.Slab.{get, ContainsKey}
 use Rattle.addr4.specs.Prefixes.{Network}
 use Rattle.nibble_trie.specs.declared.link.Target.{Target}
@@ -7,6 +7,7 @@ use Rattle.nibble_trie.specs.declared.link.Target.TheVariants.{Nothing, Leaf, In
 use Rattle.nibble_trie.specs.declared.branch.Branch.{Branch}
 use Rattle.nibble_trie.specs.declared.index.Index.{Index}
 use Rattle.nibble_trie.specs.declared.index.Spot.{Spot}
+use Rattle.nibble_trie.specs.declared.index.End.{End}
 use Rattle.nibble_trie.specs.Links.{leads, target_at, IsCell}
 
 -- ---- the places of links: the root's, and those of each digit of each branch
@@ -95,6 +96,10 @@ pub record OnWay (index : Index) (layout : Layout) (a : ℕ) (spot : Spot) : Typ
 -- however the index is laid
 abbrev pub IsSpotOf : Index → ℕ → Spot → Type 0
 IsSpotOf index a spot = (heads : ℕ → Option ℕ) (layout : Layout) → IsLaid index heads layout → OnWay index layout a spot
+
+-- the place where a way ends, of the address that led there
+abbrev pub spot_at : End → ℕ → Spot
+spot_at end a = record { at = if nat_eq end.level 8 then None else Some (end.branch, high end.level a % 16); level = end.level; target = leads end.link }
 
 pub record HasHeads (index : Index) : Type 0 where
   pub heads : ℕ → Option ℕ

@@ -53,15 +53,22 @@ abbrev pub IsLeafOf : (ℕ → Option Network) → Network → Option ℕ → Ty
 IsLeafOf keys p None = (k : ℕ) → keys k ≡ Some p → ⊥
 IsLeafOf keys p (Some key) = keys key ≡ Some p
 
--- the first leaf beyond a place
-abbrev pub IsNextLeaf : (ℕ → Option Network) → Option Network → Option ℕ → Type 0
-IsNextLeaf keys after None = (k : ℕ) (p : Network) → keys k ≡ Some p → IsBeyond after p → ⊥
-IsNextLeaf keys after (Some key) = (q : Network) × (keys key ≡ Some q) × IsBeyond after q × ((k : ℕ) (p : Network) → keys k ≡ Some p → IsBeyond after p → ComesBefore p q → ⊥)
+-- the leaf of the first key, of those that are P
+abbrev pub IsFirstOf : (ℕ → Option Network) → (Network → Type 0) → Option ℕ → Type 0
+IsFirstOf keys P None = (k : ℕ) (p : Network) → keys k ≡ Some p → P p → ⊥
+IsFirstOf keys P (Some key) = (q : Network) × (keys key ≡ Some q) × P q × ((k : ℕ) (p : Network) → keys k ≡ Some p → P p → ComesBefore p q → ⊥)
 
--- the first leaf behind an address
-abbrev pub IsFirstBehind : (ℕ → Option Network) → ℕ → Option ℕ → Type 0
-IsFirstBehind keys a None = (k : ℕ) (p : Network) → keys k ≡ Some p → p.address ≤ a
-IsFirstBehind keys a (Some key) = (q : Network) × (keys key ≡ Some q) × (a < q.address) × ((k : ℕ) (p : Network) → keys k ≡ Some p → a < p.address → ComesBefore p q → ⊥)
+-- the leaf of the first key beyond a place
+abbrev pub IsNextLeaf : (ℕ → Option Network) → Option Network → Option ℕ → Type 0
+IsNextLeaf keys after = IsFirstOf keys (IsBeyond after)
+
+-- of this address and at least so long, or behind it
+abbrev pub IsFrom : ℕ → ℕ → Network → Type 0
+IsFrom from least p = (from ≤ p.address) × (p.address ≡ from → least ≤ p.length)
+
+-- the same of one address
+abbrev pub IsOfAddressFrom : ℕ → ℕ → ℕ → Network → Type 0
+IsOfAddressFrom a from least p = (p.address ≡ a) × IsFrom from least p
 
 -- how much longer prefixes may come behind a link
 abbrev pub rest_of : Option Network → ℕ

@@ -1,43 +1,35 @@
--- The first of the addresses that an index leads to leaves.
-use Rattle.std.specs.Prelude.{◌≡◌, ◌⊎◌, ℕ, ◌+◌, ◌*◌, ◌<◌, ◌≤◌, Option, Some, None}
+-- The first of the keys that an index leads to.
+use Rattle.std.specs.Prelude.{◌≡◌, ◌⊎◌, ℕ, ◌+◌, ◌*◌, ◌<◌, ◌≤◌, Option}
 use Rattle.addr4.specs.Prefixes.{Network}
+use Rattle.nibble_trie.specs.declared.link.Target.{Target}
 use Rattle.nibble_trie.specs.declared.index.Index.{Index}
-use Rattle.nibble_trie.specs.declared.index.Spot.{Spot}
-use Rattle.nibble_trie.specs.Index.{Layout, IsLaid, Names, Stands, Lies, IsPlace, is_live, high}
+use Rattle.nibble_trie.specs.Keys.{IsNextOf, IsFrom}
+use Rattle.nibble_trie.specs.Index.{Layout, IsLaid, Stands, Lies, high}
 
--- the leaf of the first address with a leaf, of those that are P
-abbrev pub IsFirst : (ℕ → Type 0) → (ℕ → Option ℕ) → Option ℕ → Type 0
-IsFirst P heads None = (a : ℕ) → P a → heads a ≡ None
-IsFirst P heads (Some key) = (a : ℕ) × P a × (heads a ≡ Some key) × ((b : ℕ) → P b → b < a → heads b ≡ None)
+-- the prefixes from an address and a length on: of a place, and of a branch from a digit on
+pub record FromAt (layout : Layout) (at : Option (ℕ × ℕ)) (a least : ℕ) (p : Network) : Type 0 where
+  pub lies : Lies layout at p.address
+  pub from : IsFrom a least p
 
--- the addresses from one on that lie at a place, and those of a branch from a digit on
-abbrev pub FromAt : Layout → Spot → ℕ → ℕ → Type 0
-FromAt layout spot from a = Lies layout spot.at a × (from ≤ a)
+pub record FromIn (layout : Layout) (branch digit a least : ℕ) (p : Network) : Type 0 where
+  pub low : layout.block branch * 16 + digit ≤ high (layout.level branch) p.address
+  pub top : high (layout.level branch) p.address < layout.block branch * 16 + 16
+  pub from : IsFrom a least p
 
-pub record FromIn (layout : Layout) (branch digit least a : ℕ) : Type 0 where
-  pub low : layout.block branch * 16 + digit ≤ high (layout.level branch) a
-  pub top : high (layout.level branch) a < layout.block branch * 16 + 16
-  pub from : least ≤ a
+-- an address to begin with is one of the place, or every prefix counts
+abbrev pub IsStart : Layout → Option (ℕ × ℕ) → ℕ → ℕ → Type 0
+IsStart layout at from least = ((from ≡ 0) × (least ≡ 0)) ⊎ Lies layout at from
 
--- an address to begin with is one of the place, or the first of all
-abbrev pub IsStart : Layout → Option (ℕ × ℕ) → ℕ → Type 0
-IsStart layout at from = (from ≡ 0) ⊎ Lies layout at from
+-- an index of these keys, with a place to begin at
+pub record Starts (keys : ℕ → Option Network) (index : Index) (heads : ℕ → Option ℕ) (layout : Layout) (at : Option (ℕ × ℕ)) (target : Target) (level from least : ℕ) : Type 0 where
+  pub holds : IsLaid index heads layout
+  pub shortest : (a : ℕ) → IsNextOf keys a 0 (heads a)
+  pub stands : Stands index layout (record { at = at; level = level; target = target })
+  pub start : IsStart layout at from least
 
-pub record CanStart (keys : ℕ → Option Network) (index : Index) (spot : Spot) (from : ℕ) : Type 0 where
+-- some place whose link leads there
+pub record CanStart (keys : ℕ → Option Network) (index : Index) (target : Target) (level from least : ℕ) : Type 0 where
   pub heads : ℕ → Option ℕ
   pub layout : Layout
-  pub holds : IsLaid index heads layout
-  pub names : Names keys heads
-  pub stands : Stands index layout spot
-  pub start : IsStart layout spot.at from
-
--- the same of a digit of a branch
-pub record CanStartIn (keys : ℕ → Option Network) (index : Index) (branch digit level from : ℕ) : Type 0 where
-  pub heads : ℕ → Option ℕ
-  pub layout : Layout
-  pub holds : IsLaid index heads layout
-  pub names : Names keys heads
-  pub place : IsPlace (is_live index) (Some (branch, digit))
-  pub level_is : layout.level branch ≡ level
-  pub short : level < 8
-  pub start : IsStart layout (Some (branch, digit)) from
+  pub at : Option (ℕ × ℕ)
+  pub starts : Starts keys index heads layout at target level from least

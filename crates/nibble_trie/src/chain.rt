@@ -3,7 +3,7 @@
 ghost use Rattle.std.specs.Prelude.{◌≡◌, ◌≤◌, ◌<◌, ℕ, Some};
 ghost use Rattle.addr4.specs.Prefixes.{Network};
 ghost use Rattle.slab.specs.Slab.{ContainsKey};
-ghost use Rattle.nibble_trie.specs.Keys.{prefix_in, longer_in, IsNextOf, IsChained, HasNext, IsLastBelow, IsLeafOf};
+ghost use Rattle.nibble_trie.specs.Keys.{prefix_in, longer_in, IsNextOf, IsChained, HasNext, IsLastBelow, IsLeafOf, IsFirstOf, IsOfAddressFrom};
 
 use crate::node::Node;
 use addr4::Prefix;
@@ -24,6 +24,28 @@ pub(crate) fn seek<V>(leaves: &Slab<Node<V>>, link: Option<usize>, length: u8) -
         return Some(key);
     }
     seek(leaves, node.longer.key(), length)
+}
+
+// The first leaf of an address from another address and a length on, under the key of the address's first.
+pub(crate) fn first_from<V>(
+    leaves: &Slab<Node<V>>,
+    key: usize,
+    from: u32,
+    least: u8,
+) -> Option<usize>
+    requires chained { IsChained (prefix_in leaves.now) (longer_in leaves.now) }
+    requires next { HasNext (prefix_in leaves.now) (Some key) 0 }
+    ensures { (a : ℕ) → IsNextOf (prefix_in leaves.now) a 0 (Some key) → IsFirstOf (prefix_in leaves.now) (IsOfAddressFrom a from least) result }
+{
+    let node = &leaves[key];
+    let address = node.prefix.address().number();
+    if address < from {
+        return None;
+    }
+    if address == from {
+        return seek(leaves, Some(key), least);
+    }
+    Some(key)
 }
 
 // The leaf of an address and a length, if that is what a link to the first from the length on leads to.

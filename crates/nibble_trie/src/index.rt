@@ -5,7 +5,7 @@ ghost use Rattle.slab.specs.Slab.{HasRoomFor, slab_len};
 ghost use Rattle.nibble_trie.specs.declared.link.Target.TheVariants.{Nothing, Leaf, Inner};
 ghost use Rattle.nibble_trie.specs.Links.{leads, IsCell};
 ghost use Rattle.nibble_trie.specs.Keys.{prefix_in, longer_in};
-ghost use Rattle.nibble_trie.specs.Index.{Layout, high, link_at, is_live, IsPlace, IsLaid, Indexes, Lies, Names, with_head, IsAlone, OnWay, IsSpotOf, HasHeads, HasWay, HasNamedWay, HasLoneWay, IsBare, Placed, IsAbove, Writes};
+ghost use Rattle.nibble_trie.specs.Index.{Layout, high, link_at, is_live, IsPlace, IsLaid, Indexes, Lies, Names, with_head, IsAlone, OnWay, IsSpotOf, spot_at, HasHeads, HasWay, HasNamedWay, HasLoneWay, IsBare, Placed, IsAbove, Writes};
 
 use crate::branch::{Branch, digit_of};
 use crate::link::{Link, Target};
@@ -27,6 +27,34 @@ pub(crate) struct Spot {
     pub(crate) at: Option<(usize, usize)>,
     pub(crate) level: u32,
     pub(crate) target: Target,
+}
+
+/// Where the way of an address ends: the branch that the last link is one of, unless it is the root's, how many digits come
+/// behind it, and the link.
+#[derive(Clone, Copy)]
+pub(crate) struct End {
+    pub(crate) branch: usize,
+    pub(crate) level: u32,
+    pub(crate) link: Link,
+}
+
+impl End {
+    // The place of the last link.
+    pub(crate) fn spot(self, address: u32) -> Spot
+        requires { self.level ≤ 8 }
+        ensures { result ≡ spot_at self address }
+    {
+        let at = if self.level == 8 {
+            None
+        } else {
+            Some((self.branch, digit_of(address, self.level)))
+        };
+        Spot {
+            at,
+            level: self.level,
+            target: self.link.target(),
+        }
+    }
 }
 
 impl Index {
@@ -65,29 +93,41 @@ impl Index {
         }
     }
 
-    // The place of an address: from the root down to where no branch is.
-    pub(crate) fn spot_of(&self, address: u32) -> Spot
+    // Where the way of an address ends: from the root down to where no branch is. Words alone go down, no places.
+    pub(crate) fn end_of(&self, address: u32) -> End
         requires { HasHeads self.now }
-        ensures way { IsSpotOf self.now address result }
-        ensures cell { IsCell result.target }
+        ensures way { IsSpotOf self.now address (spot_at result address) }
+        ensures cell { IsCell (leads result.link) }
     {
-        let mut spot = self.top();
+        let mut end = End {
+            branch: 0,
+            level: 8,
+            link: self.root,
+        };
         'way: loop {
-            match spot.target {
-                Target::Nothing => return spot,
-                Target::Leaf(_) => return spot,
-                Target::Inner(branch) => spot = self.below(branch, address, spot.level - 1),
+            match end.link.target() {
+                Target::Nothing => return end,
+                Target::Leaf(_) => return end,
+                Target::Inner(branch) => {
+                    let level = end.level - 1;
+                    let links = &self.branches[branch];
+                    end = End {
+                        branch,
+                        level,
+                        link: links.link(digit_of(address, level)),
+                    };
+                }
             }
         }
     }
 
-    // The first leaf of an address, at its place.
-    pub(crate) fn head<V>(&self, leaves: &Slab<Node<V>>, spot: Spot, address: u32) -> Option<usize>
-        requires way { HasNamedWay (prefix_in leaves.now) self.now address spot }
-        requires cell { IsCell spot.target }
-        ensures { (heads : ℕ → Option ℕ) (layout : Layout) → IsLaid self.now heads layout → Names (prefix_in leaves.now) heads → OnWay self.now layout address spot → result ≡ heads address }
+    // The first leaf of an address, where its way ends.
+    pub(crate) fn head<V>(&self, leaves: &Slab<Node<V>>, end: End, address: u32) -> Option<usize>
+        requires way { HasNamedWay (prefix_in leaves.now) self.now address (spot_at end address) }
+        requires cell { IsCell (leads end.link) }
+        ensures { (heads : ℕ → Option ℕ) (layout : Layout) → IsLaid self.now heads layout → Names (prefix_in leaves.now) heads → OnWay self.now layout address (spot_at end address) → result ≡ heads address }
     {
-        match spot.target {
+        match end.link.target() {
             Target::Nothing => None,
             Target::Leaf(key) => {
                 let node = &leaves[key];

@@ -1,36 +1,37 @@
 //! The descents to a key, and to the next one in order.
 
-ghost use Rattle.std.specs.Prelude.{◌≡◌, ◌↔◌, ℕ, ◌+◌, IsTrue, Option, Some};
+ghost use Rattle.std.specs.Prelude.{◌≡◌, ◌↔◌, ℕ, IsTrue, Option, Some};
 ghost use Rattle.addr4.specs.Places.{key_of};
-ghost use Rattle.nibble_trie.specs.Links.{IsCell};
-ghost use Rattle.nibble_trie.specs.Keys.{prefix_in, IsNextOf, IsLeafOf, IsNextLeaf, IsFirstBehind};
-ghost use Rattle.nibble_trie.specs.Index.{Layout, IsLaid, Names, Stands, IsSpotOf};
-ghost use Rattle.nibble_trie.specs.Next.{IsFirst, FromAt, FromIn, IsStart, CanStart, CanStartIn};
+ghost use Rattle.nibble_trie.specs.declared.link.Target.TheVariants.{Inner};
+ghost use Rattle.nibble_trie.specs.Links.{leads, IsCell};
+ghost use Rattle.nibble_trie.specs.Keys.{prefix_in, longer_in, IsNextOf, IsChained, IsLeafOf, IsFirstOf, IsFrom, IsNextLeaf};
+ghost use Rattle.nibble_trie.specs.Index.{Layout, IsSpotOf, spot_at};
+ghost use Rattle.nibble_trie.specs.Next.{FromAt, Starts, CanStart};
 ghost use Rattle.nibble_trie.specs.View.{IsWhole};
 
 use crate::branch::digit_of;
 use crate::chain;
-use crate::index::{Index, Spot};
-use crate::link::Target;
+use crate::index::{End, Index};
+use crate::link::{Link, Target};
 use crate::node::Node;
 use addr4::{Place, Prefix};
 use slab::Slab;
 
-// The place of a prefix's address in the index, and the first leaf of that address.
+// Where the way of a prefix's address ends in the index, and the first leaf of that address.
 pub(crate) fn first_leaf<V>(
     index: &Index,
     leaves: &Slab<Node<V>>,
     prefix: Prefix,
-) -> (Spot, Option<usize>)
+) -> (End, Option<usize>)
     requires { IsWhole leaves.now index.now }
-    ensures way { IsSpotOf index.now prefix.address result.0 }
-    ensures cell { IsCell result.0.target }
+    ensures way { IsSpotOf index.now prefix.address (spot_at result.0 prefix.address) }
+    ensures cell { IsCell (leads result.0.link) }
     ensures head { IsNextOf (prefix_in leaves.now) prefix.address 0 result.1 }
 {
     let address = prefix.address().number();
-    let spot = index.spot_of(address);
-    let head = index.head(leaves, spot, address);
-    (spot, head)
+    let end = index.end_of(address);
+    let head = index.head(leaves, end, address);
+    (end, head)
 }
 
 // The leaf of a prefix.
@@ -75,86 +76,61 @@ pub(crate) fn find_near<V>(
     find(index, leaves, prefix)
 }
 
-// The leaf of the first address from one on that has one, among the addresses of a place.
+// The leaf of the first key from an address and a length on, among the addresses of a link.
 #[cycle(next)]
-fn first_at<V>(index: &Index, leaves: &Slab<Node<V>>, spot: Spot, from: u32) -> Option<usize>
-    requires { CanStart (prefix_in leaves.now) index.now spot from }
-    ensures { (heads : ℕ → Option ℕ) (layout : Layout) → IsLaid index.now heads layout → Names (prefix_in leaves.now) heads → Stands index.now layout spot → IsStart layout spot.at from → IsFirst (FromAt layout spot from) heads result }
+fn first_at<V>(
+    index: &Index,
+    leaves: &Slab<Node<V>>,
+    link: Link,
+    level: u32,
+    from: u32,
+    least: u8,
+) -> Option<usize>
+    requires chained { IsChained (prefix_in leaves.now) (longer_in leaves.now) }
+    requires start { CanStart (prefix_in leaves.now) index.now (leads link) level from least }
+    ensures { (heads : ℕ → Option ℕ) (layout : Layout) (at : Option (ℕ × ℕ)) → Starts (prefix_in leaves.now) index.now heads layout at (leads link) level from least → IsFirstOf (prefix_in leaves.now) (FromAt layout at from least) result }
 {
-    match spot.target {
+    match link.target() {
         Target::Nothing => None,
-        Target::Leaf(key) => {
-            let node = &leaves[key];
-            if from <= node.prefix.address().number() {
-                Some(key)
-            } else {
-                None
-            }
-        }
-        Target::Inner(branch) => {
-            let level = spot.level - 1;
-            first_in(index, leaves, branch, digit_of(from, level), level, from)
-        }
+        Target::Leaf(key) => chain::first_from(leaves, key, from, least),
+        Target::Inner(branch) => first_in(index, leaves, branch, level, from, least),
     }
 }
 
-// The same among the addresses of a branch from a digit on.
+// The same among the addresses of a link that leads to a branch: of the first digit from there on, of the others the first
+// of all.
 #[cycle(next)]
 fn first_in<V>(
     index: &Index,
     leaves: &Slab<Node<V>>,
     branch: usize,
-    digit: usize,
     level: u32,
-    from: u32,
+    mut from: u32,
+    mut least: u8,
 ) -> Option<usize>
-    requires { CanStartIn (prefix_in leaves.now) index.now branch digit level from }
-    ensures { (heads : ℕ → Option ℕ) (layout : Layout) → IsLaid index.now heads layout → Names (prefix_in leaves.now) heads → layout.level branch ≡ level → IsStart layout (Some (branch, digit)) from → IsFirst (FromIn layout branch digit from) heads result }
+    requires chained { IsChained (prefix_in leaves.now) (longer_in leaves.now) }
+    requires start { CanStart (prefix_in leaves.now) index.now (Inner branch) level from least }
+    ensures { (heads : ℕ → Option ℕ) (layout : Layout) (at : Option (ℕ × ℕ)) → Starts (prefix_in leaves.now) index.now heads layout at (Inner branch) level from least → IsFirstOf (prefix_in leaves.now) (FromAt layout at from least) result }
 {
+    let below = level - 1;
     let links = &index.branches[branch];
-    let spot = Spot {
-        at: Some((branch, digit)),
-        level,
-        target: links.target(digit),
-    };
-    let found = first_at(index, leaves, spot, from);
-    if found.is_some() {
-        return found;
+    'digits: for digit in digit_of(from, below)..16 {
+        let found = first_at(index, leaves, links.link(digit), below, from, least);
+        if found.is_some() {
+            return found;
+        }
+        from = 0;
+        least = 0;
     }
-    if digit == 15 {
-        return None;
-    }
-    first_in(index, leaves, branch, digit + 1, level, 0)
+    None
 }
 
-// The leaf of the first key behind an address.
-fn first_behind<V>(index: &Index, leaves: &Slab<Node<V>>, address: u32) -> Option<usize>
+// The leaf of the first key from an address and a length on.
+fn first_from<V>(index: &Index, leaves: &Slab<Node<V>>, from: u32, least: u8) -> Option<usize>
     requires { IsWhole leaves.now index.now }
-    ensures { IsFirstBehind (prefix_in leaves.now) address result }
+    ensures { IsFirstOf (prefix_in leaves.now) (IsFrom from least) result }
 {
-    if address == u32::MAX {
-        return None;
-    }
-    first_at(index, leaves, index.top(), address + 1)
-}
-
-// The first longer leaf of a prefix's address. The prefix's own may lie at a key.
-fn longer_near<V>(
-    index: &Index,
-    leaves: &Slab<Node<V>>,
-    near: usize,
-    prefix: Prefix,
-) -> Option<usize>
-    requires { IsWhole leaves.now index.now }
-    ensures { IsNextOf (prefix_in leaves.now) prefix.address (prefix.length + 1) result }
-{
-    if is_at(leaves, near, prefix) {
-        let node = &leaves[near];
-        return node.longer.key();
-    }
-    prefix.known();
-    let entry = first_leaf(index, leaves, prefix);
-    chain::seek(leaves, entry.1, prefix.length() + 1)
+    first_at(index, leaves, index.root, 8, from, least)
 }
 
 // The leaf of the first key beyond a prefix, whose own leaf may lie at a key.
@@ -167,11 +143,19 @@ fn next_behind<V>(
     requires { IsWhole leaves.now index.now }
     ensures { IsNextLeaf (prefix_in leaves.now) (Some prefix) result }
 {
-    let longer = longer_near(index, leaves, near, prefix);
-    if longer.is_some() {
-        return longer;
+    if is_at(leaves, near, prefix) {
+        let node = &leaves[near];
+        let longer = node.longer.key();
+        if longer.is_some() {
+            return longer;
+        }
     }
-    first_behind(index, leaves, prefix.address().number())
+    first_from(
+        index,
+        leaves,
+        prefix.address().number(),
+        prefix.length() + 1,
+    )
 }
 
 // The leaf of the first key beyond a place, at which a leaf may lie at a key.
@@ -185,7 +169,7 @@ pub(crate) fn next_leaf<V>(
     ensures { IsNextLeaf (prefix_in leaves.now) (key_of after) result }
 {
     match after {
-        Place::Before => first_at(index, leaves, index.top(), 0),
+        Place::Before => first_from(index, leaves, 0, 0),
         Place::At(prefix) => next_behind(index, leaves, near, prefix),
     }
 }

@@ -152,8 +152,8 @@ impl<V> Trie<V> {
         }
     }
 
-    /// [`next_row`](Trie::next_row), and the key of its leaf in [`nodes`](Trie::nodes): in one descent less where `near` is
-    /// the key of the place's leaf. Any other key costs that descent and changes no row.
+    /// [`next_row`](Trie::next_row), and the key of its leaf in [`nodes`](Trie::nodes): without a descent where `near` is the
+    /// key of the place's leaf and the next row has its address. Any other key costs that descent and changes no row.
     pub fn next_near(&self, near: usize, after: Place) -> Option<(Prefix, &V, usize)>
         ensures prefix { IsNextRow (map.get self.now.rows) (key_of after) (option_map (λ row. row.0) result) }
         ensures value { IfSome result (λ row. map.get self.now.rows row.0 ≡ Some row.1.now) }

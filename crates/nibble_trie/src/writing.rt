@@ -5,13 +5,13 @@ ghost use Rattle.std.specs.FinMap as map;
 ghost use Rattle.slab.specs.Slab.{get, Slab, ContainsKey, Updates, HasRoomFor};
 ghost use Rattle.addr4.specs.Prefixes.{Network};
 ghost use Rattle.nibble_trie.specs.declared.node.Node.{Node};
-ghost use Rattle.nibble_trie.specs.Links.{IsCell};
+ghost use Rattle.nibble_trie.specs.Links.{leads, IsCell};
 ghost use Rattle.nibble_trie.specs.Keys.{prefix_in, longer_in, IsNextOf, IsChained, IsLastBelow, IsSmall, IsHeadOf};
-ghost use Rattle.nibble_trie.specs.Index.{Layout, IsLaid, Indexes, with_head, IsAlone, OnWay, IsSpotOf, HasLoneWay};
+ghost use Rattle.nibble_trie.specs.Index.{Layout, IsLaid, Indexes, with_head, IsAlone, OnWay, IsSpotOf, spot_at, HasLoneWay};
 ghost use Rattle.nibble_trie.specs.View.{rows_of, IsWhole, Joins};
 
 use crate::branch::Branch;
-use crate::index::{Index, Spot};
+use crate::index::{End, Index, Spot};
 use crate::link::Link;
 use crate::node::Node;
 use crate::{chain, reading};
@@ -72,7 +72,7 @@ fn take<V>(leaves: &mut Slab<Node<V>>, key: usize) -> V
 fn add_first<V>(
     leaves: &mut Slab<Node<V>>,
     index: &mut Index,
-    spot: Spot,
+    end: End,
     head: Option<usize>,
     prefix: Prefix,
     value: V,
@@ -80,10 +80,10 @@ fn add_first<V>(
     requires whole { IsWhole leaves.old index.old }
     requires room { HasRoomFor leaves.old 1 }
     requires small { leaves.old.capacity < 2 ^ 31 }
-    requires branch_room { HasRoomFor index.old.branches spot.level }
+    requires branch_room { HasRoomFor index.old.branches end.level }
     requires branch_small { index.old.branches.capacity ≤ 2 ^ 31 }
-    requires way { IsSpotOf index.old prefix.address spot }
-    requires cell { IsCell spot.target }
+    requires way { IsSpotOf index.old prefix.address (spot_at end prefix.address) }
+    requires cell { IsCell (leads end.link) }
     requires head { IsHeadOf (prefix_in leaves.old) prefix head }
     requires absent { (k : ℕ) → prefix_in leaves.old k ≡ Some prefix → ⊥ }
     ensures whole { IsWhole leaves.new index.new }
@@ -96,7 +96,8 @@ fn add_first<V>(
         longer: Link::to(head),
         value,
     });
-    index.put(leaves, spot, prefix.address().number(), key);
+    let address = prefix.address().number();
+    index.put(leaves, end.spot(address), address, key);
 }
 
 // A new leaf behind the last one below it.
@@ -193,20 +194,21 @@ fn drop_head<V>(leaves: &Slab<Node<V>>, index: &mut Index, spot: Spot, address: 
 fn take_first<V>(
     leaves: &mut Slab<Node<V>>,
     index: &mut Index,
-    spot: Spot,
+    end: End,
     prefix: Prefix,
     first: usize,
 ) -> V
     requires whole { IsWhole leaves.old index.old }
-    requires way { IsSpotOf index.old prefix.address spot }
-    requires cell { IsCell spot.target }
+    requires way { IsSpotOf index.old prefix.address (spot_at end prefix.address) }
+    requires cell { IsCell (leads end.link) }
     requires head { IsNextOf (prefix_in leaves.old) prefix.address 0 (Some first) }
     requires found { prefix_in leaves.old first ≡ Some prefix }
     ensures whole { IsWhole leaves.new index.new }
     ensures before { Some result ≡ map.get (rows_of leaves.old) prefix }
     ensures rows { rows_of leaves.new ≡ map.remove (rows_of leaves.old) prefix }
 {
-    drop_head(leaves, index, spot, prefix.address().number(), first);
+    let address = prefix.address().number();
+    drop_head(leaves, index, end.spot(address), address, first);
     take(leaves, first)
 }
 

@@ -1,20 +1,18 @@
--- What the parts of a turn make of a chain, as the code knows it. The chain is seen as v, and known as m; the exit is lent to the
--- filter, and comes back as it was.
+-- What the parts of a turn make of a chain, as the code knows it. The chain is seen as v, and known as m.
 use Rattle.std.proofs.Common.{◌≡◌, ◌≢◌, ℕ, List, [], Option, Some, None, refl, sym, ap, subst, ◌∙◌}
 use Rattle.std.specs.Option.{ForSome}
-use Rattle.addr4.specs.Prefixes.{Network}
 use Rattle.bgp_attr.specs.declared.attrs.Attrs.{Attrs}
 use Rattle.bgp_attr.specs.declared.route.Route.{Route}
 use Rattle.link_change.specs.Rows.{Rows, Candidates}
 use Rattle.link_change.specs.Turns.{taken_turn}
 use Rattle.link_change.specs.declared.change.Change.{Change}
 use Rattle.link_change.specs.declared.turn.Turn.{Turn}
-use Rattle.link_change.specs.declared.turn.Turn.TheVariants.{Sent}
+use Rattle.link_change.specs.declared.turn.Turn.TheVariants.{Nothing, Quiet, Sent}
 use Rattle.policy_rules.specs.declared.rule.Rule.{Rule}
 use Rattle.pass_core.specs.Passed.{Passed}
 use Rattle.pass_core.specs.Turns.{IsPassedOn, Walks, IsWalked}
-use Rattle.peer_out.specs.Remembered.{Exit}
-use Rattle.peer_out.specs.Changes.{MayBeHeard, IsSender, IsSentOf}
+use Rattle.peer_out.specs.Forms.{Exit}
+use Rattle.peer_out.specs.Changes.{MayBeHeard, IsSentOf}
 use Rattle.fanout_queue.specs.Queues.{Queued, Takes}
 use Rattle.fanout_queue.specs.Readers.{unread_by, KeepsOtherReaders}
 use Rattle.fanout_queue.proofs.LeadLemmas.{take_keeps_others}
@@ -22,73 +20,75 @@ use Rattle.journal_text.specs.Journals.{Journaled, with_lines, with_entries}
 use Rattle.out_chain.specs.Chains.{OutChained, made_by, IsOutChain, RowsMayBeHeard, ChangesMayBeHeard, OutStands}
 use Rattle.out_chain.specs.Steps.{with_sent, with_filter, read_entries, said_of, IsTold, PassesOut, WalksOut, IsWalkedOut, IsOutTurn}
 use Rattle.out_chain.proofs.SaidLemmas.{passed_sayable, walked_sayable}
-use Rattle.out_chain.proofs.TurnLemmas.{said_on, said_nothing, was_first, reads_first, turned_out, walked_out, turn_stands}
+use Rattle.out_chain.proofs.TurnLemmas.{said_on, said_nothing, said_none, was_first, reads_first, turned_out, walked_out, turn_stands}
 
--- the chain with another exit
-abbrev pub with_exit : OutChained → Exit → OutChained
-with_exit v exit = record v { exit = exit }
+told_as : (exit : Exit) (sent : Change Attrs) → IsTold exit sent → ForSome (Some sent) (IsTold exit)
+told_as exit sent told x is = let at : sent ≡ x = cc in subst (IsTold exit) at told
 
-module _ (m v : OutChained) (same : v ≡ m) (exit : Exit) (lent : exit ≡ v.exit) where
-  sayable_as : (p : Network) (after : Option Attrs) → ForSome after (IsSentOf v.exit.profile v.exit.external p) → ForSome after (IsSentOf exit.profile exit.external p)
-  sayable_as p after h = subst (λ (e : Exit). ForSome after (IsSentOf e.profile e.external p)) (sym lent) h
-
-  sender_of : IsOutChain m → IsSender v.exit.profile v.exit.me
-  sender_of chain = (subst IsOutChain (sym same) chain).sender
-
-  told_as : (sent : Change Attrs) → IsTold exit sent → ForSome (Some sent) (IsTold v.exit)
-  told_as sent told x is = let at : sent ≡ x = cc in subst (IsTold v.exit) at (subst (λ (e : Exit). IsTold e sent) lent told)
-
+module _ (m v : OutChained) (same : v ≡ m) where
   -- ---- a change that the reader took
   module _ (change : Change Route) (made : Option (Change Attrs)) (passed : IsPassedOn (made_by v) v.filter change made) where
+    passed_on : (sent : Option (Change Attrs)) → made ≡ sent → IsPassedOn (made_by m) m.filter change sent
+    passed_on sent is = subst (IsPassedOn (made_by m) m.filter change) is (subst (λ (c : OutChained). IsPassedOn (made_by c) c.filter change made) same passed)
+
     pub passed_may_be_said : (sent : Change Attrs) → made ≡ Some sent → IsOutChain m → change.after ≢ change.before → ForSome change.after (λ r. MayBeHeard m.exit.profile r.attrs)
-        → ForSome sent.after (IsSentOf exit.profile exit.external sent.prefix)
-    passed_may_be_said sent is chain differs heard =
-        sayable_as sent.prefix sent.after
-        (passed_sayable v change sent (sender_of chain) differs (subst (λ (c : OutChained). ForSome change.after (λ r. MayBeHeard c.exit.profile r.attrs)) (sym same) heard)
-        (subst (IsPassedOn (made_by v) v.filter change) is passed))
+        → ForSome sent.after (IsSentOf m.exit.profile m.exit.external sent.prefix)
+    passed_may_be_said sent is chain differs heard = passed_sayable m change sent chain.sender differs heard (passed_on (Some sent) is)
 
-    pub passes_none : (before now : Journaled) → made ≡ None → now ≡ with_entries before (read_entries v change) → PassesOut m (with_exit v exit) change None before now
-    passes_none before now is lines =
-        subst (λ (e : Exit). PassesOut m (with_exit v e) change None before now) (sym lent)
-        (subst (λ (c : OutChained). PassesOut c v change None before now) same
-        (record { filters = subst (IsPassedOn (made_by v) v.filter change) is passed; after = refl; lines = said_nothing before now v (read_entries v change) lines; told = λ x none. absurd (cc) }))
+    -- the change is read, and nothing is sent,
+    pub passes_none : (before now : Journaled) → ((sent : Change Attrs) → made ≢ Some sent) → now ≡ with_entries before (read_entries v change) → PassesOut m m change made before now
+    passes_none before now none lines = by_made made refl none
+      where
+        by_made : (o : Option (Change Attrs)) → made ≡ o → ((sent : Change Attrs) → o ≢ Some sent) → PassesOut m m change o before now
+        by_made None is none = record {
+          filters = passed_on None is;
+          after = refl;
+          lines = said_nothing before now m (read_entries m change) (lines ∙ ap (λ (c : OutChained). with_entries before (read_entries c change)) same);
+          told = λ x there. absurd (cc);
+        }
+        by_made (Some sent) is none = absurd (none sent refl)
 
-    pub passes_some : (new : OutChained) (sent out : Change Attrs) (before mid now : Journaled) → made ≡ Some sent → mid ≡ with_entries before (read_entries v change) → out ≡ sent
-        → new ≡ with_sent (with_exit v exit) (Some sent) → now ≡ with_lines mid (said_of (with_exit v exit) [] (Some sent)) → IsTold exit sent → PassesOut m new change (Some out) before now
-    passes_some new sent out before mid now is mid_is out_is new_is now_is told =
-        subst (λ (s : Change Attrs). PassesOut m new change (Some s) before now) (sym out_is)
-        (subst (λ (c : OutChained). PassesOut c new change (Some sent) before now) same
-        (record {
-          filters = subst (IsPassedOn (made_by v) v.filter change) is passed;
-          after = new_is ∙ ap (λ (e : Exit). with_sent (with_exit v e) (Some sent)) lent;
-          lines = said_on before mid now v (read_entries v change) (Some sent) mid_is (now_is ∙ ap (λ (e : Exit). with_lines mid (said_of (with_exit v e) [] (Some sent))) lent);
-          told = told_as sent told;
-        }))
+    -- or a change is, and said
+    pub passes_some : (new : OutChained) (sent : Change Attrs) (before mid now : Journaled) → made ≡ Some sent → mid ≡ with_entries before (read_entries v change)
+        → new ≡ with_sent m (Some sent) → now ≡ with_lines mid (said_of m [] (Some sent)) → IsTold m.exit sent → PassesOut m new change made before now
+    passes_some new sent before mid now is mid_is new_is now_is told = subst (λ (s : Option (Change Attrs)). PassesOut m new change s before now) (sym is) (record {
+      filters = passed_on (Some sent) is;
+      after = new_is;
+      lines = said_on before mid now m (read_entries m change) (Some sent) (mid_is ∙ ap (λ (c : OutChained). with_entries before (read_entries c change)) same) now_is;
+      told = told_as m.exit sent told;
+    })
 
   -- ---- a turn of the walk
   module _ (filter : Passed (Option (List Rule))) (candidates : Candidates) (upper : Rows Route) (turn : Turn Attrs) (walked : IsWalked (made_by v) candidates upper v.filter filter turn) where
     walks_of : (sent : Change Attrs) → turn ≡ Sent sent → Walks (made_by v) candidates upper v.filter filter (Some sent)
     walks_of sent is = subst (IsWalked (made_by v) candidates upper v.filter filter) is walked
 
-    pub walked_may_be_said : (sent : Change Attrs) → turn ≡ Sent sent → IsOutChain m → RowsMayBeHeard m.exit.profile upper → ForSome sent.after (IsSentOf exit.profile exit.external sent.prefix)
+    pub walked_may_be_said : (sent : Change Attrs) → turn ≡ Sent sent → IsOutChain m → RowsMayBeHeard m.exit.profile upper → ForSome sent.after (IsSentOf v.exit.profile v.exit.external sent.prefix)
     walked_may_be_said sent is chain heard =
-        sayable_as sent.prefix sent.after
-        (walked_sayable v filter candidates upper sent (sender_of chain) (subst (λ (c : OutChained). RowsMayBeHeard c.exit.profile upper) (sym same) heard) (walks_of sent is))
+        walked_sayable v filter candidates upper sent (subst IsOutChain (sym same) chain).sender (subst (λ (c : OutChained). RowsMayBeHeard c.exit.profile upper) (sym same) heard) (walks_of sent is)
 
-    pub walks_some : (new : OutChained) (sent out : Change Attrs) (before now : Journaled) → turn ≡ Sent sent → out ≡ sent
-        → new ≡ with_sent (with_filter (with_exit v exit) filter) (Some sent) → now ≡ with_lines before (said_of (with_filter (with_exit v exit) filter) [] (Some sent)) → IsTold exit sent
-        → WalksOut m new candidates upper (Some out) before now
-    walks_some new sent out before now is out_is new_is now_is told =
-        let as_v : new ≡ with_sent (with_filter v filter) (Some sent) = new_is ∙ ap (λ (e : Exit). with_sent (with_filter (with_exit v e) filter) (Some sent)) lent in
-        let f : filter ≡ new.filter = sym (ap (λ (c : OutChained). c.filter) as_v) in
-        subst (λ (s : Change Attrs). WalksOut m new candidates upper (Some s) before now) (sym out_is)
+    pub walks_some : (new : OutChained) (sent : Change Attrs) (before now : Journaled) → turn ≡ Sent sent
+        → new ≡ with_sent (with_filter v filter) (Some sent) → now ≡ with_lines before (said_of (with_filter v filter) [] (Some sent)) → IsTold v.exit sent
+        → IsWalkedOut m new candidates upper before now turn
+    walks_some new sent before now is new_is now_is told =
+        let f : filter ≡ new.filter = sym (ap (λ (c : OutChained). c.filter) new_is) in
+        subst (IsWalkedOut m new candidates upper before now) (sym is)
         (subst (λ (c : OutChained). WalksOut c new candidates upper (Some sent) before now) same
         (record {
           walks = subst (λ (g : Passed (Option (List Rule))). Walks (made_by v) candidates upper v.filter g (Some sent)) f (walks_of sent is);
-          after = as_v ∙ ap (λ (g : Passed (Option (List Rule))). with_sent (with_filter v g) (Some sent)) f;
-          lines = now_is ∙ ap (λ (e : Exit). with_lines before (said_of (with_filter (with_exit v e) filter) [] (Some sent))) lent;
-          told = told_as sent told;
+          after = new_is ∙ ap (λ (g : Passed (Option (List Rule))). with_sent (with_filter v g) (Some sent)) f;
+          lines = now_is;
+          told = told_as v.exit sent told;
         }))
+
+    -- nothing is said
+    pub walks_none : (journal : Journaled) → ((sent : Change Attrs) → turn ≢ Sent sent) → IsWalkedOut m (with_filter v filter) candidates upper journal journal turn
+    walks_none journal other = subst (λ (c : OutChained). IsWalkedOut c (with_filter v filter) candidates upper journal journal turn) same (by_turn turn other walked)
+      where
+        by_turn : (t : Turn Attrs) → ((sent : Change Attrs) → t ≢ Sent sent) → IsWalked (made_by v) candidates upper v.filter filter t → IsWalkedOut v (with_filter v filter) candidates upper journal journal t
+        by_turn Nothing other is = (is.0, ap (with_filter v) is.1, refl)
+        by_turn Quiet other is = record { walks = is; after = refl; lines = said_none journal v; told = λ x none. absurd (cc) }
+        by_turn (Sent sent) other is = absurd (other sent refl)
 
 -- ---- a whole turn
 

@@ -17,7 +17,7 @@ use Rattle.policy_rules.proofs.VerdictLemmas.{answer_is_judged}
 use Rattle.pass_core.specs.Passed.{Passed, function_at}
 use Rattle.pass_core.specs.Turns.{passed_rows, IsSentAt, Walks}
 use Rattle.filter_bank.specs.Outgoing.{Form, may_go, first_out, let_by, formed, outgoing}
-use Rattle.peer_out.specs.Remembered.{Exit}
+use Rattle.peer_out.specs.Forms.{Exit}
 use Rattle.peer_out.specs.Changes.{MayBeHeard, IsSender, IsSentOf}
 use Rattle.out_chain.specs.Chains.{OutChained, form_of, made_by, RowsMayBeHeard}
 

@@ -1,5 +1,6 @@
 -- What one turn makes of a chain, its queue and the journal.
 use Rattle.std.proofs.Common.{◌≡◌, ◌≢◌, ℕ, ◌+◌, ◌<◌, ◌⊎◌, inl, inr, cond, List, [], ◌∷◌, ◌++◌, length, map, Option, Some, None, IsSome, refl, sym, ap, subst, ◌∙◌, arith, append_assoc}
+use Rattle.std.proofs.lemmas.List.{append-nil}
 use Rattle.std.specs.Option.{ForSome}
 use Rattle.std.specs.Cmp.{nat_cmp_total}
 use Rattle.std.specs.FinMap as tables
@@ -27,7 +28,7 @@ use Rattle.pass_core.proofs.TurnLemmas.{a_walk_leads, an_edit_keeps_the_rows}
 use Rattle.pass_core.proofs.LeftLemmas.{walk_is_spent}
 use Rattle.filter_bank.specs.Outgoing.{first_walk}
 use Rattle.filter_bank.proofs.OutLemmas.{nothing_at_first}
-use Rattle.peer_out.specs.Remembered.{Exit}
+use Rattle.peer_out.specs.Forms.{Exit}
 use Rattle.peer_out.specs.Changes.{IsSender, message_octets}
 use Rattle.cache_stage.specs.Caches.{kept_after}
 use Rattle.cache_stage.proofs.KeptLemmas.{keeps}
@@ -89,30 +90,19 @@ said_nothing j now c first is =
     as_nothing [] = refl
     as_nothing (e ∷ es) = ap (λ (t : List Line). lines.Journal e ∷ t) (as_nothing es)
 
-pub said_all : (j mid end now : Journaled) (outf adv : List (Entry Value)) (line : Line) → mid ≡ with_entries j outf → end ≡ with_entries mid adv → now ≡ with_lines end (line ∷ [])
-    → now ≡ with_lines j (map (λ e. lines.Journal e) (outf ++ adv) ++ line ∷ [])
-said_all j mid end now outf adv line mid_is end_is now_is =
-    now_is ∙ ap (λ (m : Journaled). with_lines m (line ∷ [])) end_is ∙ with_lines_append mid (as_lines adv) (line ∷ [])
-    ∙ ap (λ (m : Journaled). with_lines m (as_lines adv ++ line ∷ [])) mid_is ∙ with_lines_append j (as_lines outf) (as_lines adv ++ line ∷ [])
-    ∙ ap (with_lines j) (sym (append_assoc (as_lines outf) (as_lines adv) (line ∷ [])) ∙ ap (λ (l : List Line). l ++ line ∷ []) (sym (as_lines_append outf adv)))
+-- where nothing is sent and nothing was read, nothing is said
+pub said_none : (j : Journaled) (c : OutChained) → j ≡ with_lines j (said_of c [] None)
+said_none j c = ap (λ (l : List ℕ). record j { pending = l }) (sym (append-nil j.pending))
 
 -- the lines of a change that is said: its entries, and the message
-pub said_lines : (c v : OutChained) → v ≡ c → (sent : Change Attrs) (n : ℕ) (octets : List ℕ) (j mid end now : Journaled) → n ≡ v.peer.number → octets ≡ message_octets v.exit.profile.as4 sent
-    → mid ≡ with_entries j (valued_change attrs_value (Outf n v.session) sent) → end ≡ with_entries mid (valued_change attrs_value (Adv n v.session) sent) → now ≡ with_lines end (lines.Out n octets ∷ [])
+pub said_lines : (c v : OutChained) → v ≡ c → (sent : Change Attrs) (n : ℕ) (octets : List ℕ) (j mid now : Journaled) → n ≡ v.peer.number → octets ≡ message_octets v.exit.profile.as4 sent
+    → mid ≡ with_entries j (valued_change attrs_value (Outf n v.session) sent ++ valued_change attrs_value (Adv n v.session) sent) → now ≡ with_lines mid (lines.Out n octets ∷ [])
     → now ≡ with_lines j (said_of c [] (Some sent))
-said_lines c v is sent n octets j mid end now number told outf adv out = subst (λ (x : OutChained). now ≡ with_lines j (said_of x [] (Some sent))) is (
+said_lines c v is sent n octets j mid now number told both out = subst (λ (x : OutChained). now ≡ with_lines j (said_of x [] (Some sent))) is (
     let Entries : ℕ → List (Entry Value) = λ m. valued_change attrs_value (Outf m v.session) sent ++ valued_change attrs_value (Adv m v.session) sent in
-    said_all j mid end now (valued_change attrs_value (Outf n v.session) sent) (valued_change attrs_value (Adv n v.session) sent) (lines.Out n octets) outf adv out
+    out ∙ ap (λ (m : Journaled). with_lines m (lines.Out n octets ∷ [])) both ∙ with_lines_append j (as_lines (Entries n)) (lines.Out n octets ∷ [])
     ∙ ap (λ (m : ℕ). with_lines j (map (λ e. lines.Journal e) (Entries m) ++ lines.Out m octets ∷ [])) number
     ∙ ap (λ (o : List ℕ). with_lines j (map (λ e. lines.Journal e) (Entries v.peer.number) ++ lines.Out v.peer.number o ∷ [])) told)
-
--- those of the change that it was formed of
-pub sent_lines : (c v : OutChained) → v ≡ c → (change sent : Change Attrs) (j now : Journaled) → sent ≡ change → now ≡ with_lines j (said_of v [] (Some sent)) → now ≡ with_lines j (said_of c [] (Some change))
-sent_lines c v is change sent j now same said =
-    subst (λ (x : OutChained). now ≡ with_lines j (said_of x [] (Some change))) is (said ∙ ap (λ (s : Change Attrs). with_lines j (said_of v [] (Some s))) same)
-
-pub sent_told : (c v : OutChained) → v ≡ c → (change sent : Change Attrs) → sent ≡ change → IsTold v.exit sent → IsTold c.exit change
-sent_told c v is change sent same told = subst (λ (x : OutChained). IsTold x.exit change) is (subst (IsTold v.exit) same told)
 
 -- ---- what the reader hasn't taken, before and after a turn
 module _ (queued left : Queued Route) (reader : ℕ) where

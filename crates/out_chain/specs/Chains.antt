@@ -20,8 +20,7 @@ use Rattle.pass_core.specs.Passed.{Passed, holds_up, is_beyond}
 use Rattle.pass_core.specs.Turns.{passed_rows}
 use Rattle.pass_core.specs.Left.{turns_left as walk_turns_left}
 use Rattle.filter_bank.specs.Outgoing.{Form, outgoing}
-use Rattle.peer_out.specs.Forms.{as_sent}
-use Rattle.peer_out.specs.Remembered.{Exit}
+use Rattle.peer_out.specs.Forms.{Exit, as_sent}
 use Rattle.peer_out.specs.Changes.{MayBeHeard, IsSender, IsSentOf}
 use Rattle.fanout_queue.specs.Queues.{Queued}
 use Rattle.fanout_queue.specs.Readers.{unread_by, read_rows, ReaderLeads}

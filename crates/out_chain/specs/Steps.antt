@@ -20,7 +20,7 @@ use Rattle.pass_core.specs.Turns.{IsPassedOn, Walks}
 use Rattle.pass_core.specs.Left.{CountsBeyond}
 use Rattle.filter_bank.specs.Outgoing.{first_walk}
 use Rattle.cache_stage.specs.Caches.{kept_after}
-use Rattle.peer_out.specs.Remembered.{Exit}
+use Rattle.peer_out.specs.Forms.{Exit}
 use Rattle.peer_out.specs.Changes.{saying, message_octets, IsReadAs}
 use Rattle.fanout_queue.specs.Queues.{Queued, Takes}
 use Rattle.fanout_queue.specs.Readers.{unread_by, read_rows}

@@ -12,18 +12,18 @@ ghost use Rattle.fanout_queue.specs.Readers.{unread_by, read_rows, read_candidat
 ghost use Rattle.journal_text.specs.declared.value.Value.{Value};
 ghost use Rattle.journal_text.specs.Walk.{HasRow, no_links};
 ghost use Rattle.journal_text.specs.Journals.{with_entries, with_lines};
-ghost use Rattle.journal_text.specs.Values.{route_value, attrs_value};
+ghost use Rattle.journal_text.specs.Values.{route_value};
 ghost use Rattle.out_chain.specs.Chains.{out_links, out_candidates, IsOutChain, RowsMayBeHeard, OutStands, has_out_work, out_lags};
 ghost use Rattle.out_chain.specs.Steps.{exit_to, new_out, start_entries, stop_entries, LeadsOut, LeadsFromBest, with_rules, with_sent, said_of, IsTold, PassesOut, IsWalkedOut, IsOutTurn};
 
 use crate::refresh::still_on;
 use crate::to_peer::ToPeer;
 use addr4::{Memory, Place, Prefix};
-use bgp_attr::{Neighbour, Octets, Profile, Route, SharedAttrs, Speaker};
+use bgp_attr::{Neighbour, Octets, Profile, Route, Speaker};
 use cache_stage::Cache;
 use fanout_queue::{Queue, Reader};
 use filter_bank::OutFilter;
-use journal_text::{Entry, Journal, Line, Link, Value};
+use journal_text::{Entry, Journal, Line, Link, Value, value_of};
 use link_change::{Change, Turn, Upstream};
 use peer_out::{PeerOut, SentRoute};
 use policy_rules::Rules;
@@ -135,7 +135,7 @@ impl OutChain {
         queue: &mut Queue<Route>,
         best: &U,
         journal: &mut Journal,
-    ) -> Result<Turn<SharedAttrs>, Memory>
+    ) -> Result<Turn<SentRoute>, Memory>
         requires stands { OutStands self.old queue.old (U.rows best.now) }
         ensures taken { IfOk result (IsOutTurn self.old self.new queue.old queue.new (U.candidates best.now) (U.rows best.now) journal.old journal.new) }
         ensures others { KeepsOtherReaders self.old.reader queue.old queue.new }
@@ -155,7 +155,7 @@ impl OutChain {
         &mut self,
         change: Change<Route>,
         journal: &mut Journal,
-    ) -> Result<Option<Change<SharedAttrs>>, Memory>
+    ) -> Result<Option<Change<SentRoute>>, Memory>
         requires chain { IsOutChain self.old }
         requires differs { change.after ≢ change.before }
         requires heard { ForSome change.after (λ r. MayBeHeard self.old.exit.profile r.attrs) }
@@ -163,13 +163,11 @@ impl OutChain {
     {
         let link = Link::Read(u32::from(self.peer.number), self.session);
         journal.push_change(link, &change)?;
-        match self.filter.take_in(change, &mut self.to_peer, &self.peer)? {
-            None => Ok(None),
-            Some(sent) => {
-                let sent = self.send(sent, journal)?;
-                Ok(Some(sent))
-            }
+        let sent = self.filter.take_in(change, &self.to_peer, &self.peer)?;
+        if let Some(sent) = &sent {
+            self.send(sent, journal)?;
         }
+        Ok(sent)
     }
 
     // One turn of the filter's walk over the best rows, which are those that the reader has.
@@ -177,56 +175,41 @@ impl OutChain {
         &mut self,
         best: &U,
         journal: &mut Journal,
-    ) -> Result<Turn<SharedAttrs>, Memory>
+    ) -> Result<Turn<SentRoute>, Memory>
         requires chain { IsOutChain self.old }
         requires heard { RowsMayBeHeard self.old.exit.profile (U.rows best.now) }
         ensures { IfOk result (IsWalkedOut self.old self.new (U.candidates best.now) (U.rows best.now) journal.old journal.new) }
     {
-        match self.filter.unit(best, &mut self.to_peer, &self.peer)? {
-            Turn::Nothing => Ok(Turn::Nothing),
-            Turn::Quiet => Ok(Turn::Quiet),
-            Turn::Sent(change) => {
-                let sent = self.send(change, journal)?;
-                Ok(Turn::Sent(sent))
-            }
+        let turn = self.filter.unit(best, &self.to_peer, &self.peer)?;
+        if let Turn::Sent(change) = &turn {
+            self.send(change, journal)?;
         }
+        Ok(turn)
     }
 
     // A change of what the filter makes is kept, and said to the peer. The walk of a refresh ends where no row lies beyond its place
-    // any more. What is printed and said is formed once.
-    fn send(
-        &mut self,
-        change: Change<SentRoute>,
-        journal: &mut Journal,
-    ) -> Result<Change<SharedAttrs>, Memory>
-        requires { ForSome change.after (IsSentOf self.old.exit.profile self.old.exit.external change.prefix) }
-        ensures passed { IfOk result (λ sent. sent ≡ change) }
-        ensures after { OnOk result (self.new ≡ with_sent self.old (Some change)) }
-        ensures lines { OnOk result (journal.new ≡ with_lines journal.old (said_of self.old [] (Some change))) }
-        ensures told { OnOk result (IsTold self.old.exit change) }
+    // any more.
+    fn send(&mut self, change: &Change<SentRoute>, journal: &mut Journal) -> Result<(), Memory>
+        requires { ForSome change.now.after (IsSentOf self.old.exit.profile self.old.exit.external change.now.prefix) }
+        ensures after { OnOk result (self.new ≡ with_sent self.old (Some change.now)) }
+        ensures lines { OnOk result (journal.new ≡ with_lines journal.old (said_of self.old [] (Some change.now))) }
+        ensures told { OnOk result (IsTold self.old.exit change.now) }
     {
         self.sent.keep(change.prefix, &change.after)?;
         self.refresh = still_on(&self.sent, self.refresh);
-        let sent = self.to_peer.out.formed(&change)?;
-        match self.say(&sent, journal) {
-            Ok(()) => Ok(sent),
-            Err(fault) => {
-                drop(sent);
-                Err(fault)
-            }
-        }
+        self.say(change, journal)
     }
 
     // A change goes out on `outf.J.S` and `adv.J.S`, and is said to the peer.
-    fn say(&mut self, sent: &Change<SharedAttrs>, journal: &mut Journal) -> Result<(), Memory>
-        requires { ForSome sent.now.after (IsSentOf self.old.exit.profile self.old.exit.external sent.now.prefix) }
-        ensures same { OnOk result (self.new ≡ self.old) }
-        ensures lines { OnOk result (journal.new ≡ with_lines journal.old (said_of self.old [] (Some sent.now))) }
-        ensures told { OnOk result (IsTold self.old.exit sent.now) }
+    fn say(&self, sent: &Change<SentRoute>, journal: &mut Journal) -> Result<(), Memory>
+        requires { ForSome sent.now.after (IsSentOf self.now.exit.profile self.now.exit.external sent.now.prefix) }
+        ensures lines { OnOk result (journal.new ≡ with_lines journal.old (said_of self.now [] (Some sent.now))) }
+        ensures told { OnOk result (IsTold self.now.exit sent.now) }
     {
         let number = u32::from(self.peer.number);
-        journal.push_change(Link::Outf(number, self.session), sent)?;
-        journal.push_change(Link::Adv(number, self.session), sent)?;
+        let outf = Link::Outf(number, self.session);
+        let adv = Link::Adv(number, self.session);
+        journal.push_change_on_both(outf, adv, sent)?;
         let octets = self.to_peer.out.message(sent)?;
         journal.push_line(Line::Out(number, Octets::from_vec(octets)))?;
         Ok(())
@@ -295,23 +278,13 @@ impl OutChain {
             Link::Outf(_, _) => {
                 let row = queue.asked(&self.reader, best, p)?;
                 let sent = self.filter.made(p, row, &self.to_peer, &self.peer)?;
-                self.attrs_value(&sent)
+                value_of(&sent)
             }
             Link::Adv(_, _) => {
                 let sent = Upstream::asked(&self.sent, &p)?;
-                self.attrs_value(&sent)
+                value_of(&sent)
             }
             _ => unreachable!(),
-        }
-    }
-
-    // A row of `outf.J.S` or `adv.J.S`, as a value.
-    fn attrs_value(&self, row: &Option<SentRoute>) -> Result<Option<Value>, Memory>
-        ensures { IfOk result (λ value. value ≡ option_map attrs_value row.now) }
-    {
-        match row {
-            Some(row) => Ok(Some(Value::Attrs(self.to_peer.out.form(row)?))),
-            None => Ok(None),
         }
     }
 

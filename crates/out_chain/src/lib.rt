@@ -20,8 +20,9 @@
 //! ([`unless_held_up_all_is_sent`]).
 //!
 //! The best rows are lent to the calls that need them, and so is the queue. Nothing is kept twice but what was sent: a withdrawal
-//! has to name it, and the peer can't be asked. Of that the routes are kept, which share their attributes with the table in; the
-//! attributes that the peer gets, which contracts see, are made where they are needed. For want of memory a call may stop half way. The chain may then only be
+//! has to name it, and the peer can't be asked. Of that the routes are kept, which share their attributes with the table in, and lend
+//! the attributes that the peer gets, which contracts see: a turn takes no memory but a row's share, the message, and the values of
+//! the journal's entries where there are any. For want of memory a call may stop half way. The chain may then only be
 //! dropped: nothing is said of it.
 #![tactic(auto)]
 

@@ -18,11 +18,7 @@ impl Sent for ToPeer {
 
     ghost form = { λ s. form_of s.out };
 
-    fn sent(&mut self, p: &Prefix, row: &Route) -> Result<Option<SentRoute>, Memory> {
+    fn sent(&self, p: &Prefix, row: &Route) -> Result<Option<SentRoute>, Memory> {
         self.out.sent(*p, row)
-    }
-
-    fn asked(&self, p: &Prefix, row: &Route) -> Result<Option<SentRoute>, Memory> {
-        self.out.asked(*p, row)
     }
 }

@@ -1,2 +1,1 @@
-pub mod FormLemmas
 pub mod SentLemmas

@@ -41,6 +41,8 @@ abbrev pub as_sent : Profile → Speaker → Bool → Network → Route → Opti
 as_sent profile me external p row =
     if nat_le (announcement_length profile.as4 p (sent_form profile me external row)) 4096 then Some (sent_form profile me external row) else None
 
--- What is sent at a prefix of a form: the form where its announcement fits.
-abbrev pub fitting : Bool → Network → Attrs → Option Attrs
-fitting as4 p form = if nat_le (announcement_length as4 p form) 4096 then Some form else None
+-- who sends to which kind of peer
+pub record Exit : Type 0 where
+  pub profile : Profile
+  pub me : Speaker
+  pub external : Bool

@@ -5,12 +5,12 @@
 //! and of a route reflector with the route of another internal peer who sent it and the reflector's cluster (RFC 4456, section 8). A route whose announcement is longer than a message isn't sent.
 //!
 //! What is kept is the route itself ([`SentRoute`]): its attributes as they were received, shared with the table in, and the
-//! few words that the form takes from elsewhere. The form is made where it is needed, and contracts see it alone. So two are equal
-//! where the peer gets the same, though the routes may differ in what it doesn't get; that is told without making a form.
-//! [`PeerOut`] answers what one peer is sent, and remembers the last two forms that it made: those of the rows of a change.
+//! few words that the form takes from elsewhere. Contracts see the form alone. It is lent ([`SentRoute::lent`]): its octets are
+//! counted and written from that, and it is made for a value of the journal alone. Two routes are equal where the peer gets the same,
+//! though they may differ in what it doesn't get; that is told without making a form. [`PeerOut`] answers what one peer is sent.
 //!
 //! [`message`] gives the octets of a change of what a peer was sent, an announcement or a withdrawal of one prefix;
-//! [`announcement`] those of an announcement whose attributes are lent, the same. What is kept true: a neighbour that reads these
+//! [`announcement`] those of an announcement of a route that is lent, the same. What is kept true: a neighbour that reads these
 //! octets reads that change and nothing else ([`the_peer_reads_the_change`]). It holds for every route whose attributes some
 //! neighbour may have said (`MayBeHeard`), which is kept of all live routes.
 //!

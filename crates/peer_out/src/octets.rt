@@ -7,8 +7,9 @@ ghost use Rattle.bgp_wire.specs.Spelling.{FitsAttrs, update_octets};
 ghost use Rattle.bgp_wire.specs.Lengths.{announcement_length};
 ghost use Rattle.peer_out.specs.Changes.{saying, message_octets, HasNumbers, IsReadAs, IsSentOf};
 
+use crate::sent_route::SentRoute;
 use addr4::{Addr, Memory, Prefix};
-use bgp_attr::{Attrs, Profile, SharedAttrs};
+use bgp_attr::{LentAttrs, Profile};
 use bgp_wire::{write_announcement, write_withdrawal};
 use link_change::Change;
 use std::alloc::Global;
@@ -23,12 +24,12 @@ fn known(number: Option<u32>)
     }
 }
 
-// So has the originator's identifier,
-fn known_originator(originator: Option<Addr>)
-    ensures { ForSome originator (λ n. n < 2 ^ 32) }
+// So have the originator's identifier
+fn known_addr(addr: Option<Addr>)
+    ensures { ForSome addr (λ n. n < 2 ^ 32) }
 {
-    match originator {
-        Some(originator) => originator.known(),
+    match addr {
+        Some(addr) => addr.known(),
         None => {}
     }
 }
@@ -42,20 +43,21 @@ fn known_clusters(clusters: &[Addr])
     }
 }
 
-fn known_numbers(attrs: &Attrs)
+fn known_numbers(attrs: &LentAttrs<'_>)
     ensures { HasNumbers attrs.now }
 {
     known(attrs.med);
     known(attrs.local_pref);
-    known_originator(attrs.reflection.originator());
-    known_clusters(attrs.reflection.clusters());
+    known_addr(attrs.reflection.originator);
+    known_addr(attrs.reflection.front);
+    known_clusters(attrs.reflection.others);
 }
 
 fn announce(
     alloc: Global,
     profile: Profile,
     prefix: Prefix,
-    attrs: &Attrs,
+    attrs: &LentAttrs<'_>,
 ) -> Result<Vec<u8>, Memory>
     requires fits { FitsAttrs profile.as4 attrs.now }
     requires short { announcement_length profile.as4 prefix attrs.now ≤ 4096 }
@@ -66,13 +68,13 @@ fn announce(
     Ok(octets.unwrap())
 }
 
-/// The octets of the UPDATE that announces one prefix with attributes that a peer is sent ([`crate::as_sent`]): those of every
-/// change after which the prefix has them. The attributes are lent. Memory only for want of memory.
+/// The octets of the UPDATE that announces one prefix with a route that a peer is sent ([`crate::as_sent`]): those of every change
+/// after which the prefix has it. They are written from what the route lends, and take the only memory. Memory only for want of it.
 pub fn announcement(
     alloc: Global,
     profile: Profile,
     prefix: Prefix,
-    sent: &SharedAttrs,
+    sent: &SentRoute,
     external: bool,
 ) -> Result<Vec<u8>, Memory>
     requires { IsSentOf profile external prefix sent.now }
@@ -82,18 +84,18 @@ pub fn announcement(
     ensures reads { IfOk result (λ octets. IsReadAs profile external octets.items (announcement prefix sent.now)) }
 {
     prefix.known();
-    let attrs = sent.attrs();
-    known_numbers(attrs);
-    announce(alloc, profile, prefix, attrs)
+    let attrs = sent.lent();
+    known_numbers(&attrs);
+    announce(alloc, profile, prefix, &attrs)
 }
 
 /// The octets of the UPDATE that says a change of what a peer was sent (RFC 4271, section 4.3): one prefix is announced with the
 /// attributes after the change, or withdrawn. The attributes are those that [`crate::as_sent`] answers for that prefix and this
-/// peer, of some route that may be heard. Memory only for want of memory.
+/// peer, of some route that may be heard. The octets take the only memory. Memory only for want of it.
 pub fn message(
     alloc: Global,
     profile: Profile,
-    change: &Change<SharedAttrs>,
+    change: &Change<SentRoute>,
     external: bool,
 ) -> Result<Vec<u8>, Memory>
     requires { ForSome change.now.after (IsSentOf profile external change.now.prefix) }

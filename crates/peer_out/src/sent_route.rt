@@ -3,10 +3,15 @@
 ghost use Rattle.std.specs.Prelude.{◌≡◌, ◌↔◌, ◌+◌, IfOk, IsTrue, false};
 ghost use Rattle.bgp_attr.specs.Reflections.{reflected_by};
 ghost use Rattle.peer_out.specs.Forms.{sent_form};
+ghost use Rattle.journal_text.specs.Values.{attrs_value};
 ghost use Rattle.peer_out.specs.Terms.{path_by, hop_by, pref_by, reflection_by, form_by, HaveOneWay, HaveOneRest};
 
 use addr4::{Addr, Memory, Row};
-use bgp_attr::{AsPath, Attrs, Profile, Reflection, Route, SharedAttrs, Speaker};
+use bgp_attr::{
+    AsPath, Attrs, LentAttrs, LentPath, LentReflection, Profile, Reflection, Route, SharedAttrs,
+    Speaker,
+};
+use journal_text::{Value, Valued};
 use std::alloc::Global;
 use std::marker::Model;
 
@@ -23,10 +28,10 @@ pub(crate) struct Outside {
 
 impl Outside {
     /// How often the local AS is put in front of the path.
-    fn times(self) -> u32
+    fn times(self) -> u16
         ensures { result ≡ 1 + self.prepend }
     {
-        1 + u32::from(self.prepend)
+        1 + u16::from(self.prepend)
     }
 }
 
@@ -88,6 +93,19 @@ impl Terms {
         }
     }
 
+    fn lent_path(self, path: &AsPath) -> LentPath<'_>
+        ensures { result ≡ path_by self path.now }
+    {
+        match self {
+            Terms::External(outside) => {
+                let asn = outside.asn;
+                let times = outside.times();
+                path.lent_in_front(asn, times)
+            }
+            Terms::Internal(_) | Terms::Inside(_) => path.lent(),
+        }
+    }
+
     fn next_hop(self, next_hop: Addr) -> Addr
         ensures { result ≡ hop_by self next_hop }
     {
@@ -115,13 +133,24 @@ impl Terms {
             Terms::Inside(passed) => reflection.reflected(alloc, passed.sender, passed.cluster),
         }
     }
+
+    fn lent_reflection(self, reflection: &Reflection) -> LentReflection<'_>
+        ensures { result ≡ reflection_by self reflection.now }
+    {
+        match self {
+            Terms::External(_) | Terms::Internal(_) => LentReflection::none(),
+            Terms::Inside(passed) => reflection.lent_reflected(passed.sender, passed.cluster),
+        }
+    }
 }
 
-/// A route as a peer is sent it: the route that the rules let out, of which the attributes that the peer gets are made where
-/// they are needed. Contracts see these attributes, so two are equal where the peer gets the same of both. A table keeps one for
-/// each prefix that was sent: so it has 32 octets and owns nothing but its share of the attributes.
+/// A route as a peer is sent it: the route that the rules let out, which lends the attributes that the peer gets. Contracts see
+/// these attributes, so two are equal where the peer gets the same of both. A table keeps one for each prefix that was sent: so it
+/// has 32 octets and owns nothing but its share of the attributes.
 #[derive(Drop)]
 pub struct SentRoute {
+    /// Where its form is made, if it is.
+    alloc: Global,
     /// As they were received, shared with the table in.
     attrs: SharedAttrs,
     /// MULTI_EXIT_DISC, which rules may have set.
@@ -142,8 +171,10 @@ impl Model for SentRoute {
 }
 
 impl SentRoute {
-    /// A route as it is sent to a peer, external or internal to this speaker. Takes no memory: the attributes are shared.
+    /// A route as it is sent to a peer, external or internal to this speaker. Takes no memory: the attributes are shared. A form
+    /// that is made of it comes from `alloc`.
     pub fn new(
+        alloc: Global,
         profile: Profile,
         me: &Speaker,
         external: bool,
@@ -154,19 +185,44 @@ impl SentRoute {
         let attrs = row.attrs.copy()?;
         let terms = Terms::new(profile, me, external, row);
         Ok(SentRoute {
+            alloc,
             attrs,
             med: row.med,
             terms,
         })
     }
 
-    /// The attributes that the peer gets. Memory only for want of memory.
-    pub fn form(&self, alloc: Global) -> Result<Attrs, Memory>
+    /// The attributes that the peer gets, lent. Takes no memory.
+    pub fn lent(&self) -> LentAttrs<'_>
+        ensures { result ≡ self.now }
+    {
+        let attrs = self.attrs.attrs();
+        LentAttrs {
+            path: self.terms.lent_path(&attrs.path),
+            unrecognized: attrs.unrecognized.as_slice(),
+            reflection: self.terms.lent_reflection(&attrs.reflection),
+            aggregator: attrs.aggregator,
+            med: self.med,
+            local_pref: self.terms.local_pref(),
+            next_hop: self.terms.next_hop(attrs.next_hop),
+            origin: attrs.origin,
+            atomic: attrs.atomic,
+        }
+    }
+
+    /// The attributes that the peer gets, made: for what is printed of the route. Memory only for want of memory.
+    pub fn form(&self) -> Result<SharedAttrs, Memory>
+        ensures { IfOk result (λ form. form ≡ self.now) }
+    {
+        SharedAttrs::new(self.alloc, self.made()?)
+    }
+
+    fn made(&self) -> Result<Attrs, Memory>
         ensures { IfOk result (λ form. form ≡ self.now) }
     {
         let attrs = self.attrs.attrs();
         let path = self.terms.path(&attrs.path)?;
-        let reflection = self.terms.reflection(alloc, &attrs.reflection)?;
+        let reflection = self.terms.reflection(self.alloc, &attrs.reflection)?;
         let unrecognized = attrs.unrecognized.copy()?;
         Ok(Attrs {
             origin: attrs.origin,
@@ -187,6 +243,7 @@ impl Row for SentRoute {
     fn copy(&self) -> Result<SentRoute, Memory> {
         let attrs = self.attrs.copy()?;
         Ok(SentRoute {
+            alloc: self.alloc,
             attrs,
             med: self.med,
             terms: self.terms,
@@ -203,6 +260,19 @@ impl Row for SentRoute {
     }
 }
 
+impl Valued for SentRoute {
+    ghost use Rattle.std.proofs.Common.{rules};
+
+    ghost value = { attrs_value };
+
+    ghost told = { λ a b same. Prim.search rules };
+
+    /// The form is made.
+    fn to_value(&self) -> Result<Value, Memory> {
+        Ok(Value::Attrs(self.form()?))
+    }
+}
+
 /// Whether two forms have the same path, next hop and LOCAL_PREF, and the same of reflectors. An internal peer gets a LOCAL_PREF, an
 /// external one none; an external one gets the local AS in front of the path at least once; and a route that is passed on inside the
 /// AS has a cluster.
@@ -213,9 +283,12 @@ fn has_one_way(terms: Terms, attrs: &Attrs, other: Terms, others: &Attrs) -> boo
         (Terms::External(one), Terms::External(two)) => {
             one.asn == two.asn
                 && one.addr == two.addr
-                && attrs
-                    .path
-                    .same_in_front(one.asn, one.times(), &others.path, two.times())
+                && attrs.path.same_in_front(
+                    one.asn,
+                    u32::from(one.times()),
+                    &others.path,
+                    u32::from(two.times()),
+                )
         }
         (Terms::Internal(one), Terms::Internal(two)) => {
             one == two && attrs.next_hop == others.next_hop && attrs.path.same(&others.path)

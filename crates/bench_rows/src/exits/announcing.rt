@@ -57,15 +57,9 @@ fn own(alloc: Global) -> Result<Route, Memory>
 }
 
 /// The message that announces a route.
-fn announce(
-    exit: &mut PeerOut,
-    row: &Route,
-    index: u64,
-    measured: &mut Measured,
-) -> Result<(), Memory>
-    requires sender { IsSender exit.old.profile exit.old.me }
-    requires heard { MayBeHeard exit.old.profile row.now.attrs }
-    ensures { exit.new ≡ exit.old }
+fn announce(exit: &PeerOut, row: &Route, index: u64, measured: &mut Measured) -> Result<(), Memory>
+    requires sender { IsSender exit.now.profile exit.now.me }
+    requires heard { MayBeHeard exit.now.profile row.now.attrs }
 {
     let Some(prefix) = prefix_at(index) else {
         return Ok(());
@@ -78,16 +72,15 @@ fn announce(
         before: None,
         after: Some(sent),
     };
-    let formed = exit.formed(&change)?;
-    let octets = exit.message(&formed)?;
+    let octets = exit.message(&change)?;
     measured.add(octets.len() as u64);
     Ok(())
 }
 
 /// So many routes, of which five after one another have the same attributes, as those of one message.
-fn announce_all(exit: &mut PeerOut, row: &mut Route, routes: u64) -> Result<Measured, Memory>
-    requires sender { IsSender exit.old.profile exit.old.me }
-    requires heard { MayBeHeard exit.old.profile row.old.attrs }
+fn announce_all(exit: &PeerOut, row: &mut Route, routes: u64) -> Result<Measured, Memory>
+    requires sender { IsSender exit.now.profile exit.now.me }
+    requires heard { MayBeHeard exit.now.profile row.old.attrs }
 {
     let mut measured = Measured { count: 0, sum: 0 };
     for index in 0..routes {
@@ -101,6 +94,6 @@ fn announce_all(exit: &mut PeerOut, row: &mut Route, routes: u64) -> Result<Meas
 /// So many routes are announced.
 pub(crate) fn run(alloc: Global, routes: u64) -> Result<Measured, Memory> {
     let mut row = own(alloc)?;
-    let mut exit = PeerOut::new(alloc, PROFILE, speaker(), true);
-    announce_all(&mut exit, &mut row, routes)
+    let exit = PeerOut::new(alloc, PROFILE, speaker(), true);
+    announce_all(&exit, &mut row, routes)
 }

@@ -5,12 +5,9 @@ ghost use Rattle.bgp_attr.specs.declared.path.SegmentKind.TheVariants.{Sequence}
 ghost use Rattle.bgp_attr.specs.Paths.{in_front, times_in_front};
 ghost use Rattle.bgp_attr.specs.Words.{head_of, segments_after, missing_after};
 
-use super::{AsPath, SegmentKind};
+use super::{AsPath, MOST, SegmentKind};
 use crate::words::{count_in, head_of, kind_in};
 use addr4::Memory;
-
-/// How many numbers a segment has at most, on the wire.
-const MOST: u8 = 255;
 
 /// Where an AS put in front stands: before how many numbers of its segment, and the words from these on. They are those of a
 /// leading AS_SEQUENCE with room for one more AS in the one octet of its count; else there are none, and all words follow.

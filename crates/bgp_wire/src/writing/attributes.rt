@@ -1,7 +1,9 @@
 //! Path attributes that are written (RFC 4271, sections 4.3 and 5).
 
-ghost use Rattle.std.specs.Prelude.{◌≡◌, ◌<◌, ◌+◌, ◌++◌, ◌∷◌, [], OnOk, IfOk, All, if◌then◌else◌};
+ghost use Rattle.std.specs.Prelude.{◌≡◌, ◌<◌, ◌+◌, ◌++◌, ◌∷◌, [], OnOk, IfOk, All, replicate, if◌then◌else◌};
 ghost use Rattle.std.specs.Option.{ForSome};
+ghost use Rattle.std.specs.List.{flat_map};
+ghost use Rattle.bgp_attr.specs.Lent.{clusters_behind};
 ghost use Rattle.byteorder.specs.Endian.{big_bytes};
 ghost use Rattle.bgp_wire.specs.Paths.{width_of};
 ghost use Rattle.bgp_wire.specs.Routes.{code_of_origin};
@@ -14,10 +16,12 @@ use crate::attributes::{
 };
 use crate::numbers::width;
 use crate::path::{AS_SEQUENCE, AS_SET};
-use crate::writing::lengths::path_length;
+use crate::writing::lengths::{clusters_size, path_length};
 use crate::writing::numbers::{push_asn, push_u16, push_u32};
 use addr4::{Addr, Memory};
-use bgp_attr::{Aggregator, AsPath, Attrs, Origin, Reflection, Segment, SegmentKind, Unrecognized};
+use bgp_attr::{
+    Aggregator, LentAttrs, LentPath, LentReflection, LentSegment, Origin, SegmentKind, Unrecognized,
+};
 
 const WELL_KNOWN: u8 = 0x40;
 
@@ -52,11 +56,11 @@ fn stands_in(place: Place, kind: u8) -> bool
 }
 
 /// A route's attributes by ascending type.
-pub(crate) fn push_attrs(out: &mut Vec<u8>, as4: bool, attrs: &Attrs) -> Result<(), Memory>
+pub(crate) fn push_attrs(out: &mut Vec<u8>, as4: bool, attrs: &LentAttrs<'_>) -> Result<(), Memory>
     requires { FitsAttrs as4 attrs.now }
     ensures { OnOk result (out.new.items ≡ out.old.items ++ octets_of (sent_attributes as4 attrs.now)) }
 {
-    let unrecognized = attrs.unrecognized.as_slice();
+    let unrecognized = attrs.unrecognized;
     push_unrecognized(out, Place::First, unrecognized)?;
     push_mandatory(out, as4, attrs)?;
     push_further(out, as4, attrs)?;
@@ -66,7 +70,7 @@ pub(crate) fn push_attrs(out: &mut Vec<u8>, as4: bool, attrs: &Attrs) -> Result<
 }
 
 /// ORIGIN, AS_PATH and NEXT_HOP.
-fn push_mandatory(out: &mut Vec<u8>, as4: bool, attrs: &Attrs) -> Result<(), Memory>
+fn push_mandatory(out: &mut Vec<u8>, as4: bool, attrs: &LentAttrs<'_>) -> Result<(), Memory>
     requires { FitsAttrs as4 attrs.now }
     ensures { OnOk result (out.new.items ≡ out.old.items ++ octets_of (mandatory_attributes as4 attrs.now)) }
 {
@@ -77,7 +81,7 @@ fn push_mandatory(out: &mut Vec<u8>, as4: bool, attrs: &Attrs) -> Result<(), Mem
 }
 
 /// MULTI_EXIT_DISC, LOCAL_PREF, ATOMIC_AGGREGATE and AGGREGATOR, if they are there.
-fn push_further(out: &mut Vec<u8>, as4: bool, attrs: &Attrs) -> Result<(), Memory>
+fn push_further(out: &mut Vec<u8>, as4: bool, attrs: &LentAttrs<'_>) -> Result<(), Memory>
     requires { FitsAttrs as4 attrs.now }
     ensures { OnOk result (out.new.items ≡ out.old.items ++ octets_of (further_attributes as4 attrs.now)) }
 {
@@ -124,12 +128,12 @@ fn push_origin(out: &mut Vec<u8>, origin: Origin) -> Result<(), Memory>
     push_attribute(out, WELL_KNOWN, ORIGIN, &[code])
 }
 
-fn push_path(out: &mut Vec<u8>, as4: bool, path: &AsPath) -> Result<(), Memory>
+fn push_path(out: &mut Vec<u8>, as4: bool, path: &LentPath<'_>) -> Result<(), Memory>
     requires { All (FitsSegment as4) path.now }
     ensures { OnOk result (out.new.items ≡ out.old.items ++ (spelled 64 2 (path_octets (width_of as4) path.now)).octets) }
 {
     push_head(out, WELL_KNOWN, AS_PATH, path_length(as4, path))?;
-    let mut rest = path.segments();
+    let mut rest = path.lent();
     'segments: while let Some((segment, others)) = rest.split_first() {
         push_segment(out, as4, &segment)?;
         rest = others;
@@ -137,7 +141,8 @@ fn push_path(out: &mut Vec<u8>, as4: bool, path: &AsPath) -> Result<(), Memory>
     Ok(())
 }
 
-fn push_segment(out: &mut Vec<u8>, as4: bool, segment: &Segment<'_>) -> Result<(), Memory>
+/// A segment: its type, the count of its numbers, and these.
+fn push_segment(out: &mut Vec<u8>, as4: bool, segment: &LentSegment<'_>) -> Result<(), Memory>
     requires { FitsSegment as4 segment.now }
     ensures { OnOk result (out.new.items ≡ out.old.items ++ segment_octets (width_of as4) segment.now) }
 {
@@ -147,7 +152,26 @@ fn push_segment(out: &mut Vec<u8>, as4: bool, segment: &Segment<'_>) -> Result<(
     };
     let numbers = segment.numbers.as_slice();
     out.push(code)?;
-    out.push(numbers.len() as u8)?;
+    out.push(segment.times + numbers.len() as u8)?;
+    push_repeated(out, as4, segment.asn, segment.times)?;
+    push_numbers(out, as4, numbers)
+}
+
+/// The AS so many times.
+fn push_repeated(out: &mut Vec<u8>, as4: bool, asn: u32, times: u8) -> Result<(), Memory>
+    requires { All (FitsWidth as4) (replicate times asn) }
+    ensures { OnOk result (out.new.items ≡ out.old.items ++ flat_map (big_bytes (width_of as4)) (replicate times asn)) }
+{
+    for turn in 0..times {
+        push_asn(out, as4, asn)?;
+    }
+    Ok(())
+}
+
+fn push_numbers(out: &mut Vec<u8>, as4: bool, numbers: &[u32]) -> Result<(), Memory>
+    requires { All (FitsWidth as4) numbers.now }
+    ensures { OnOk result (out.new.items ≡ out.old.items ++ flat_map (big_bytes (width_of as4)) numbers.now) }
+{
     for asn in numbers {
         push_asn(out, as4, *asn)?;
     }
@@ -198,24 +222,49 @@ fn push_aggregator(
 }
 
 /// ORIGINATOR_ID and CLUSTER_LIST, if they are there (RFC 4456, section 8).
-fn push_reflection(out: &mut Vec<u8>, reflection: &Reflection) -> Result<(), Memory>
+fn push_reflection(out: &mut Vec<u8>, reflection: &LentReflection<'_>) -> Result<(), Memory>
     ensures { OnOk result (out.new.items ≡ out.old.items ++ octets_of (reflection_attributes reflection.now)) }
 {
-    let originator = reflection.originator().map(|id| id.number());
+    let originator = reflection.originator.map(|id| id.number());
     push_number(out, OPTIONAL, ORIGINATOR_ID, originator)?;
-    push_clusters(out, reflection.clusters())
+    push_clusters(out, reflection)
 }
 
 /// CLUSTER_LIST, if there is a cluster.
-fn push_clusters(out: &mut Vec<u8>, clusters: &[Addr]) -> Result<(), Memory>
-    ensures { OnOk result (out.new.items ≡ out.old.items ++ octets_of (clusters_attributes clusters.now)) }
+fn push_clusters(out: &mut Vec<u8>, reflection: &LentReflection<'_>) -> Result<(), Memory>
+    ensures { OnOk result (out.new.items ≡ out.old.items ++ octets_of (clusters_attributes reflection.now.clusters)) }
 {
-    if clusters.is_empty() {
+    let size = clusters_size(reflection);
+    if size == 0 {
         return Ok(());
     }
-    push_head(out, OPTIONAL, CLUSTER_LIST, 4 * clusters.len() as u128)?;
-    for cluster in clusters {
-        push_u32(out, cluster.number())?;
+    push_head(out, OPTIONAL, CLUSTER_LIST, size)?;
+    push_cluster_ids(out, reflection)
+}
+
+/// The clusters: the one in front, then the others.
+fn push_cluster_ids(out: &mut Vec<u8>, reflection: &LentReflection<'_>) -> Result<(), Memory>
+    ensures { OnOk result (out.new.items ≡ out.old.items ++ flat_map (big_bytes 4) reflection.now.clusters) }
+{
+    push_front(out, reflection.front)?;
+    push_ids(out, reflection.others)
+}
+
+/// The cluster in front, if one stands there.
+fn push_front(out: &mut Vec<u8>, front: Option<Addr>) -> Result<(), Memory>
+    ensures { OnOk result (out.new.items ≡ out.old.items ++ flat_map (big_bytes 4) (clusters_behind front [])) }
+{
+    match front {
+        None => Ok(()),
+        Some(front) => push_u32(out, front.number()),
+    }
+}
+
+fn push_ids(out: &mut Vec<u8>, ids: &[Addr]) -> Result<(), Memory>
+    ensures { OnOk result (out.new.items ≡ out.old.items ++ flat_map (big_bytes 4) ids.now) }
+{
+    for id in ids {
+        push_u32(out, id.number())?;
     }
     Ok(())
 }

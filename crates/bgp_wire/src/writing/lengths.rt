@@ -1,6 +1,6 @@
 //! How many octets are written, without writing them.
 
-ghost use Rattle.std.specs.Prelude.{◌≡◌, ◌+◌, ◌<◌, ◌≤◌, ◌^◌, length, map, nat_le, Bool, ℕ, if◌then◌else◌, [], ◌∷◌};
+ghost use Rattle.std.specs.Prelude.{◌≡◌, ◌+◌, ◌*◌, ◌<◌, ◌≤◌, ◌^◌, length, map, nat_le, Bool, ℕ, if◌then◌else◌, [], ◌∷◌};
 ghost use Rattle.byteorder.specs.Endian.{big_bytes};
 ghost use Rattle.bgp_attr.specs.declared.attrs.Attrs.{Attrs as Route};
 ghost use Rattle.bgp_wire.specs.Paths.{width_of};
@@ -11,31 +11,33 @@ use crate::header::LONGEST;
 use crate::numbers::width;
 use crate::prefixes::octets_for;
 use addr4::{Addr, Prefix};
-use bgp_attr::{Aggregator, AsPath, Attrs, Profile, Reflection, Segment, Unrecognized};
+use bgp_attr::{
+    Aggregator, LentAttrs, LentPath, LentReflection, LentSegment, Profile, Unrecognized,
+};
 
 /// The octets of an attribute whose value has so many.
 pub(crate) fn spelled_length(size: u128) -> u128
-    requires { size < 2 ^ 127 }
+    requires { size ≤ 2 ^ 127 }
     ensures { result ≡ spelled_length size }
 {
     if size > 255 { size + 4 } else { size + 3 }
 }
 
-fn segment_length(as4: bool, segment: &Segment<'_>) -> u128
+fn segment_length(as4: bool, segment: &LentSegment<'_>) -> u128
     ensures value { result ≡ length (segment_octets (width_of as4) segment.now) }
-    ensures small { result ≤ 2 ^ 63 + 4 }
+    ensures small { result < 2 ^ 64 }
 {
     let numbers = segment.numbers.as_slice();
-    2 + numbers.len() as u128 * width(as4) as u128
+    2 + (u128::from(segment.times) + numbers.len() as u128) * width(as4) as u128
 }
 
 /// The octets of the segments of a path.
-pub(crate) fn path_length(as4: bool, path: &AsPath) -> u128
+pub(crate) fn path_length(as4: bool, path: &LentPath<'_>) -> u128
     ensures value { result ≡ length (path_octets (width_of as4) path.now) }
-    ensures small { result < 2 ^ 126 + 2 ^ 66 }
+    ensures small { result ≤ 2 ^ 127 }
 {
     let mut total: u128 = 0;
-    let mut rest = path.segments();
+    let mut rest = path.lent();
     'segments: while let Some((segment, others)) = rest.split_first() {
         total += segment_length(as4, &segment);
         rest = others;
@@ -75,22 +77,35 @@ fn originator_length(originator: Option<Addr>) -> u128
     if originator.is_some() { 7 } else { 0 }
 }
 
-fn clusters_length(clusters: &[Addr]) -> u128
-    ensures value { result ≡ length (octets_of (clusters_attributes clusters.now)) }
+/// The octets of the clusters, the one in front among them.
+pub(crate) fn clusters_size(reflection: &LentReflection<'_>) -> u128
+    ensures value { result ≡ 4 * length reflection.now.clusters }
+    ensures small { result < 2 ^ 69 }
+{
+    let size = 4 * reflection.others.len() as u128;
+    if reflection.front.is_some() {
+        4 + size
+    } else {
+        size
+    }
+}
+
+fn clusters_length(reflection: &LentReflection<'_>) -> u128
+    ensures value { result ≡ length (octets_of (clusters_attributes reflection.now.clusters)) }
     ensures small { result < 2 ^ 70 }
 {
-    match clusters {
-        [] => 0,
-        [_, ..] => spelled_length(4 * clusters.len() as u128),
+    match clusters_size(reflection) {
+        0 => 0,
+        size => spelled_length(size),
     }
 }
 
 /// The octets of ORIGINATOR_ID and CLUSTER_LIST, of those that are there.
-fn reflection_length(reflection: &Reflection) -> u128
+fn reflection_length(reflection: &LentReflection<'_>) -> u128
     ensures value { result ≡ length (octets_of (reflection_attributes reflection.now)) }
     ensures small { result < 2 ^ 71 }
 {
-    originator_length(reflection.originator()) + clusters_length(reflection.clusters())
+    originator_length(reflection.originator) + clusters_length(reflection)
 }
 
 /// The octets of the unrecognized attributes, wherever they stand.
@@ -106,15 +121,15 @@ fn unrecognized_length(items: &[Unrecognized]) -> u128
 }
 
 /// The octets of ORIGIN, AS_PATH and NEXT_HOP.
-fn mandatory_length(as4: bool, attrs: &Attrs) -> u128
+fn mandatory_length(as4: bool, attrs: &LentAttrs<'_>) -> u128
     ensures value { result ≡ length (octets_of (mandatory_attributes as4 attrs.now)) }
-    ensures small { result < 2 ^ 126 + 2 ^ 67 }
+    ensures small { result < 2 ^ 127 + 2 ^ 10 }
 {
     4 + spelled_length(path_length(as4, &attrs.path)) + 7
 }
 
 /// The octets of MULTI_EXIT_DISC, LOCAL_PREF, ATOMIC_AGGREGATE and AGGREGATOR, of those that are there.
-fn further_length(as4: bool, attrs: &Attrs) -> u128
+fn further_length(as4: bool, attrs: &LentAttrs<'_>) -> u128
     ensures value { result ≡ length (octets_of (further_attributes as4 attrs.now)) }
     ensures small { result ≤ 28 }
 {
@@ -145,18 +160,18 @@ pub(crate) fn prefixes_length(prefixes: &[Prefix]) -> usize
 
 /// How many octets a route's attributes have when they are written.
 #[tactic(auto, unfolding(crate::specs::Lengths::attributes_length))]
-pub fn attributes_length(profile: Profile, attrs: &Attrs) -> u128
+pub fn attributes_length(profile: Profile, attrs: &LentAttrs<'_>) -> u128
     ensures value { result ≡ attributes_length profile.as4 attrs.now }
     ensures small { result + 28 < 2 ^ 128 }
 {
-    unrecognized_length(attrs.unrecognized.as_slice())
+    unrecognized_length(attrs.unrecognized)
         + mandatory_length(profile.as4, attrs)
         + further_length(profile.as4, attrs)
         + reflection_length(&attrs.reflection)
 }
 
 /// How many octets the UPDATE has that announces one prefix with these attributes, whether or not it fits into a message.
-pub fn announcement_length(profile: Profile, prefix: Prefix, attrs: &Attrs) -> u128
+pub fn announcement_length(profile: Profile, prefix: Prefix, attrs: &LentAttrs<'_>) -> u128
     ensures { result ≡ announcement_length profile.as4 prefix attrs.now }
 {
     23 + prefix_length(prefix) as u128 + attributes_length(profile, attrs)

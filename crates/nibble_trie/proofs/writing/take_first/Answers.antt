@@ -1,9 +1,11 @@
-use Rattle.std.proofs.Common.{◌≡◌, ◌∙◌, Some, sym, ap, subst}
+use Rattle.std.proofs.Common.{◌∙◌, Some, sym, ap, subst}
+use Rattle.nibble_trie.specs.declared.index.Spot.{Spot}
+use Rattle.nibble_trie.specs.Links.{IsCell}
 use Rattle.nibble_trie.specs.Keys.{prefix_in, longer_in}
-use Rattle.nibble_trie.specs.Index.{Indexes, OnWay, IsAlone, HasLoneWay, with_head}
+use Rattle.nibble_trie.specs.Index.{Indexes, with_head}
 use Rattle.nibble_trie.proofs.Chains.{one_next}
 use Rattle.nibble_trie.proofs.Rows.{node_at, row_of}
-use Rattle.nibble_trie.proofs.Ways.{alone_head}
+use Rattle.nibble_trie.proofs.Ways.{spot_way, alone_head}
 use Rattle.nibble_trie.proofs.Wholes.{first_taken, first_removed_rows}
 use Rattle.nibble_trie.proofs.writing.take_first.Goals as goal
 
@@ -14,11 +16,12 @@ drop_head-requires-clause-way g c =
     let w = c.requires.whole in
     let layout = w.indexes.layout in
     let p = c.args.prefix in
-    let way = c.requires.way w.heads layout w.indexes.holds in
+    let is = c.number-address.ensures ∙ c.address.ensures in
+    let way = spot_way index layout c.args.end p.address c.number-address.result c.spot.result is c.spot.ensures (c.requires.way w.heads layout w.indexes.holds) in
     let has = one_next (prefix_in leaves) (longer_in leaves) p.address 0 (w.heads p.address) (Some c.args.first) w.chained (w.shortest p.address) c.requires.head in
-    let alone = alone_head index w.heads layout p.address c.args.spot c.args.first w.indexes.holds way c.requires.cell has in
-    let ea : p.address ≡ c.number.result = sym (c.number.ensures ∙ c.address.ensures) in
-    subst (λ a. HasLoneWay index a c.args.spot) ea (record { heads = w.heads; layout = layout; holds = w.indexes.holds; way = way; alone = alone })
+    let cell = subst (λ (s : Spot). IsCell s.target) (sym c.spot.ensures) c.requires.cell in
+    let alone = alone_head index w.heads layout c.number-address.result c.spot.result c.args.first w.indexes.holds way cell (ap w.heads is ∙ has) in
+    record { heads = w.heads; layout = layout; holds = w.indexes.holds; way = way; alone = alone }
 
 pub returns-clause-whole : goal.returns-clause-whole
 returns-clause-whole g c =
@@ -27,12 +30,13 @@ returns-clause-whole g c =
     let w = c.requires.whole in
     let layout = w.indexes.layout in
     let p = c.args.prefix in
-    let way = c.requires.way w.heads layout w.indexes.holds in
+    let is = c.number-address.ensures ∙ c.address.ensures in
+    let way = spot_way index layout c.args.end p.address c.number-address.result c.spot.result is c.spot.ensures (c.requires.way w.heads layout w.indexes.holds) in
     let has = one_next (prefix_in leaves) (longer_in leaves) p.address 0 (w.heads p.address) (Some c.args.first) w.chained (w.shortest p.address) c.requires.head in
-    let alone = alone_head index w.heads layout p.address c.args.spot c.args.first w.indexes.holds way c.requires.cell has in
-    let ea : p.address ≡ c.number.result = sym (c.number.ensures ∙ c.address.ensures) in
-    let indexes = c.drop_head.ensures w.heads layout w.indexes.holds (subst (λ a. OnWay index layout a c.args.spot) ea way) (subst (IsAlone w.heads layout c.args.spot.at) ea alone) in
-    first_taken leaves c.take.new.leaves index c.drop_head.new.index c.args.first p w c.requires.found has c.take.ensures.updates (subst (λ a. Indexes c.drop_head.new.index (with_head w.heads a (longer_in leaves c.args.first))) (sym ea) indexes)
+    let cell = subst (λ (s : Spot). IsCell s.target) (sym c.spot.ensures) c.requires.cell in
+    let alone = alone_head index w.heads layout c.number-address.result c.spot.result c.args.first w.indexes.holds way cell (ap w.heads is ∙ has) in
+    let indexes = c.drop_head.ensures w.heads layout w.indexes.holds way alone in
+    first_taken leaves c.take.new.leaves index c.drop_head.new.index c.args.first p w c.requires.found has c.take.ensures.updates (subst (λ a. Indexes c.drop_head.new.index (with_head w.heads a (longer_in leaves c.args.first))) is indexes)
 
 pub returns-clause-before : goal.returns-clause-before
 returns-clause-before g c =

@@ -6,21 +6,21 @@ use Rattle.peer_out.proofs.octets.announcement.Goals as goal
 
 pub announce-requires-clause-fits : goal.announce-requires-clause-fits
 announce-requires-clause-fits c =
-    let can : CanBeRead c.args.profile c.args.external c.args.prefix c.attrs-attrs.result.now =
-    can_be_read c.args.profile c.args.external c.args.prefix c.args.sent.now c.attrs-attrs.result.now c.attrs-attrs.ensures c.known_numbers.ensures c.requires in
-    sent_fits c.args.profile c.args.external c.args.prefix c.attrs-attrs.result.now can
+    let can : CanBeRead c.args.profile c.args.external c.args.prefix c.lent-attrs.result =
+    can_be_read c.args.profile c.args.external c.args.prefix c.args.sent.now c.lent-attrs.result c.lent-attrs.ensures c.known_numbers.ensures c.requires in
+    sent_fits c.args.profile c.args.external c.args.prefix c.lent-attrs.result can
 
 pub announce-requires-clause-short : goal.announce-requires-clause-short
 announce-requires-clause-short c =
-    let can : CanBeRead c.args.profile c.args.external c.args.prefix c.attrs-attrs.result.now =
-    can_be_read c.args.profile c.args.external c.args.prefix c.args.sent.now c.attrs-attrs.result.now c.attrs-attrs.ensures c.known_numbers.ensures c.requires in
+    let can : CanBeRead c.args.profile c.args.external c.args.prefix c.lent-attrs.result =
+    can_be_read c.args.profile c.args.external c.args.prefix c.args.sent.now c.lent-attrs.result c.lent-attrs.ensures c.known_numbers.ensures c.requires in
     can.short
 
 pub returns-clause-reads : goal.returns-clause-reads
 returns-clause-reads c =
     let network : IsNetwork c.args.prefix = record { masked = c.known.ensures.masked; fits = c.known.ensures.fits } in
-    let can : CanBeRead c.args.profile c.args.external c.args.prefix c.attrs-attrs.result.now =
-    can_be_read c.args.profile c.args.external c.args.prefix c.args.sent.now c.attrs-attrs.result.now c.attrs-attrs.ensures c.known_numbers.ensures c.requires in
+    let can : CanBeRead c.args.profile c.args.external c.args.prefix c.lent-attrs.result =
+    can_be_read c.args.profile c.args.external c.args.prefix c.args.sent.now c.lent-attrs.result c.lent-attrs.ensures c.known_numbers.ensures c.requires in
     IfOk-weaker c.announce.result _ _
-    (λ octets is. announcement_said c.args.profile c.args.external c.args.prefix c.args.sent.now c.attrs-attrs.result.now octets.items c.attrs-attrs.ensures network can is)
+    (λ octets is. announcement_said c.args.profile c.args.external c.args.prefix c.args.sent.now c.lent-attrs.result octets.items c.lent-attrs.ensures network can is)
     c.announce.ensures.octets

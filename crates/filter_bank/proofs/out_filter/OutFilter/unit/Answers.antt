@@ -31,4 +31,4 @@ returns-clause-taken g c =
     (subst (λ (s : Passed (Option (List Rule))). IsWalked (outgoing form peer) candidates upper s new (taken_turn c.in_ok-sent.sent)) c.self.view_is
     (goes_on (outgoing form peer) (makes_none_out form peer) candidates upper c.in-Some.ensures.covers old new (key_of c.place.result) p
     (outgoing form peer c.at-former.result.now p c.in_ok-row.row) (outgoing form peer c.coming-latter.result.now p c.in_ok-row.row) c.in_ok-sent.sent
-    busy c.place.ensures c.step_to.ensures c.in-Some.ensures.next before after c.in_ok-sent.ensures.sent))
+    busy c.place.ensures c.step_to.ensures c.in-Some.ensures.next before after c.in_ok-sent.ensures))

@@ -8,12 +8,12 @@ returns-in_ok-read-in-Read g c =
 
 pub returns-in_ok-sent-in-Outf : goal.returns-in_ok-sent-in-Outf
 returns-in_ok-sent-in-Outf g c =
-    IfOk-weaker c.attrs_value.result _ _
+    IfOk-weaker c.value_of.result _ _
     (λ value shown. asked_outf c.args.queue.now (g.U.Upstream.rows c.args.best.now) c.args.self.now _ c.self.view_is c.requires.live c.args.link c.requires.own c.args.p _ _ _ _ value c.in-Outf.is c.in_ok-row-in-Outf.ensures c.in_ok-sent-in-Outf.ensures shown)
-    c.attrs_value.ensures
+    c.value_of.ensures
 
 pub returns-in_ok-sent-in-Adv : goal.returns-in_ok-sent-in-Adv
 returns-in_ok-sent-in-Adv g c =
-    IfOk-weaker c.attrs_value-in-Adv.result _ _
+    IfOk-weaker c.value_of-in-Adv.result _ _
     (λ value shown. asked_adv c.args.queue.now (g.U.Upstream.rows c.args.best.now) c.args.self.now _ c.self.view_is c.requires.live c.args.link c.requires.own c.args.p _ _ _ value c.in-Adv.is c.in_ok-sent-in-Adv.ensures shown)
-    c.attrs_value-in-Adv.ensures
+    c.value_of-in-Adv.ensures

@@ -12,5 +12,5 @@ message-requires c =
 
 pub returns-clause-lines : goal.returns-clause-lines
 returns-clause-lines c =
-    said_lines c.args.self.now _ c.self.view_is c.args.sent.now c.from-number.result c.from_vec.result c.args.journal.now c.push_change.new.self c.push_change-2.new.self c.push_line.new.self
-    c.from-number.ensures (c.from_vec.ensures ∙ c.in_ok-octets.ensures.octets) c.in_ok-push_change.ensures c.in_ok-push_change-2.ensures c.in_ok-push_line.ensures
+    said_lines c.args.self.now _ c.self.view_is c.args.sent.now c.from-number.result c.from_vec.result c.args.journal.now c.push_change_on_both.new.self c.push_line.new.self
+    c.from-number.ensures (c.from_vec.ensures ∙ c.in_ok-octets.ensures.octets) c.in_ok-push_change_on_both.ensures c.in_ok-push_line.ensures

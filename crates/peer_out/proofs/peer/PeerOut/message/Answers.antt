@@ -1,6 +1,6 @@
 use Rattle.std.proofs.Common.{sym, subst}
 use Rattle.std.specs.Option.{ForSome}
-use Rattle.peer_out.specs.Remembered.{Exit}
+use Rattle.peer_out.specs.Forms.{Exit}
 use Rattle.peer_out.specs.Changes.{IsSentOf}
 use Rattle.peer_out.proofs.peer.PeerOut.message.Goals as goal
 
