@@ -17,7 +17,7 @@ use Rattle.link_change.specs.declared.change.Change.{Change}
 use Rattle.link_change.specs.declared.turn.Turn.{Turn}
 use Rattle.link_change.specs.declared.turn.Turn.TheVariants.{Nothing, Quiet, Sent}
 use Rattle.policy_rules.specs.declared.rule.Rule.{Rule}
-use Rattle.fanout_queue.specs.Queues.{Queued}
+use Rattle.fanout_queue.specs.Queues.{Queued, AllBelowRead}
 use Rattle.fanout_queue.specs.Readers.{unread_or_none, read_rows, KeepsOtherReaders}
 use Rattle.fanout_queue.proofs.Cases.{same_number}
 use Rattle.link_change.specs.InOrder.{rows_before}
@@ -50,7 +50,7 @@ live_apart queued r s live none is = let gone : tables.get queued r ≡ None = a
 
 -- ---- a session begins
 module _ (law : OthersKeepStanding) (e : Exited) (me : Speaker) (peer : Neighbour) (session : ℕ) (rules : List Rule) (chain : OutChained) (queue : Queued Route) (sound : IsExits e) (absent : chain_at peer.number e ≡ None)
-    (fresh : tables.get e.queue chain.reader ≡ None) (is : chain ≡ new_out (exit_to e.profile me peer) peer session chain.reader rules) (joined : queue ≡ tables.insert e.queue chain.reader [])
+    (fresh : tables.get e.queue chain.reader ≡ None) (least : AllBelowRead e.queue chain.reader) (is : chain ≡ new_out (exit_to e.profile me peer) peer session chain.reader rules) (joined : queue ≡ tables.insert e.queue chain.reader [])
     (others : KeepsOtherReaders chain.reader e.queue queue)
     (leads : (best : Rows Route) → LeadsFromBest peer.number best no_links (start_entries peer.number session) (out_links chain best))
     (stands : (best : Rows Route) → RowsMayBeHeard e.profile best → OutStands chain queue best) where
@@ -70,6 +70,7 @@ module _ (law : OthersKeepStanding) (e : Exited) (me : Speaker) (peer : Neighbou
   begun = record {
     reader = chain.reader;
     fresh = fresh;
+    least = least;
     after = ap (λ (c : OutChained). with_exit j c queue e) is ∙ ap (λ (q : Queued Route). with_exit j (new_out (exit_to e.profile me peer) peer session chain.reader rules) q e) joined;
     lines = refl;
     leads = λ best. leads_with_best j e more best (links_stay j chain.reader (Some chain) e more swaps best) no_links (out_links chain best) (ap (links_by e.queue best) absent)

@@ -16,7 +16,7 @@ use Rattle.policy_rules.specs.declared.rule.Rule.{Rule}
 use Rattle.pass_core.specs.Passed.{present}
 use Rattle.pass_core.specs.Left.{CountsBeyond}
 use Rattle.peer_out.specs.Changes.{MayBeHeard}
-use Rattle.fanout_queue.specs.Queues.{AppendsToAll}
+use Rattle.fanout_queue.specs.Queues.{AppendsToAll, AllBelowRead}
 use Rattle.fanout_queue.specs.Readers.{KeepsOtherReaders}
 use Rattle.journal_text.specs.declared.link.Link.{Link}
 use Rattle.journal_text.specs.declared.link.Link.TheVariants.{Best, Read, Outf, Adv}
@@ -51,11 +51,12 @@ abbrev pub LeadsWithBest : Rows Route → Links Value → List (Entry Value) →
 LeadsWithBest best old entries new = (others : Links Value) → others Best ≡ Some (route_rows best) → Leads (beside others old) entries (beside others new)
 
 -- ---- a session begins
--- A reader joins at the end of the queue; nothing is sent yet, and a walk is on that brings the peer's rules into force. `read` inherits
+-- A reader joins at the end of the queue, under the least number that none has; nothing is sent yet, and a walk is on that brings the peer's rules into force. `read` inherits
 -- the rows of `best`, whatever they are, where their routes may be heard.
 pub record BeginsExit (me : Speaker) (peer : Neighbour) (session : ℕ) (rules : List Rule) (e e' : Exited) (entries : List (Entry Value)) : Type 0 where
   pub reader : ℕ
   pub fresh : tables.get e.queue reader ≡ None
+  pub least : AllBelowRead e.queue reader
   pub after : e' ≡ with_exit peer.number (new_out (exit_to e.profile me peer) peer session reader rules) (tables.insert e.queue reader []) e
   pub lines : entries ≡ start_entries peer.number session
   pub leads : (best : Rows Route) → LeadsWithBest best (exit_links e best) entries (exit_links e' best)

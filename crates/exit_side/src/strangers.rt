@@ -5,7 +5,7 @@ ghost use Rattle.std.specs.Prelude.{◌≡◌, IfOk, OnErr, IfSome, IsSome, leng
 ghost use Rattle.std.specs.FinMap as map;
 ghost use Rattle.addr4.specs.Places.{key_of};
 ghost use Rattle.link_change.specs.Rows.{IsNextCandidate, CoversRows};
-ghost use Rattle.fanout_queue.specs.Queues.{Takes};
+ghost use Rattle.fanout_queue.specs.Queues.{Takes, AllBelowRead};
 ghost use Rattle.fanout_queue.specs.Readers.{read_rows, read_candidates};
 ghost use Rattle.exit_side.specs.Exits.{with_queue};
 
@@ -16,9 +16,10 @@ use fanout_queue::Reader;
 use link_change::{Change, Upstream};
 
 impl Exits {
-    /// A reader joins at the end of the queue. For want of memory nothing changes.
+    /// A reader joins at the end of the queue, under the least number that none has. For want of memory nothing changes.
     pub fn join(&mut self) -> Result<Reader, Memory>
         ensures fresh { IfOk result (λ reader. map.get self.old.queue reader ≡ None) }
+        ensures least { IfOk result (AllBelowRead self.old.queue) }
         ensures ok { IfOk result (λ reader. self.new ≡ with_queue (map.insert self.old.queue reader []) self.old) }
         ensures memory { OnErr result (self.new ≡ self.old) }
     {

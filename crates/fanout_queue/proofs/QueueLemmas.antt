@@ -17,9 +17,9 @@ use Rattle.addr4.specs.declared.memory.Memory.{Memory}
 use Rattle.link_change.specs.Rows.{Rows}
 use Rattle.link_change.specs.declared.change.Change.{Change}
 use Rattle.link_change.specs.InOrder.{rows_before, with_last, changed_in}
-use Rattle.fanout_queue.specs.Queues.{Queued, AppendsToAll, Takes, IsMostUnread}
+use Rattle.fanout_queue.specs.Queues.{Queued, AppendsToAll, Takes, AllBelowRead, IsMostUnread}
 use Rattle.fanout_queue.specs.Entries.{Numbered, stands_at, readers_at, first_readers, unread_at, IsPlace, Puts, Enters, Leaves, Trims, Passes, first_before}
-use Rattle.fanout_queue.specs.Places.{SetsPlace, queued_from, queued_of, IsPlaced, IsQueue}
+use Rattle.fanout_queue.specs.Places.{SetsPlace, AllBelowPlaced, queued_from, queued_of, IsPlaced, IsQueue}
 use Rattle.fanout_queue.proofs.Cases.{by_bool, by_number, same_number, other_number, if_some}
 use Rattle.fanout_queue.proofs.IndexLemmas.{or_else, first_of_rows, changed_is_first}
 use Rattle.fanout_queue.proofs.EntryLemmas.{stands_here, stands_elsewhere, by_place}
@@ -118,6 +118,15 @@ module _ {R : Type 0} where
 
     pub free_is : get_or places number None ≡ None → map.get m reader ≡ None
     free_is at = has None at
+
+  -- there is a reader of each number below one, where each has a place
+  pub below_is : (entries : Numbered R) (places : List (Option ℕ)) (m : Queued R) (number : ℕ) → queued_of entries places ≡ m → AllBelowPlaced places number → AllBelowRead m number
+  below_is entries places m number view least n below =
+      subst IsSome (ap (λ (x : Queued R). map.get x n) view) (subst IsSome (sym (unread_of entries places n)) (still (get_or places n None) (least n below)))
+    where
+      still : (o : Option ℕ) → IsSome o → IsSome (option_map (unread_at entries) o)
+      still None some = absurd (cc)
+      still (Some place) some = refl
 
   -- what is kept is what the reader hasn't taken that has taken the fewest
   pub most_unread : (entries : Numbered R) (places : List (Option ℕ)) (m : Queued R) (count : ℕ) → queued_of entries places ≡ m → IsQueue entries places → count ≡ length entries.changes → IsMostUnread m count

@@ -1,5 +1,5 @@
 -- What the fields of a queue mean, and keep true.
-use Rattle.std.specs.Prelude.{◌≡◌, ℕ, suc, ◌+◌, ◌≤◌, List, [], ◌∷◌, slice_index_or, Option, Some, None}
+use Rattle.std.specs.Prelude.{◌≡◌, ℕ, suc, ◌+◌, ◌≤◌, ◌<◌, List, [], ◌∷◌, slice_index_or, Option, Some, None, IsSome}
 use Rattle.std.specs.List.{sum_by}
 use Rattle.std.specs.FinMap as map
 use Rattle.link_change.specs.declared.change.Change.{Change}
@@ -11,6 +11,10 @@ pub record SetsPlace (old new : List (Option ℕ)) (number : ℕ) (place : Optio
   pub changed : slice_index_or new number None ≡ place
   pub others : (k : ℕ) → (k ≡ number → ⊥) → slice_index_or new k None ≡ slice_index_or old k None
   pub counts : (n : ℕ) → sum_by (stands_at n) new + stands_at n (slice_index_or old number None) ≡ sum_by (stands_at n) old + stands_at n place
+
+-- there is a reader of each number below this one
+abbrev pub AllBelowPlaced : List (Option ℕ) → ℕ → Type 0
+AllBelowPlaced places number = (n : ℕ) → n < number → IsSome (slice_index_or places n None)
 
 module _ {R : Type 0} where
   -- the readers from this number on

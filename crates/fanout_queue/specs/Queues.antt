@@ -1,5 +1,5 @@
 -- What contracts see of a queue.
-use Rattle.std.specs.Prelude.{◌≡◌, ◌≤◌, ℕ, List, [], ◌∷◌, length, Option, Some, None, IsSome, option_map, refl}
+use Rattle.std.specs.Prelude.{◌≡◌, ◌≤◌, ◌<◌, ℕ, List, [], ◌∷◌, length, Option, Some, None, IsSome, option_map, refl}
 use Rattle.std.specs.Ordering.{nat_cmp}
 use Rattle.std.specs.Coded.{Coded, code_by, coded×, coded_ℕ, coded_list, coded_option}
 use Rattle.std.specs.FinMap as map
@@ -35,6 +35,10 @@ module _ {R : Type 0} where
   -- each reader that was live is still
   abbrev pub KeepsReaders : Queued R → Queued R → Type 0
   KeepsReaders old new = (reader : ℕ) → IsSome (map.get old reader) → IsSome (map.get new reader)
+
+  -- there is a reader of each number below this one
+  abbrev pub AllBelowRead : Queued R → ℕ → Type 0
+  AllBelowRead queued reader = (n : ℕ) → n < reader → IsSome (map.get queued n)
 
   -- some reader hasn't taken so many changes, and none hasn't taken more; none at all where there is no reader
   pub record IsMostUnread (queued : Queued R) (count : ℕ) : Type 0 where

@@ -1,7 +1,7 @@
 //! The places of a queue's readers, by their numbers.
 
 ghost use Rattle.std.specs.Prelude.{◌≡◌, ◌<◌, ◌^◌, length, slice_index_or, None, Some, IsSome, IfOk, OnErr};
-ghost use Rattle.fanout_queue.specs.Places.{SetsPlace};
+ghost use Rattle.fanout_queue.specs.Places.{SetsPlace, AllBelowPlaced};
 
 use addr4::Memory;
 
@@ -27,9 +27,10 @@ pub(crate) fn set_place(places: &mut Vec<Option<u64>>, number: usize, place: Opt
 
 // The least number that no reader has.
 fn first_free(places: &[Option<u64>]) -> usize
-    ensures { slice_index_or places.now result None ≡ None }
+    ensures free { slice_index_or places.now result None ≡ None }
+    ensures least { AllBelowPlaced places.now result }
 {
-    for i in 0..places.len() {
+    'places: for i in 0..places.len() {
         if places[i].is_none() {
             return i;
         }
@@ -40,6 +41,7 @@ fn first_free(places: &[Option<u64>]) -> usize
 /// A new reader at a place, under the least number that none has.
 pub(crate) fn join_place(places: &mut Vec<Option<u64>>, place: u64) -> Result<usize, Memory>
     ensures free { IfOk result (λ number. slice_index_or places.old.items number None ≡ None) }
+    ensures least { IfOk result (AllBelowPlaced places.old.items) }
     ensures ok { IfOk result (λ number. SetsPlace places.old.items places.new.items number (Some place)) }
     ensures few { length places.old.items < 2 ^ 63 }
     ensures memory { OnErr result (places.new.items ≡ places.old.items) }

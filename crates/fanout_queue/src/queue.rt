@@ -5,7 +5,7 @@ ghost use Rattle.std.specs.FinMap as map;
 ghost use Rattle.addr4.specs.Places.{key_of};
 ghost use Rattle.link_change.specs.Rows.{IsNextCandidate, CoversRows, together};
 ghost use Rattle.link_change.specs.InOrder.{rows_before, changed_in};
-ghost use Rattle.fanout_queue.specs.Queues.{AppendsToAll, Takes, KeepsReaders, IsMostUnread};
+ghost use Rattle.fanout_queue.specs.Queues.{AppendsToAll, Takes, KeepsReaders, AllBelowRead, IsMostUnread};
 
 use crate::entries::Entries;
 use crate::places;
@@ -61,9 +61,10 @@ impl<R: Row> Queue<R> {
         self.entries.put(change)
     }
 
-    /// A new reader, which has nothing to take yet. For want of memory nothing changes.
+    /// A new reader, under the least number that none has, which has nothing to take yet. For want of memory nothing changes.
     pub fn join_reader(&mut self) -> Result<Reader, Memory>
         ensures fresh { IfOk result (λ reader. map.get self.old reader ≡ None) }
+        ensures least { IfOk result (AllBelowRead self.old) }
         ensures ok { IfOk result (λ reader. self.new ≡ map.insert self.old reader []) }
         ensures live { IfOk result (λ reader. IsSome (map.get self.new reader)) }
         ensures stay { OnOk result (KeepsReaders self.old self.new) }

@@ -7,7 +7,7 @@ ghost use Rattle.addr4.specs.Places.{key_of};
 ghost use Rattle.bgp_attr.specs.declared.route.Route.{Route};
 ghost use Rattle.link_change.specs.Rows.{Rows, IsNextCandidate, CoversRows};
 ghost use Rattle.peer_out.specs.Changes.{IsSender, IsSentOf, MayBeHeard};
-ghost use Rattle.fanout_queue.specs.Queues.{Queued};
+ghost use Rattle.fanout_queue.specs.Queues.{Queued, AllBelowRead};
 ghost use Rattle.fanout_queue.specs.Readers.{unread_by, read_rows, read_candidates, KeepsOtherReaders};
 ghost use Rattle.journal_text.specs.declared.value.Value.{Value};
 ghost use Rattle.journal_text.specs.Walk.{HasRow, no_links};
@@ -79,6 +79,7 @@ impl OutChain {
     ) -> Result<OutChain, Memory>
         requires sender { IsSender profile me.now }
         ensures fresh { IfOk result (λ chain. map.get queue.old chain.reader ≡ None) }
+        ensures least { IfOk result (λ chain. AllBelowRead queue.old chain.reader) }
         ensures after { IfOk result (λ chain. chain ≡ new_out (exit_to profile me.now peer.now) peer.now session chain.reader rules) }
         ensures joined { IfOk result (λ chain. queue.new ≡ map.insert queue.old chain.reader []) }
         ensures others { IfOk result (λ chain. KeepsOtherReaders chain.reader queue.old queue.new) }

@@ -18,6 +18,7 @@ use Rattle.event_text.specs.Declarations.{refusal, with_speaker}
 use Rattle.router_core.specs.Blocks.{begin_line, first_begins, rib_begins, declared_speaker}
 use Rattle.router_core.proofs.BeforeLocal.{local_first, no_chain, no_exit, no_reader, read_before}
 use Rattle.bgp_attr.specs.Speakers.{IsSpeaker}
+use Rattle.fanout_queue.specs.Queues.{AllBelowRead}
 use Rattle.fanout_queue.proofs.LeadLemmas.{join_keeps_leading}
 use Rattle.exit_side.specs.Exits.{exit_links as exit_links_of}
 use Rattle.exit_side.specs.Laws.{IsStranger, StaysWithQueue, StrangersJoin}
@@ -62,7 +63,7 @@ own_then m words stands first = ap (λ (s : Passed Protos). own_rows (Some words
 begins_external : (link : Link) (rows : Rows Value) → exit_links nothing_yet no_rows link ≡ Some rows → Some no_rows ≡ exit_links nothing_yet no_rows link
 begins_external link rows is = ap (λ (r : Rows Value). Some r) (sym (stands_at_first.rows link rows is)) ∙ sym is
 
-module _ (law : StrangersJoin) (m : Moment) (words : Speaker) (reader : ℕ) (admitted : refusal m.declared (events.Local words) ≡ None) (stands : Stands m) (sender : IsSender m.declared.profile words) (fresh : tables.get m.exits.queue reader ≡ None) where
+module _ (law : StrangersJoin) (m : Moment) (words : Speaker) (reader : ℕ) (admitted : refusal m.declared (events.Local words) ≡ None) (stands : Stands m) (sender : IsSender m.declared.profile words) (fresh : tables.get m.exits.queue reader ≡ None) (least : AllBelowRead m.exits.queue reader) where
   abbrev queue : Queued Route
   queue = tables.insert m.exits.queue reader []
 
@@ -205,7 +206,7 @@ module _ (law : StrangersJoin) (m : Moment) (words : Speaker) (reader : ℕ) (ad
 
   local_stepped : HasStepped m (events.Local words) 0 then rib_begins
   local_stepped = record {
-    block = (refl, record { reader = reader; fresh = fresh; lines = refl; after = refl });
+    block = (refl, record { reader = reader; fresh = fresh; least = least; lines = refl; after = refl });
     live = live_state then;
     after = refl;
     keeps = record { leads = begun_leads; live = refl; stands = then_stands; heard = heard_quiet m then rib_begins (refl, (refl, (refl, (refl, (refl, (refl, (refl, (refl, (refl, (refl, (refl, (refl, (refl, (refl, tt)))))))))))))) refl };
@@ -231,7 +232,7 @@ local_declared law m n n' words before j1 j2 now stands admitted formed is begin
     reads = subst (λ (x : Moment). BeginsReading x n' adds.0) is adds.2
 
     here : HasStepped m (events.Local words) 0 n' rib_begins
-    here = subst (λ (x : Moment). HasStepped m (events.Local words) 0 x rib_begins) (sym reads.after) (local_stepped law m words reads.reader admitted stands (may_send m.declared.profile words formed) reads.fresh)
+    here = subst (λ (x : Moment). HasStepped m (events.Local words) 0 x rib_begins) (sym reads.after) (local_stepped law m words reads.reader admitted stands (may_send m.declared.profile words formed) reads.fresh reads.least)
 
 -- ---- one link after the other
 -- the first so many of these links have begun

@@ -39,6 +39,7 @@ use Rattle.hop_side.specs.Resolvers.{put_resolver}
 use Rattle.nexthop_resolver.specs.Resolving.{nothing_known}
 use Rattle.peer_side.specs.Peers.{Chains, chain_at, put_chain, overdue_at}
 use Rattle.peer_side.specs.Steps.{EditsInward, LosesInward}
+use Rattle.fanout_queue.specs.Queues.{AllBelowRead}
 use Rattle.exit_side.specs.Exits.{Exited, with_queue, refreshed_exits}
 use Rattle.pass_core.specs.Passed.{edited, present}
 use Rattle.redist.specs.Protocols.{with_proto}
@@ -89,10 +90,11 @@ abbrev pub Refilters : ℕ → List Rule → Moment → List Line → ℕ → Mo
 Refilters k rules m said turns m' =
     (chains : Chains) × EditsInward k rules m.chains chains × Just [] (with_chains m chains) said turns m'
 
--- With `local` the forwarding side begins to read, by a reader that nobody had.
+-- With `local` the forwarding side begins to read, by a reader of the least number that nobody had.
 pub record Localizes (words : Speaker) (m : Moment) (said : List Line) (m' : Moment) : Type 0 where
   pub reader : ℕ
   pub fresh : tables.get m.exits.queue reader ≡ None
+  pub least : AllBelowRead m.exits.queue reader
   pub lines : said ≡ rib_begins
   pub after : m' ≡ record (declared_speaker m words) { exits = with_queue (tables.insert m.exits.queue reader []) m.exits; reader = Some reader }
 

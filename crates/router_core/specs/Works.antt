@@ -35,6 +35,7 @@ use Rattle.peer_out.specs.Changes.{IsSender, MayBeHeard}
 use Rattle.journal_text.specs.declared.link.Link.TheVariants.{Best, ReadRib}
 use Rattle.journal_text.specs.declared.entry.Entry.TheVariants.{Inherit}
 use Rattle.std.specs.Prelude.{[], ◌∷◌}
+use Rattle.fanout_queue.specs.Queues.{AllBelowRead}
 use Rattle.exit_side.specs.Exits.{with_queue, chain_at as exit_at, IsExits}
 use Rattle.exit_side.specs.Steps.{BeginsExit}
 use Rattle.router_core.specs.Bests.{all_at, best_entries, own_entries, DecidesOn, Queues}
@@ -326,6 +327,7 @@ Turned proto sent m m' before now Taken = (entries : List (Entry Value)) × Sett
 pub record BeginsReading (m m' : Moment) (entries : List (Entry Value)) : Type 0 where
   pub reader : ℕ
   pub fresh : tables.get m.exits.queue reader ≡ None
+  pub least : AllBelowRead m.exits.queue reader
   pub lines : entries ≡ Inherit ReadRib Best ∷ []
   pub after : m' ≡ record m { exits = with_queue (tables.insert m.exits.queue reader []) m.exits; reader = Some reader }
 

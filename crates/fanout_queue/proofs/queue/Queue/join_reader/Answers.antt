@@ -1,6 +1,6 @@
 use Rattle.std.proofs.Common.{arith, [], IsSome, refl, sym, subst}
 use Rattle.std.specs.FinMap as map
-use Rattle.fanout_queue.proofs.QueueLemmas.{free_is, joined, joined_live, few_there}
+use Rattle.fanout_queue.proofs.QueueLemmas.{free_is, below_is, joined, joined_live, few_there}
 use Rattle.fanout_queue.specs.Queues.{KeepsReaders}
 use Rattle.fanout_queue.proofs.LeadLemmas.{join_keeps_readers}
 use Rattle.fanout_queue.proofs.queue.Queue.join_reader.Goals as goal
@@ -12,6 +12,9 @@ enter-requires-clause-fits g c =
 
 pub returns-clause-fresh : goal.returns-clause-fresh
 returns-clause-fresh g c = free_is c.self.inside.entries c.self.inside.places.items c.args.self.now c.self.view_is c.in_ok-number.number c.in_ok-number.number refl c.in_ok-number.ensures.free
+
+pub returns-clause-least : goal.returns-clause-least
+returns-clause-least g c = below_is c.self.inside.entries c.self.inside.places.items c.args.self.now c.in_ok-number.number c.self.view_is c.in_ok-number.ensures.least
 
 pub returns-clause-ok : goal.returns-clause-ok
 returns-clause-ok g c =
