@@ -1,0 +1,4 @@
+pub mod SplitLemmas
+pub mod FallLemmas
+pub mod TurnLemmas
+pub mod ListLemmas

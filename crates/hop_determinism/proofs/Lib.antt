@@ -1,0 +1,6 @@
+pub mod ListLemmas
+pub mod RegisterLemmas
+pub mod KnownLemmas
+pub mod ResolverLemmas
+pub mod TurnLemmas
+pub mod SideLemmas
