@@ -62,3 +62,12 @@ pub mod FirstLives
 pub mod ServedTurns
 pub mod BegunSessions
 pub mod ServedBlocks
+pub mod OneBests
+pub mod OneFalls
+pub mod OneRoutes
+pub mod OneTurns
+pub mod OneRuns
+pub mod OneSessions
+pub mod OneHops
+pub mod OneBlocks
+pub mod OneLaws

@@ -9,6 +9,8 @@ pub mod Turns
 pub mod Holding
 pub mod Refreshes
 pub mod Blocks
+pub mod Parts
+pub mod One
 pub mod Laws
 pub mod Lookups
 pub mod Works

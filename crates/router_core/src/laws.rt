@@ -1,7 +1,9 @@
 //! Laws of moments, for the proofs of the crates above. Each is a function that does nothing, whose contract is the law.
 
+ghost use Rattle.router_core.specs.One.{BlockIsOne, DrainIsOne, ListingIsOne, PhaseIsOne, PhasesAreOne, TurnIsOne, TurnsHaveWork};
 ghost use Rattle.router_core.specs.Laws.{FirstStands, RowsAtRestAreExact, OnlyWorkHoldsUp, FirstHeldTells, KnownNextHopsAreFew, ExternalRowsAreFew};
 
+use bgp_wire::one_of_message_and_fault;
 use exit_side::laws::exact_unless_held_up as exits_are_exact;
 use hop_side::laws::exact_unless_held_up as hops_are_exact;
 use peer_side::laws::tasks_hold_up;
@@ -58,3 +60,22 @@ pub fn known_next_hops_are_few()
 pub fn external_rows_are_few()
     ensures { ExternalRowsAreFew }
 {}
+
+/// A turn of a task leaves no choice, and only a task with work takes one: so a task that runs to its end, a phase and all phases take as
+/// many turns, say the same, and lead to the same moment.
+pub fn turns_are_one()
+    ensures turn { TurnIsOne }
+    ensures work { TurnsHaveWork }
+    ensures drain { DrainIsOne }
+    ensures phase { PhaseIsOne }
+    ensures phases { PhasesAreOne }
+{}
+
+/// What an event does leaves no choice: what is said, how many turns are taken, and the moment after it; and the rows of a link, by
+/// prefix, are one list.
+pub fn blocks_are_one()
+    ensures block { BlockIsOne }
+    ensures listing { ListingIsOne }
+{
+    one_of_message_and_fault();
+}

@@ -36,7 +36,7 @@ mod turns;
 mod updates;
 
 pub use laws::{
-    external_rows_are_few, first_moment_stands, known_next_hops_are_few, only_work_holds_up,
-    rows_at_rest_are_exact, the_first_task_tells,
+    blocks_are_one, external_rows_are_few, first_moment_stands, known_next_hops_are_few,
+    only_work_holds_up, rows_at_rest_are_exact, the_first_task_tells, turns_are_one,
 };
 pub use router::{Core, Done, Idle, Phase};
