@@ -19,3 +19,5 @@ pub mod Seeds
 pub mod Captures
 pub mod TotalLemmas
 pub mod GeneratedLemmas
+pub mod OneOutput
+pub mod OneLives

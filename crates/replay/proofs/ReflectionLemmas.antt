@@ -27,7 +27,7 @@ use Rattle.replay.proofs.Lines.{accepted_is_admitted, accepted_is_read}
 
 -- ---- what is declared is what events can have declared
 -- an event that was read is well formed
-well_formed : (p : Profile) (line : List ℕ) (event : Event) → read_event p line ≡ Ok event → IsWellFormed p event
+pub well_formed : (p : Profile) (line : List ℕ) (event : Event) → read_event p line ≡ Ok event → IsWellFormed p event
 unfolding read_event
 well_formed p line event read = by_clean (is_clean line) read
   where

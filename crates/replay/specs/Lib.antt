@@ -9,3 +9,4 @@ pub mod Headline
 pub mod Commands
 pub mod Totals
 pub mod Answers
+pub mod One

@@ -1,13 +1,17 @@
 //! Laws of event files that the program makes, and of its outputs: functions that do nothing, whose contracts are the laws.
 
 ghost use Rattle.replay.specs.Answers.{CapturesAreAccepted, SeedsAreAccepted};
+ghost use Rattle.replay.specs.One.{CallsAreOne, LiveIsOne, OutputIsOne, RefusalIsOne, TotalsAreOne};
 ghost use Rattle.replay.specs.Reflection.{ReflectedRoutesAreMarked};
 ghost use Rattle.replay.specs.Refreshes.{RefreshesAreServed, RefreshesEnd};
 
+use bgp_wire::one_of_message_and_fault;
 use capture_laws::lines_are_accepted;
 use event_gen::lines_are_read;
+use journal_check::there_is_one_answer;
 use live_state::routes_are_reflected;
-use mrt_reader::lines_are_few;
+use mrt_reader::{lines_are_few, texts_are_one};
+use router_core::{blocks_are_one, first_moment_stands};
 
 /// No line of a seed is refused.
 pub fn seeds_are_accepted()
@@ -37,4 +41,19 @@ pub fn reflected_routes_are_marked()
     ensures { ReflectedRoutesAreMarked }
 {
     routes_are_reflected();
+}
+
+/// For each text one output is allowed, and what is live at its end is one; and two calls over it that end alike have written the same.
+pub fn outputs_are_one()
+    ensures output { OutputIsOne }
+    ensures refusal { RefusalIsOne }
+    ensures totals { TotalsAreOne }
+    ensures live { LiveIsOne }
+    ensures calls { CallsAreOne }
+{
+    first_moment_stands();
+    blocks_are_one();
+    there_is_one_answer();
+    texts_are_one();
+    one_of_message_and_fault();
 }

@@ -13,6 +13,8 @@
 //! from scratch over the live state. What each peer hears in it, by reading the octets that it is sent, is at every moment what
 //! stands on its link `adv.J.S`; and a peer that asks for all of that again is told all of it once more, at the latest by the next
 //! `idle`. What a route reflector passes on inside the AS is marked, and never comes to who announced it.
+//!
+//! For each text exactly one output is allowed: what is printed is a function of the events.
 #![tactic(auto)]
 
 mod captured;
@@ -33,13 +35,15 @@ ghost use Rattle.edge_io.specs.Causes.{Rose};
 ghost use Rattle.command_line.specs.Commands.{command_of};
 ghost use Rattle.replay.specs.Commands.{reads_source, usage_line};
 ghost use Rattle.replay.specs.Answers.{HasDone, HasRead, HasRefused, HasLawful, HasBroken, HasSoFar, HasFirst, HasFront, IsByText, IsUnfailing, CapturesAreAccepted, SeedsAreAccepted};
+ghost use Rattle.replay.specs.One.{CallsAreOne, LiveIsOne, OutputIsOne, RefusalIsOne, TotalsAreOne};
 ghost use Rattle.replay.specs.Reflection.{ReflectedRoutesAreMarked};
 ghost use Rattle.replay.specs.Refreshes.{RefreshesAreServed, RefreshesEnd};
 ghost use Rattle.command_line.specs.declared.words.Command.TheVariants.{Check};
 
 use crate::commands::obey;
 use crate::laws::{
-    captures_are_accepted, reflected_routes_are_marked, refreshes_are_served, seeds_are_accepted,
+    captures_are_accepted, outputs_are_one, reflected_routes_are_marked, refreshes_are_served,
+    seeds_are_accepted,
 };
 use command_line::read_command;
 use edge_io::{Sink, Source};
@@ -95,6 +99,15 @@ pub fn replay<S: Source, K: Sink>(
     // which it wasn't. No route goes back to the peer that it is from.
     ensures reflected { ReflectedRoutesAreMarked }
 
+    // For each text one output is allowed, quiet or not; of a text with a refused line, and of a seed with its totals, too; and one live
+    // state is what the events of lines make of another. So two calls
+    // over the same text that end alike, with all done, a line refused or a rule broken, have written the same.
+    ensures one { OutputIsOne }
+    ensures one_refused { RefusalIsOne }
+    ensures one_totalled { TotalsAreOne }
+    ensures one_live { LiveIsOne }
+    ensures calls { CallsAreOne }
+
     // The words are no command, and the usage line was written.
     ensures usage { result ≡ Status.Usage → Appends (K.taken sink.old) (K.taken sink.new) usage_line }
     ensures command { command_of (map string_bytes words.now) ≢ None → result ≢ Status.Usage }
@@ -119,6 +132,7 @@ pub fn replay<S: Source, K: Sink>(
     captures_are_accepted();
     refreshes_are_served();
     reflected_routes_are_marked();
+    outputs_are_one();
     let Ok(command) = read_command(alloc, words) else {
         return Status::Memory;
     };
