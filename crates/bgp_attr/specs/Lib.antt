@@ -5,3 +5,4 @@ pub mod Hosts
 pub mod Speakers
 pub mod Reflections
 pub mod Lent
+pub mod Items

@@ -6,6 +6,7 @@ use crate::octets::Octets;
 use addr4::{Memory, Row};
 use std::alloc::Global;
 use std::marker::Model;
+use std::slice;
 
 /// An unrecognized optional transitive attribute (RFC 4271, section 5).
 #[derive(Drop)]
@@ -29,19 +30,29 @@ impl Row for Unrecognized {
     }
 }
 
-/// Unrecognized attributes in a row; a route has them by ascending type. Few routes have any: they stand in a box of their own.
+/// Unrecognized attributes in a row; a route has them by ascending type. Few routes have any, and most of these one: they stand in a
+/// block of memory of their own.
 #[derive(Drop)]
 pub struct UnrecognizedAttrs {
-    items: Option<Box<Vec<Unrecognized>>>,
+    items: Items,
+}
+
+#[derive(Drop)]
+enum Items {
+    None,
+    One(Box<Unrecognized>),
+    Many(Box<Vec<Unrecognized>>),
 }
 
 impl Model for UnrecognizedAttrs {
-    ghost use Rattle.std.specs.Prelude.{List, [], option_map, unwrap_or};
+    ghost use Rattle.std.specs.Prelude.{List};
     ghost use Rattle.bgp_attr.specs.declared.unrecognized.Unrecognized.{Unrecognized};
 
     ghost Value = { List Unrecognized };
 
-    ghost view = { λ u. unwrap_or (option_map (λ items. items.value.items) u.items) [] };
+    ghost use Rattle.bgp_attr.specs.Items.{items_in};
+
+    ghost view = { λ u. items_in u.items };
 }
 
 impl UnrecognizedAttrs {
@@ -49,39 +60,53 @@ impl UnrecognizedAttrs {
     pub fn none() -> UnrecognizedAttrs
         ensures { result ≡ [] }
     {
-        UnrecognizedAttrs { items: None }
+        UnrecognizedAttrs { items: Items::None }
     }
 
     /// Takes no memory where there is none.
     pub fn from_vec(alloc: Global, items: Vec<Unrecognized>) -> Result<UnrecognizedAttrs, Memory>
         ensures { IfOk result (λ u. u ≡ items.items) }
     {
-        if items.is_empty() {
-            return Ok(UnrecognizedAttrs::none());
+        let mut items = items;
+        if items.len() > 1 {
+            let items = Box::new(alloc, items)?;
+            return Ok(UnrecognizedAttrs {
+                items: Items::Many(items),
+            });
         }
-        let items = Box::new(alloc, items)?;
-        Ok(UnrecognizedAttrs { items: Some(items) })
+        match items.pop() {
+            None => Ok(UnrecognizedAttrs::none()),
+            Some(item) => {
+                let item = Box::new(alloc, item)?;
+                Ok(UnrecognizedAttrs {
+                    items: Items::One(item),
+                })
+            }
+        }
     }
 
     pub fn as_slice(&self) -> &[Unrecognized]
         ensures { result.now ≡ self.now }
     {
         match &self.items {
-            None => &[],
-            Some(items) => items.as_slice(),
+            Items::None => &[],
+            Items::One(item) => slice::from_ref(item),
+            Items::Many(items) => items.as_slice(),
         }
     }
 }
 
 impl Row for UnrecognizedAttrs {
     fn copy(&self) -> Result<UnrecognizedAttrs, Memory> {
-        match &self.items {
-            None => Ok(UnrecognizedAttrs::none()),
-            Some(items) => {
+        let items = match &self.items {
+            Items::None => Items::None,
+            Items::One(item) => Items::One(Box::new(*Box::allocator(item), item.copy()?)?),
+            Items::Many(items) => {
                 let alloc = *items.allocator();
-                UnrecognizedAttrs::from_vec(alloc, copy_of(alloc, items.as_slice())?)
+                Items::Many(Box::new(alloc, copy_of(alloc, items.as_slice())?)?)
             }
-        }
+        };
+        Ok(UnrecognizedAttrs { items })
     }
 
     fn same(&self, other: &UnrecognizedAttrs) -> bool {

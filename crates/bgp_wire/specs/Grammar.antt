@@ -131,3 +131,7 @@ abbrev pub OneAnswer : Profile → Bool → List ℕ → Type 0
 OneAnswer p external bytes =
     ((fault p external bytes ≡ None) × ((m : Message) × Reads p external bytes m × ((other : Message) → Reads p external bytes other → m ≡ other)))
     ⊎ ((n : Notice) × (fault p external bytes ≡ Some n) × ((m : Message) → Reads p external bytes m → ⊥))
+
+-- whoever sent them, and whatever the profile
+abbrev pub EachHasOne : Type 0
+EachHasOne = (p : Profile) (external : Bool) (bytes : List ℕ) → OneAnswer p external bytes

@@ -4,7 +4,7 @@ use Rattle.bgp_attr.specs.declared.speaker.Neighbour.{Neighbour}
 use Rattle.bgp_attr.specs.declared.speaker.Profile.{Profile}
 use Rattle.bgp_wire.specs.declared.message.Update.{Update as Updated}
 use Rattle.bgp_wire.specs.declared.message.Message.TheVariants.{Update}
-use Rattle.bgp_wire.specs.Grammar.{Reads, OneAnswer}
+use Rattle.bgp_wire.specs.Grammar.{Reads, EachHasOne}
 use Rattle.journal_text.specs.declared.line.Line.{Line}
 use Rattle.journal_text.specs.declared.line.Line.TheVariants.{Out, Journal}
 use Rattle.journal_text.specs.declared.entry.Entry.{Entry}
@@ -66,9 +66,6 @@ pub hearing_stays : HearingStays
 hearing_stays before now v v' lines keeps heard = lines_stay before now keeps v v' lines heard
 
 -- ---- one answer
-abbrev pub EachHasOne : Type 0
-EachHasOne = (p : Profile) (external : Bool) (octets : List ℕ) → OneAnswer p external octets
-
 same_update : (u w : Updated) → Update u ≡ Update w → u ≡ w
 same_update u w e = cc
 

@@ -21,13 +21,10 @@ use Rattle.wire_laws.proofs.Prepended.{prepended_is_readable}
 use Rattle.link_change.specs.Rows.{Rows, Candidates, with_row}
 use Rattle.link_change.specs.declared.change.Change.{Change}
 use Rattle.policy_rules.specs.declared.rule.Rule.{Rule}
-use Rattle.policy_rules.specs.Judged.{KeepsSource}
-use Rattle.policy_rules.specs.Verdicts.{judged_by}
-use Rattle.policy_rules.proofs.KeptLemmas.{judged_keeps}
-use Rattle.policy_rules.proofs.VerdictLemmas.{answer_is_judged}
 use Rattle.pass_core.specs.Passed.{function_at}
 use Rattle.pass_core.specs.Turns.{passed_rows, IsSentAt}
-use Rattle.filter_bank.specs.Outgoing.{Form, may_go, first_out, let_by, formed, outgoing}
+use Rattle.filter_bank.specs.Outgoing.{Form, outgoing}
+use Rattle.filter_bank.proofs.OutLemmas.{only_forms_of_rows}
 use Rattle.fanout_queue.specs.Queues.{Queued}
 use Rattle.fanout_queue.specs.Readers.{unread_by, read_rows}
 use Rattle.journal_check.proofs.InkLemmas.{all_append, all_mapped}
@@ -69,29 +66,15 @@ pub record IsFormOfOne (exit : Exit) (row : Route) (a : Attrs) : Type 0 where
   pub is : a ≡ sent_form exit.profile exit.me exit.external route
   pub attrs : route.attrs ≡ row.attrs
 
-first_keeps : (peer : Neighbour) (row : Route) → (first_out peer row).attrs ≡ row.attrs
-first_keeps peer row = elim peer.internal as (λ (b : Bool). (cond b row (record row { med = None })).attrs ≡ row.attrs) [ true ↦ refl | false ↦ refl ]
-
 module _ (exit : Exit) (p : Network) (row : Route) (a : Attrs) where
   pub of_fitting : (r : Route) (fits : Bool) → r.attrs ≡ row.attrs → cond fits (Some (sent_form exit.profile exit.me exit.external r)) None ≡ Some a → IsFormOfOne exit row a
   of_fitting r true keeps e = record { route = r; is = let same : Some (sent_form exit.profile exit.me exit.external r) ≡ Some a = e in cc; attrs = keeps }
   of_fitting r false keeps e = absurd (let clash : ◌≡◌ {A = Option Attrs} None (Some a) = e in cc)
 
-  of_judged : (first : Route) (judged : Option Route) → first.attrs ≡ row.attrs → IfSome judged (KeepsSource first) → formed (form_of exit) p judged ≡ Some a → IsFormOfOne exit row a
-  of_judged first None keeps judged e = absurd (let clash : ◌≡◌ {A = Option Attrs} None (Some a) = e in cc)
-  of_judged first (Some r) keeps judged e =
-      of_fitting r (nat_le (announcement_length exit.profile.as4 p (sent_form exit.profile exit.me exit.external r)) 4096) (judged.attrs ∙ keeps) e
-
-  of_rules : (first : Route) (rules : Option (List Rule)) → first.attrs ≡ row.attrs → formed (form_of exit) p (let_by rules p first) ≡ Some a → IsFormOfOne exit row a
-  of_rules first None keeps e = absurd (let clash : ◌≡◌ {A = Option Attrs} None (Some a) = e in cc)
-  of_rules first (Some rules) keeps e = of_judged first (judged_by rules p first) keeps (judged_keeps p rules first (judged_by rules p first) (answer_is_judged rules p first)) e
-
-  of_let : (may : Bool) (peer : Neighbour) (rules : Option (List Rule)) → formed (form_of exit) p (cond may (let_by rules p (first_out peer row)) None) ≡ Some a → IsFormOfOne exit row a
-  of_let true peer rules e = of_rules (first_out peer row) rules (first_keeps peer row) e
-  of_let false peer rules e = absurd (let clash : ◌≡◌ {A = Option Attrs} None (Some a) = e in cc)
-
   is_form : (peer : Neighbour) (rules : Option (List Rule)) → outgoing (form_of exit) peer rules p (Some row) ≡ Some a → IsFormOfOne exit row a
-  is_form peer rules e = of_let (may_go peer p row) peer rules e
+  is_form peer rules e =
+      let of = only_forms_of_rows (form_of exit) peer rules p row a e in
+      of_fitting of.0 (nat_le (announcement_length exit.profile.as4 p (sent_form exit.profile exit.me exit.external of.0)) 4096) of.2 of.1
 
 -- ---- so it can be spelled
 few_of : (as4 : Bool) (path : List Segment) → Every (IsReadableSegment as4) path → AllByRecursion HasFewNumbers path

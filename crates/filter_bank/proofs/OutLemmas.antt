@@ -1,5 +1,5 @@
 -- The laws of outgoing filters.
-use Rattle.std.proofs.Common.{◌≡◌, ◌≢◌, nat_eq, not, ◌&&◌, ◌||◌, Bool, true, false, cond, List, Option, Some, None, refl, sym, ap, ◌∙◌, arith}
+use Rattle.std.proofs.Common.{◌≡◌, ◌≢◌, nat_eq, not, ◌&&◌, ◌||◌, Bool, true, false, cond, List, Option, Some, None, IfSome, refl, sym, ap, ◌∙◌, arith}
 use Rattle.std.proofs.lemmas.Bool.Decides.{nat_tests}
 use Rattle.addr4.specs.Prefixes.{Network}
 use Rattle.bgp_attr.specs.Hosts.{is_host_prefix}
@@ -9,8 +9,12 @@ use Rattle.bgp_attr.specs.declared.speaker.Neighbour.{Neighbour}
 use Rattle.link_change.proofs.RowLemmas.{same_function}
 use Rattle.pass_core.specs.Split.{MakesNone}
 use Rattle.policy_rules.specs.declared.rule.Rule.{Rule}
+use Rattle.policy_rules.specs.Judged.{KeepsSource}
+use Rattle.policy_rules.specs.Verdicts.{judged_by}
+use Rattle.policy_rules.proofs.KeptLemmas.{judged_keeps}
+use Rattle.policy_rules.proofs.VerdictLemmas.{answer_is_judged}
 use Rattle.filter_bank.specs.Outgoing.{Form, is_reflected, is_kept_from, may_go, first_out, let_by, formed, outgoing}
-use Rattle.filter_bank.specs.OutLaws.{NothingAtFirst, OnlyWhatMayGo}
+use Rattle.filter_bank.specs.OutLaws.{NothingAtFirst, OnlyWhatMayGo, IsFormOf, OnlyFormsOfRows}
 
 pub makes_none_out : {R : Type 0} (form : Form R) (peer : Neighbour) (rules : Option (List Rule)) → MakesNone (outgoing form peer rules)
 makes_none_out form peer rules q = refl
@@ -56,3 +60,33 @@ only_what_may_go form peer rules p r a e =
       reflected_inside = λ from is. (not_kept peer r.from from may.0 is).1;
       of_hosts = may.1;
     }
+
+-- ---- of what a peer gets the form
+none_is : {A : Type 0} {x : A} → ◌≡◌ {A = Option A} None (Some x) → ⊥
+none_is e = cc
+
+first_keeps : (peer : Neighbour) (row : Route) → KeepsSource row (first_out peer row)
+first_keeps peer row =
+    elim peer.internal as (λ b. KeepsSource row (cond b row (record row { med = None }))) [
+      | true ↦ record { attrs = refl; igp = refl; from = refl }
+      | false ↦ record { attrs = refl; igp = refl; from = refl }
+    ]
+
+module _ (form : Form Attrs) (p : Network) (row : Route) (sent : Attrs) where
+  of_judged : (first : Route) (judged : Option Route) → KeepsSource row first → IfSome judged (KeepsSource first) → formed form p judged ≡ Some sent → IsFormOf form p row sent
+  of_judged first None keeps judged e = absurd (none_is e)
+  of_judged first (Some r) keeps judged e = (r, e, judged.attrs ∙ keeps.attrs, judged.from ∙ keeps.from)
+
+  of_rules : (first : Route) (rules : Option (List Rule)) → KeepsSource row first → formed form p (let_by rules p first) ≡ Some sent → IsFormOf form p row sent
+  of_rules first None keeps e = absurd (none_is e)
+  of_rules first (Some rules) keeps e =
+      of_judged first (judged_by rules p first) keeps (judged_keeps p rules first (judged_by rules p first) (answer_is_judged rules p first)) e
+
+  of_let : (may : Bool) (later : Option Route) → (formed form p later ≡ Some sent → IsFormOf form p row sent) → formed form p (cond may later None) ≡ Some sent → IsFormOf form p row sent
+  of_let true later by e = by e
+  of_let false later by e = absurd (none_is e)
+
+pub only_forms_of_rows : OnlyFormsOfRows
+only_forms_of_rows form peer rules p row sent e =
+    let first = first_out peer row in
+    of_let form p row sent (may_go peer p row) (let_by rules p first) (of_rules form p row sent first rules (first_keeps peer row)) e

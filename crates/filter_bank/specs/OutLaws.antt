@@ -20,6 +20,16 @@ abbrev pub NothingAtFirst : Type 0
 NothingAtFirst =
     (form : Form Attrs) (peer : Neighbour) (rules : List Rule) (upper : Rows Route) → passed_rows (outgoing form peer) (first_walk rules) upper ≡ no_rows
 
+-- what is sent is the form of a route with the attributes and the source of this one
+abbrev pub IsFormOf : Form Attrs → Network → Route → Attrs → Type 0
+IsFormOf form p row sent = (r : Route) × (form p r ≡ Some sent) × (r.attrs ≡ row.attrs) × (r.from ≡ row.from)
+
+-- Whatever the rules, only such forms are sent.
+abbrev pub OnlyFormsOfRows : Type 0
+OnlyFormsOfRows =
+    (form : Form Attrs) (peer : Neighbour) (rules : Option (List Rule)) (p : Network) (row : Route) (sent : Attrs)
+    → outgoing form peer rules p (Some row) ≡ Some sent → IsFormOf form p row sent
+
 -- the peer may get the route
 pub record MayGo (peer : Neighbour) (p : Network) (r : Route) : Type 0 where
   pub not_back : (from : Neighbour) → r.from ≡ Some from → from.number ≢ peer.number

@@ -2,7 +2,7 @@
 //! law.
 
 ghost use Rattle.filter_bank.specs.Laws.{ExactUnlessHeldUp, EditKeepsRows, WalkLeads, FilteredKeepsAttrs};
-ghost use Rattle.filter_bank.specs.OutLaws.{NothingOfNothing, NothingAtFirst, OnlyWhatMayGo};
+ghost use Rattle.filter_bank.specs.OutLaws.{NothingOfNothing, NothingAtFirst, OnlyWhatMayGo, OnlyFormsOfRows};
 
 /// Where no walk holds up a prefix, the row below is what the rules of the latest edit make of the row above.
 pub fn exact_unless_held_up()
@@ -31,7 +31,8 @@ pub fn nothing_is_sent_at_first()
 {}
 
 /// Whatever the rules, no route goes back to its peer, or from an internal peer to another of which neither is a client, and only
-/// prefixes of hosts go out.
+/// prefixes of hosts go out; and what goes out is the form of a route with the attributes and the source of the row above.
 pub fn what_goes_out()
-    ensures { OnlyWhatMayGo }
+    ensures may_go { OnlyWhatMayGo }
+    ensures form { OnlyFormsOfRows }
 {}

@@ -1,5 +1,5 @@
 -- What a peer gets of the best route: whose route it is, and who is named on it.
-use Rattle.std.proofs.Common.{◌≡◌, ℕ, zero, suc, ◌+◌, ◌<◌, ◌==◌, ◌&&◌, ◌||◌, not, length, slice_index_or, Bool, true, false, cond, List, [], ◌∷◌, Option, Some, None, IfSome, refl, sym, ap, subst, ◌∙◌, arith}
+use Rattle.std.proofs.Common.{◌≡◌, ℕ, zero, suc, ◌+◌, ◌<◌, ◌==◌, ◌&&◌, ◌||◌, not, length, slice_index_or, Bool, true, false, cond, List, [], ◌∷◌, Option, Some, None, refl, sym, ap, subst, ◌∙◌, arith}
 use Rattle.std.specs.Prelude.{filter_map, option_map}
 use Rattle.std.specs.List.{cons_option, range_with_len}
 use Rattle.std.specs.FinMap as tables
@@ -17,14 +17,11 @@ use Rattle.rib_route.specs.declared.rows.Interior.{Interior}
 use Rattle.redist.specs.Local.{local_route}
 use Rattle.link_change.specs.Rows.{Rows}
 use Rattle.policy_rules.specs.declared.rule.Rule.{Rule}
-use Rattle.policy_rules.specs.Judged.{KeepsSource}
 use Rattle.policy_rules.specs.Verdicts.{has_as, judged_by}
-use Rattle.policy_rules.proofs.KeptLemmas.{judged_keeps}
-use Rattle.policy_rules.proofs.VerdictLemmas.{answer_is_judged}
 use Rattle.filter_bank.specs.Filtered.{filtered, first_route}
-use Rattle.filter_bank.specs.Outgoing.{Form, is_reflected, may_go, first_out, let_by, formed, outgoing}
+use Rattle.filter_bank.specs.Outgoing.{Form, is_reflected, outgoing}
 use Rattle.filter_bank.specs.Laws.{FilteredKeepsAttrs}
-use Rattle.filter_bank.specs.OutLaws.{OnlyWhatMayGo, MayGo}
+use Rattle.filter_bank.specs.OutLaws.{OnlyWhatMayGo, OnlyFormsOfRows, MayGo}
 use Rattle.peer_out.specs.Forms.{reflected_from, sent_form, as_sent}
 use Rattle.journal_text.specs.declared.link.Link.TheVariants.{Int, Red}
 use Rattle.event_text.specs.declared.declared.DeclaredPeer.{DeclaredPeer}
@@ -136,31 +133,6 @@ module _ (l : LiveState) (me : Speaker) (p : Network) (row : Route) where
       counts keeps declared speaker one.0 one.1
 
 -- ---- what a peer gets
--- the attributes are the form of a route that has the source of this one
-abbrev IsFormOf : Form Attrs → Network → Route → Attrs → Type 0
-IsFormOf form p row sent = (r : Route) × (form p r ≡ Some sent) × (r.attrs ≡ row.attrs) × (r.from ≡ row.from)
-
-first_keeps : (peer : Neighbour) (row : Route) → KeepsSource row (first_out peer row)
-first_keeps peer row =
-    elim peer.internal as (λ b. KeepsSource row (cond b row (record row { med = None }))) [
-      | true ↦ record { attrs = refl; igp = refl; from = refl }
-      | false ↦ record { attrs = refl; igp = refl; from = refl }
-    ]
-
-of_judged : (form : Form Attrs) (p : Network) (row first : Route) (judged : Option Route) (sent : Attrs) → KeepsSource row first → IfSome judged (KeepsSource first) → formed form p judged ≡ Some sent → IsFormOf form p row sent
-of_judged form p row first None sent keeps judged e = absurd (none_is e)
-of_judged form p row first (Some r) sent keeps judged e = (r, e, judged.attrs ∙ keeps.attrs, judged.from ∙ keeps.from)
-
-of_let : (form : Form Attrs) (p : Network) (row : Route) (may : Bool) (later : Option Route) (sent : Attrs) → (formed form p later ≡ Some sent → IsFormOf form p row sent) → formed form p (cond may later None) ≡ Some sent → IsFormOf form p row sent
-of_let form p row true later sent by e = by e
-of_let form p row false later sent by e = absurd (none_is e)
-
-is_form_of : (form : Form Attrs) (peer : Neighbour) (rules : List Rule) (p : Network) (row : Route) (sent : Attrs) → outgoing form peer (Some rules) p (Some row) ≡ Some sent → IsFormOf form p row sent
-is_form_of form peer rules p row sent e =
-    let first = first_out peer row in
-    let judged = judged_keeps p rules first (judged_by rules p first) (answer_is_judged rules p first) in
-    of_let form p row (may_go peer p row) (let_by (Some rules) p first) sent (of_judged form p row first (judged_by rules p first) sent (first_keeps peer row) judged) e
-
 fits : (b : Bool) (form sent : Attrs) → cond b (Some form) None ≡ Some sent → sent ≡ form
 fits true form sent e = cc
 fits false form sent e = absurd (none_is e)
@@ -172,9 +144,9 @@ record IsFormed (profile : Profile) (me : Speaker) (to : Neighbour) (row : Route
   from : made.from ≡ row.from
   form : sent ≡ sent_form profile me (not to.internal) made
 
-formed_so : (profile : Profile) (me : Speaker) (to : Neighbour) (rules : List Rule) (p : Network) (row : Route) (sent : Attrs) → outgoing (as_sent profile me (not to.internal)) to (Some rules) p (Some row) ≡ Some sent → IsFormed profile me to row sent
-formed_so profile me to rules p row sent e =
-    let of = is_form_of (as_sent profile me (not to.internal)) to rules p row sent e in
+formed_so : OnlyFormsOfRows → (profile : Profile) (me : Speaker) (to : Neighbour) (rules : List Rule) (p : Network) (row : Route) (sent : Attrs) → outgoing (as_sent profile me (not to.internal)) to (Some rules) p (Some row) ≡ Some sent → IsFormed profile me to row sent
+formed_so forms profile me to rules p row sent e =
+    let of = forms (as_sent profile me (not to.internal)) to (Some rules) p row sent e in
     record { made = of.0; attrs = of.2; from = of.3; form = fits _ (sent_form profile me (not to.internal) of.0) sent of.1 }
 
 -- who is named on a route that goes to a peer
@@ -256,8 +228,8 @@ module _ (l : LiveState) (j : ℕ) (me : Speaker) (to : DeclaredPeer) (p : Netwo
     elsewhere = λ apart. named_on l.declared.profile me to.words row sent so ∙ nobody_named me row.from to.words l.declared.profile.reflect row.attrs.reflection apart;
   }
 
-pub reflection_is_marked : PickIsOneOfThem → FilteredKeepsAttrs → OnlyWhatMayGo → ReflectionIsMarked
-reflection_is_marked picks keeps goes l j me to p sent declaration speaker at is = by_best (best_of l p) refl is
+pub reflection_is_marked : PickIsOneOfThem → FilteredKeepsAttrs → OnlyWhatMayGo → OnlyFormsOfRows → ReflectionIsMarked
+reflection_is_marked picks keeps goes forms l j me to p sent declaration speaker at is = by_best (best_of l p) refl is
   where
     declared : AreDeclared l.declared.profile me l.declared.peers
     declared = subst (λ (s : Option Speaker). IsDeclaredBy l.declared.profile s l.declared.peers) speaker declaration
@@ -273,5 +245,5 @@ reflection_is_marked picks keeps goes l j me to p sent declaration speaker at is
           row = row;
           best = best;
           received = λ from of. (source from of).0;
-          passed = passed l j me to p row sent declared at source (goes form to.words (Some (l.outgoing j)) p row sent e) (formed_so l.declared.profile me to.words (l.outgoing j) p row sent e);
+          passed = passed l j me to p row sent declared at source (goes form to.words (Some (l.outgoing j)) p row sent e) (formed_so forms l.declared.profile me to.words (l.outgoing j) p row sent e);
         }

@@ -4,7 +4,7 @@ use Rattle.bgp_attr.specs.declared.speaker.Profile.{Profile}
 use Rattle.bgp_wire.specs.declared.message.Message.{Message}
 use Rattle.bgp_wire.specs.declared.message.Message.TheVariants as messages
 use Rattle.bgp_wire.specs.Updates.{fault}
-use Rattle.bgp_wire.specs.Grammar.{IsFrame, Reads, OneAnswer}
+use Rattle.bgp_wire.specs.Grammar.{IsFrame, Reads, OneAnswer, EachHasOne}
 use Rattle.event_text.specs.declared.event.Event.TheVariants.{Nothing, As4, Revised, Reflect, Local, Peer, Up, Down, Bgp, FilterIn, FilterOut, RouteAdd, RouteDel, Lose, Redist, Cover, Settled, Idle, Work, Ask, Show}
 use Rattle.event_text.specs.declared.declared.DeclaredPeer.{DeclaredPeer}
 use Rattle.event_text.specs.Declarations.{peer_at, with_session, without_session}
@@ -17,10 +17,6 @@ use Rattle.rib_route.specs.declared.Proto.TheVariants.{Connected, Ospf, Rip, Sta
 use Rattle.event_text.specs.declared.event.Event.{Event}
 use Rattle.rib_route.specs.declared.Proto.{Proto}
 
--- one of message and fault, for all octets
-abbrev pub EachAnswers : Type 0
-EachAnswers = (p : Profile) (external : Bool) (octets : List ℕ) → OneAnswer p external octets
-
 -- the type of a message stands behind the marker and the length
 type_at : (octets : List ℕ) (kind : ℕ) (body : List ℕ) → IsFrame octets kind body → get_or octets 18 0 ≡ kind
 type_at octets kind body is = ap (λ o. get_or o 18 0) is.parts
@@ -30,11 +26,11 @@ module _ (profile : Profile) (external : Bool) (octets : List ℕ) where
   no_fault m one reads = elim one as (λ _. is_some (fault profile external octets) ≡ false) [ inl w ↦ ap is_some w.0 | inr w ↦ absurd (w.2 m reads) ]
 
   -- octets that are a message of this type
-  of_type : (kind : ℕ) (body : List ℕ) (m : Message) → EachAnswers → Reads profile external octets m → IsFrame octets kind body → (kind == 3) ≡ ends_session profile external octets
+  of_type : (kind : ℕ) (body : List ℕ) (m : Message) → EachHasOne → Reads profile external octets m → IsFrame octets kind body → (kind == 3) ≡ ends_session profile external octets
   of_type kind body m one reads is =
       sym (ap (λ b. b || get_or octets 18 0 == 3) (no_fault m (one profile external octets) reads) ∙ ap (λ k. k == 3) (type_at octets kind body is))
 
-pub ends : EachAnswers → SessionsEnd
+pub ends : EachHasOne → SessionsEnd
 ends one profile p octets (messages.Update u) says = of_type profile (not p.words.internal) octets 2 _ (messages.Update u) one says says.1.frame
 ends one profile p octets messages.Keepalive says = of_type profile (not p.words.internal) octets 4 _ messages.Keepalive one says says
 ends one profile p octets messages.Skip says = of_type profile (not p.words.internal) octets 1 _ messages.Skip one says says.1

@@ -1,5 +1,5 @@
 -- What the filter makes of a route that may be heard may be said to the peer.
-use Rattle.std.proofs.Common.{◌≡◌, ◌≢◌, Bool, true, false, cond, List, Option, Some, None, IfSome, refl, sym, ap, subst, ◌∙◌}
+use Rattle.std.proofs.Common.{◌≡◌, ◌≢◌, List, Option, Some, None, refl, sym, ap, subst, ◌∙◌}
 use Rattle.std.specs.Option.{ForSome}
 use Rattle.addr4.specs.Prefixes.{Network}
 use Rattle.bgp_attr.specs.declared.attrs.Attrs.{Attrs}
@@ -10,49 +10,20 @@ use Rattle.link_change.specs.Changes.{ComputesOn, IsSent}
 use Rattle.link_change.specs.declared.change.Change.{Change}
 use Rattle.link_change.proofs.RowLemmas.{with_row_here}
 use Rattle.policy_rules.specs.declared.rule.Rule.{Rule}
-use Rattle.policy_rules.specs.Judged.{KeepsSource}
-use Rattle.policy_rules.specs.Verdicts.{judged_by}
-use Rattle.policy_rules.proofs.KeptLemmas.{judged_keeps}
-use Rattle.policy_rules.proofs.VerdictLemmas.{answer_is_judged}
 use Rattle.pass_core.specs.Passed.{Passed, function_at}
 use Rattle.pass_core.specs.Turns.{passed_rows, IsSentAt, Walks}
-use Rattle.filter_bank.specs.Outgoing.{Form, may_go, first_out, let_by, formed, outgoing}
+use Rattle.filter_bank.specs.Outgoing.{outgoing}
+use Rattle.filter_bank.proofs.OutLemmas.{only_forms_of_rows}
 use Rattle.peer_out.specs.Forms.{Exit}
 use Rattle.peer_out.specs.Changes.{MayBeHeard, IsSender, IsSentOf}
 use Rattle.out_chain.specs.Chains.{OutChained, form_of, made_by, RowsMayBeHeard}
-
--- ---- what is sent of a route is the form of one with its attributes
-
--- a route that has these attributes and is sent so
-abbrev IsOf : Form Attrs → Network → Route → Attrs → Type 0
-IsOf form p row a = (r : Route) × (form p r ≡ Some a) × (r.attrs ≡ row.attrs)
-
-first_keeps : (peer : Neighbour) (row : Route) → (first_out peer row).attrs ≡ row.attrs
-first_keeps peer row = elim peer.internal as (λ b. (cond b row (record row { med = None })).attrs ≡ row.attrs) [ true ↦ refl | false ↦ refl ]
-
-of_judged : (form : Form Attrs) (p : Network) (row first : Route) (judged : Option Route) (a : Attrs) → first.attrs ≡ row.attrs → IfSome judged (KeepsSource first) → formed form p judged ≡ Some a → IsOf form p row a
-of_judged form p row first None a keeps judged e = absurd (let clash : ◌≡◌ {A = Option Attrs} None (Some a) = e in cc)
-of_judged form p row first (Some r) a keeps judged e = (r, e, judged.attrs ∙ keeps)
-
-of_rules : (form : Form Attrs) (p : Network) (row first : Route) (rules : Option (List Rule)) (a : Attrs) → first.attrs ≡ row.attrs → formed form p (let_by rules p first) ≡ Some a → IsOf form p row a
-of_rules form p row first None a keeps e = absurd (let clash : ◌≡◌ {A = Option Attrs} None (Some a) = e in cc)
-of_rules form p row first (Some rules) a keeps e =
-    of_judged form p row first (judged_by rules p first) a keeps (judged_keeps p rules first (judged_by rules p first) (answer_is_judged rules p first)) e
-
-of_let : (form : Form Attrs) (p : Network) (row : Route) (may : Bool) (later : Option Route) (a : Attrs) → (formed form p later ≡ Some a → IsOf form p row a) → formed form p (cond may later None) ≡ Some a → IsOf form p row a
-of_let form p row true later a by e = by e
-of_let form p row false later a by e = absurd (let clash : ◌≡◌ {A = Option Attrs} None (Some a) = e in cc)
-
-is_of : (form : Form Attrs) (peer : Neighbour) (rules : Option (List Rule)) (p : Network) (row : Route) (a : Attrs) → outgoing form peer rules p (Some row) ≡ Some a → IsOf form p row a
-is_of form peer rules p row a e =
-    of_let form p row (may_go peer p row) (let_by rules p (first_out peer row)) a (of_rules form p row (first_out peer row) rules a (first_keeps peer row)) e
 
 -- ---- so it may be said
 sayable : (exit : Exit) (peer : Neighbour) (rules : Option (List Rule)) (p : Network) (row : Option Route) → IsSender exit.profile exit.me → ForSome row (λ r. MayBeHeard exit.profile r.attrs)
     → ForSome (outgoing (form_of exit) peer rules p row) (IsSentOf exit.profile exit.external p)
 sayable exit peer rules p None sender heard a e = absurd (let clash : ◌≡◌ {A = Option Attrs} None (Some a) = e in cc)
 sayable exit peer rules p (Some row) sender heard a e =
-    let of = is_of (form_of exit) peer rules p row a e in
+    let of = only_forms_of_rows (form_of exit) peer rules p row a e in
     record { me = exit.me; row = of.0; sender = sender; heard = subst (MayBeHeard exit.profile) (sym of.2) (heard row refl); sent = of.1 }
 
 -- ---- of a change that the reader took

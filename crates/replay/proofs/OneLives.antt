@@ -1,12 +1,13 @@
 -- What is live behind lines is one: what their events make of it leaves no choice.
 use Rattle.std.proofs.Common.{◌≡◌, ℕ, ◌+◌, sym, ap, subst, ◌∙◌, Bool, true, false, not, List, [], ◌∷◌, Option, Some, None}
+use Rattle.bgp_wire.specs.Grammar.{EachHasOne}
 use Rattle.bgp_wire.specs.declared.message.Message.{Message}
 use Rattle.event_text.specs.declared.declared.DeclaredPeer.{DeclaredPeer}
 use Rattle.event_text.specs.declared.event.Event.{Event}
 use Rattle.event_text.specs.declared.event.Event.TheVariants.{Bgp}
 use Rattle.event_text.specs.Declarations.{peer_at}
 use Rattle.live_state.specs.Lives.{LiveState, LiveAfter, HearsFrom, HearsIfUp, heard}
-use Rattle.router_core.proofs.OneSessions.{EachHasOne, answer_is_one}
+use Rattle.router_core.proofs.OneSessions.{answer_is_one}
 use Rattle.replay.specs.Judging.{judge}
 use Rattle.replay.specs.One.{LiveIsOne}
 use Rattle.replay.specs.Output.{LiveThrough}

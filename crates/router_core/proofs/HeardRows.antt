@@ -4,6 +4,7 @@ use Rattle.std.proofs.Common.{◌^◌, Option, Some, None}
 use Rattle.std.proofs.lemmas.List.Elements.{All-nil}
 use Rattle.std.specs.Prelude.{filter, map, [], ◌∷◌}
 use Rattle.bgp_wire.specs.Grammar.{Reads, without}
+use Rattle.bgp_wire.specs.Grammar as grammar
 use Rattle.bgp_wire.specs.Attributes.{is_old_form}
 use Rattle.bgp_wire.specs.Readable.{IsReadableSegment, reads_reflection}
 use Rattle.bgp_wire.specs.Routes.{is_unrecognized}
@@ -128,6 +129,6 @@ changes_heard profile u own =
     (withdrawn_heard profile (without u.announced u.withdrawn)) (announced_heard profile u.attrs own (filter is_host_prefix u.announced))
 
 -- what octets say may be heard
-pub message_heard : (profile : Profile) (external : Bool) (octets : List ℕ) (message : Message) → AreOctets octets → Reads profile external octets message → IsHeardMessage profile message
+pub message_heard : (profile : Profile) (external : Bool) (octets : List ℕ) (message : Message) → AreOctets octets → grammar.Answers profile external octets message → IsHeardMessage profile message
 message_heard profile external octets (messages.Update u) are reads = λ a at. read_may_be_heard profile external octets u a are reads at
 message_heard profile external octets other are reads = tt

@@ -12,7 +12,8 @@ use Rattle.router_core.specs.Blocks.{Just, Hears, Localizes, Refilters, Redirect
 use Rattle.router_core.specs.Parts.{PartsAreOne}
 use Rattle.router_core.proofs.OneRoutes.{route_is_one}
 use Rattle.router_core.proofs.OneRuns.{One, turns_are_one, as_many, phases_are_one, first_is_one}
-use Rattle.router_core.proofs.OneSessions.{EachHasOne, answer_is_one, said_may_be_heard, loss_is_one, hearing_is_one}
+use Rattle.router_core.proofs.HeardRows.{message_heard}
+use Rattle.router_core.proofs.OneSessions.{answer_is_one, loss_is_one, hearing_is_one}
 
 -- what was said, how many turns were taken, and where that led, are one
 abbrev pub OneStep : List Line → ℕ → Moment → List Line → ℕ → Moment → Type 0
@@ -58,7 +59,7 @@ module _ (laws : PartsAreOne) (m : Moment) (said other : List Line) (turns more 
   heard_one law false k p octets at up are f g = just_one _ _ said other turns more m1 m2 f g
   heard_one law true k p octets at up are f g =
       let message : f.1.0 ≡ g.1.0 = answer_is_one m.declared.profile (not p.words.internal) octets law f.1.0 g.1.0 f.1.1 g.1.1 in
-      no_turns said other turns more m1 m2 f.0 g.0 (hearing_is_one laws k p m f.1.0 said other m1 m2 stands (p, at, up) (said_may_be_heard m.declared.profile (not p.words.internal) octets f.1.0 are f.1.1) f.1.2
+      no_turns said other turns more m1 m2 f.0 g.0 (hearing_is_one laws k p m f.1.0 said other m1 m2 stands (p, at, up) (message_heard m.declared.profile (not p.words.internal) octets f.1.0 are f.1.1) f.1.2
       (subst (λ (x : Message). Hears k p m x other m2) (sym message) g.1.2))
 
   -- whatever a declared peer's event does

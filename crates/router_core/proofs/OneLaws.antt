@@ -1,4 +1,5 @@
 -- The laws of turns and blocks, over those of the parts.
+use Rattle.bgp_wire.specs.Grammar.{EachHasOne}
 use Rattle.router_core.specs.One.{TurnIsOne, TurnsHaveWork, DrainIsOne, PhaseIsOne, PhasesAreOne, BlockIsOne, ListingIsOne}
 use Rattle.router_core.specs.Parts.{PartsAreOne}
 use Rattle.chain_determinism.proofs.PeerLemmas as chains
@@ -15,7 +16,6 @@ use Rattle.exit_determinism.proofs.ExitLemmas as exits
 use Rattle.exit_determinism.proofs.QueueLemmas as queues
 use Rattle.router_core.proofs.OneTurns.{turn_is_one, turn_has_work}
 use Rattle.router_core.proofs.OneRuns.{drain_is_one, phase_is_one, phases_are_one}
-use Rattle.router_core.proofs.OneSessions.{EachHasOne}
 use Rattle.router_core.proofs.OneBlocks.{block_is_one}
 
 parts : PartsAreOne

@@ -1,7 +1,7 @@
 -- What a message of a peer does, and the loss of a session, leave no choice.
 use Rattle.router_core.proofs.Common.{sym, subst, ◌∙◌, ap, ◌≡◌, ℕ, List, ◌++◌, Bool, inl, inr, Network, Attrs, Profile, Entry, Line, Value, AreOctets, Message, peer_at, DeclaredPeer, Declaration, LiveState, Exited, overdue_at, Moment, Stands, with_exits, with_chains, journal_lines, FeedsAll, RunsFirst, AreHeard, IsHeardMessage, changes_of}
 use Rattle.std.proofs.Common.{[], ◌∷◌, Option, Some, None}
-use Rattle.bgp_wire.specs.Grammar.{Answers, OneAnswer, Reads}
+use Rattle.bgp_wire.specs.Grammar.{Answers, EachHasOne, Reads}
 use Rattle.bgp_wire.specs.Updates.{fault}
 use Rattle.bgp_wire.specs.Spelling.{notification_octets}
 use Rattle.bgp_wire.specs.declared.notice.Notice.{Notice}
@@ -11,16 +11,13 @@ use Rattle.peer_side.specs.Steps.{LosesInward}
 use Rattle.router_core.specs.Blocks.{Loses, Hears, ended}
 use Rattle.router_core.specs.Works.{IsUpAt}
 use Rattle.router_core.proofs.FeedLemmas.{feed_keeps}
-use Rattle.router_core.proofs.HeardRows.{changes_heard, message_heard}
+use Rattle.router_core.proofs.HeardRows.{changes_heard}
 use Rattle.router_core.proofs.SessionLemmas.{silenced}
 use Rattle.router_core.specs.Parts.{PartsAreOne}
 use Rattle.router_core.proofs.OneFalls.{feed_is_one}
 use Rattle.router_core.proofs.OneRuns.{One, first_is_one}
 
 -- ---- what octets say
-abbrev pub EachHasOne : Type 0
-EachHasOne = (p : Profile) (external : Bool) (octets : List ℕ) → OneAnswer p external octets
-
 module _ (p : Profile) (external : Bool) (octets : List ℕ) where
   -- without a fault the answer is the message
   as_read : fault p external octets ≡ None → (a : Message) → Answers p external octets a → Reads p external octets a
@@ -38,11 +35,6 @@ module _ (p : Profile) (external : Bool) (octets : List ℕ) where
     | inl one ↦ sym (one.1.2 a (as_read one.0 a first)) ∙ one.1.2 b (as_read one.0 b second)
     | inr one ↦ as_fault one.0 one.1 one.2 a first ∙ sym (as_fault one.0 one.1 one.2 b second)
   ]
-
--- what they say may be heard
-pub said_may_be_heard : (profile : Profile) (external : Bool) (octets : List ℕ) (message : Message) → AreOctets octets → Answers profile external octets message → IsHeardMessage profile message
-said_may_be_heard profile external octets (messages.Update u) are says = message_heard profile external octets (messages.Update u) are says
-said_may_be_heard profile external octets other are says = tt
 
 module _ (laws : PartsAreOne) where
   -- ---- an UPDATE

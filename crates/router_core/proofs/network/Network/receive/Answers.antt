@@ -12,14 +12,9 @@ unreachable-requires c =
     bgp_there c.args.self.now.declared c.args.number c.args.octets.now c.requires.admitted
     (subst (λ (m : Moment). peer_at c.args.number m.declared.peers ≡ None) c.self.view_is (sym c.in_default.ensures))
 
--- what octets say may be heard
-said_heard : (profile : Profile) (external : Bool) (octets : List ℕ) (message : Message) → AreOctets octets → Answers profile external octets message → IsHeardMessage profile message
-said_heard profile external octets (messages.Update u) are says = message_heard profile external octets (messages.Update u) are says
-said_heard profile external octets other are says = tt
-
 pub hear-requires-clause-heard : goal.hear-requires-clause-heard
 hear-requires-clause-heard c =
-    said_heard c.args.self.now.declared.profile (not c.in-Some.peer.words.internal) c.args.octets.now c.in_ok-message.message c.requires.formed.1.bytes
+    message_heard c.args.self.now.declared.profile (not c.in-Some.peer.words.internal) c.args.octets.now c.in_ok-message.message c.requires.formed.1.bytes
     (subst (λ (f : Profile). Says f c.in-Some.peer c.args.octets.now c.in_ok-message.message) (c.profile.ensures ∙ ap (λ (m : Moment). m.declared.profile) c.self.view_is) c.in_ok-message.ensures.says)
 
 pub returns : goal.returns
