@@ -1,12 +1,13 @@
 //! A core as a caller sees it, apart from the lines that it writes.
 
 ghost use Rattle.std.specs.Prelude.{◌≡◌, OnOk, false};
-ghost use Rattle.router_core.specs.Stands.{CoreStands};
+ghost use Rattle.router_moments.specs.Stands.{CoreStands};
 
 use addr4::read_prefix;
 use event_text::{admit, parse};
 use journal_text::{Journal, Link, Task};
-use router_core::{Core, Done, Phase};
+use router_core::Core;
+use router_moments::{Done, Phase};
 use std::alloc::Global;
 use std::test::Fail;
 

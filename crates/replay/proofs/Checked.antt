@@ -12,7 +12,7 @@ use Rattle.journal_laws.specs.Printed.{IsTold, IsPrinted, values_in}
 use Rattle.journal_laws.proofs.LawfulTexts.{printed_judged, refused_judged, lawful_ends}
 use Rattle.event_gen.specs.Lines.{text}
 use Rattle.event_text.specs.Declarations.{Declaration, no_declaration, IsCounted}
-use Rattle.router_core.specs.Moments.{Moment, first_moment}
+use Rattle.router_moments.specs.Moments.{Moment, first_moment}
 use Rattle.live_state.specs.Declared.{declared_after}
 use Rattle.journal_laws.specs.Peers.{neighbours, KeepsPeers}
 use Rattle.check_run.specs.Lines.{lines_of}

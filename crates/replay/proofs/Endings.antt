@@ -15,8 +15,8 @@ use Rattle.event_gen.specs.Lines.{text}
 use Rattle.replay.specs.Answers.{HasFirst}
 use Rattle.replay.specs.declared.status.Status.{Status}
 use Rattle.replay.specs.declared.status.Status.TheVariants as statuses
-use Rattle.router_core.specs.Stands.{Stands}
-use Rattle.router_core.specs.Moments.{Moment, first_moment}
+use Rattle.router_moments.specs.Stands.{Stands}
+use Rattle.router_moments.specs.Moments.{Moment, first_moment}
 use Rattle.check_run.specs.Lines.{lines_of, lines_in}
 use Rattle.replay.specs.Judging.{verdict, status_of}
 use Rattle.replay.specs.Output.{IsOutput, IsRefusedOutput, IsOutputOfFront, IsOutputOfEnded, IsFrontOfOutput}

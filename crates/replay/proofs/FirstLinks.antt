@@ -9,7 +9,7 @@ use Rattle.exit_side.proofs.LawLemmas.{stands_at_first as exits_at_first}
 use Rattle.hop_side.proofs.LawLemmas.{stands_at_first}
 use Rattle.peer_side.specs.Peers.{filt_at}
 use Rattle.peer_side.proofs.LinkLemmas.{no_peer}
-use Rattle.router_core.specs.Moments.{first_moment, best_of, router_links}
+use Rattle.router_moments.specs.Moments.{first_moment, best_of, router_links}
 
 -- nobody is up
 no_exit : (link : Link) → exit_links first_moment.exits (best_of first_moment) link ≡ None

@@ -6,7 +6,7 @@ use Rattle.check_run.proofs.Pieces.{lines_behind}
 use Rattle.std.proofs.Math.Seq.{take-append_seam}
 use Rattle.check_run.specs.Runs.{Took, Writes, ReadsAndWrites, IsFrontOf}
 use Rattle.check_run.proofs.Known.{appends_then}
-use Rattle.router_core.specs.Moments.{Moment}
+use Rattle.router_moments.specs.Moments.{Moment}
 use Rattle.replay.specs.Output.{IsOutput, IsOutputTo, IsOutputOfFront, IsOutputOfEnded, IsFrontOfOutput}
 use Rattle.replay.specs.Totals.{AreTotals, IsWholeOutput, IsFrontOfWhole}
 use Rattle.replay.proofs.Endings.{whole_front}

@@ -1,6 +1,6 @@
 -- One piece after another.
 use Rattle.std.proofs.Common.{◌≡◌, ℕ, ◌+◌, Bool, true, false, List, ◌++◌, length, sym, ap, ◌∙◌, inl, inr, ⊎_elim, arith, subst, append_assoc, length-append}
-use Rattle.router_core.specs.Moments.{Moment}
+use Rattle.router_moments.specs.Moments.{Moment}
 use Rattle.replay.specs.Output.{IsRefusedOutput}
 use Rattle.replay.specs.Stream.{HasStepped, IsRefusedAt, GoesOn, IsNearer, HasTaken}
 

@@ -23,11 +23,11 @@ use Rattle.out_chain.specs.Chains.{OutChained}
 use Rattle.exit_side.specs.Exits.{chain_at as exit_at}
 use Rattle.exit_laws.specs.Views.{sent_by, views_of}
 use Rattle.exit_laws.specs.Laws.{HearingJoins, HearingStays, HeardIsSent}
-use Rattle.router_core.specs.Moments.{Moment, Policies, first_moment, best_of as best_now, router_links, rules_to}
-use Rattle.router_core.specs.Peers.{is_up}
-use Rattle.router_core.specs.Stands.{Stands, ExitsAt, AllHaveExits}
-use Rattle.router_core.specs.Lives.{live_state}
-use Rattle.router_core.specs.Scratch.{IsExact}
+use Rattle.router_moments.specs.Moments.{Moment, Policies, first_moment, best_of as best_now, router_links, rules_to}
+use Rattle.router_moments.specs.Peers.{is_up}
+use Rattle.router_moments.specs.Stands.{Stands, ExitsAt, AllHaveExits}
+use Rattle.router_moments.specs.Lives.{live_state}
+use Rattle.router_moments.specs.Scratch.{IsExact}
 use Rattle.replay.specs.Heard.{AreHeard, AreSent, AreBest}
 
 -- ---- at first

@@ -2,9 +2,9 @@
 use Rattle.std.proofs.Common.{ℕ, ◌+◌, List, [], ◌∷◌, ap, subst}
 use Rattle.journal_text.specs.declared.line.Line.{Line}
 use Rattle.live_state.specs.Lives.{LiveState, first_live}
-use Rattle.router_core.specs.Lives.{live_state}
-use Rattle.router_core.specs.Moments.{Moment, first_moment}
-use Rattle.router_core.proofs.FirstLives.{live_at_first}
+use Rattle.router_moments.specs.Lives.{live_state}
+use Rattle.router_moments.specs.Moments.{Moment, first_moment}
+use Rattle.router_moments.proofs.FirstLives.{live_at_first}
 use Rattle.replay.specs.Output.{Run, LiveThrough}
 
 run_lives : (n : ℕ) (m : Moment) (lines : List (List ℕ)) (out : List Line) (end : Moment) → Run n m lines out end → LiveThrough n (live_state m) lines (live_state end)

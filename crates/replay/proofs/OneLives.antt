@@ -7,7 +7,7 @@ use Rattle.event_text.specs.declared.event.Event.{Event}
 use Rattle.event_text.specs.declared.event.Event.TheVariants.{Bgp}
 use Rattle.event_text.specs.Declarations.{peer_at}
 use Rattle.live_state.specs.Lives.{LiveState, LiveAfter, HearsFrom, HearsIfUp, heard}
-use Rattle.router_core.proofs.OneSessions.{answer_is_one}
+use Rattle.router_determinism.proofs.OneSessions.{answer_is_one}
 use Rattle.replay.specs.Judging.{judge}
 use Rattle.replay.specs.One.{LiveIsOne}
 use Rattle.replay.specs.Output.{LiveThrough}

@@ -20,11 +20,11 @@ use Rattle.check_run.specs.Lines.{lines_of}
 use Rattle.check_run.specs.Runs.{Took, Writes}
 use Rattle.command_line.specs.declared.words.Command.{Command}
 use Rattle.command_line.specs.declared.words.Command.TheVariants as commands
-use Rattle.router_core.specs.Blocks.{IsBlock}
-use Rattle.router_core.specs.Laws.{FirstStands}
-use Rattle.router_core.specs.Moments.{Moment, first_moment, router_links}
-use Rattle.router_core.specs.One.{BlockIsOne, ListingIsOne}
-use Rattle.router_core.specs.Stands.{Stands}
+use Rattle.router_moments.specs.Blocks.{IsBlock}
+use Rattle.router_moments.specs.Laws.{FirstStands}
+use Rattle.router_moments.specs.Moments.{Moment, first_moment, router_links}
+use Rattle.router_determinism.specs.One.{BlockIsOne, ListingIsOne}
+use Rattle.router_moments.specs.Stands.{Stands}
 use Rattle.replay.specs.Judging.{judge, verdict}
 use Rattle.replay.specs.One.{OutputIsOne, RefusalIsOne, TotalsAreOne, CallsAreOne}
 use Rattle.replay.specs.Output.{Step, Run, RunIn, IsOutput}

@@ -13,8 +13,8 @@ use Rattle.journal_text.specs.declared.value.Value.{Value}
 use Rattle.journal_text.specs.Texts.{line_text, text_of, shown, entries_of, entry_list}
 use Rattle.journal_text.specs.Walk.{Leads, no_links}
 use Rattle.event_text.specs.Declarations.{no_declaration}
-use Rattle.router_core.specs.Moments.{Moment, first_moment, router_links}
-use Rattle.router_core.specs.Stands.{Stands}
+use Rattle.router_moments.specs.Moments.{Moment, first_moment, router_links}
+use Rattle.router_moments.specs.Stands.{Stands}
 use Rattle.replay.proofs.FirstLinks.{none_at_first}
 use Rattle.replay.proofs.HeardLemmas.{nobody_hears, nothing_sent}
 use Rattle.replay.specs.Judging.{judge, verdict_from}

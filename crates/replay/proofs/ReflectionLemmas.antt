@@ -19,8 +19,8 @@ use Rattle.journal_laws.proofs.PrintedPeers.{event_leaves}
 use Rattle.live_state.specs.Decided.{best_of, sent_rows}
 use Rattle.live_state.specs.Reflected.{ReflectionIsMarked}
 use Rattle.exit_laws.specs.Views.{views_of}
-use Rattle.router_core.specs.Lives.{live_state}
-use Rattle.router_core.specs.Moments.{Moment, first_moment}
+use Rattle.router_moments.specs.Lives.{live_state}
+use Rattle.router_moments.specs.Moments.{Moment, first_moment}
 use Rattle.replay.specs.Output.{Step, Run}
 use Rattle.replay.specs.Reflection.{ReflectedRoutesAreMarked}
 use Rattle.replay.proofs.Lines.{accepted_is_admitted, accepted_is_read}

@@ -19,11 +19,11 @@ use Rattle.exit_side.specs.Exits.{chain_at}
 use Rattle.exit_laws.specs.Views.{sent_by}
 use Rattle.exit_laws.specs.Served.{IsServed}
 use Rattle.exit_laws.proofs.ServedLemmas.{serving_ends}
-use Rattle.router_core.specs.declared.router.Phase.TheVariants as phases
-use Rattle.router_core.specs.Blocks.{IsBlock}
-use Rattle.router_core.specs.Moments.{Moment, Policies}
-use Rattle.router_core.specs.Refreshes.{IsServedAt}
-use Rattle.router_core.specs.Stands.{Stands, ExitsAt}
+use Rattle.router_moments.specs.declared.tasks.Phase.TheVariants as phases
+use Rattle.router_moments.specs.Blocks.{IsBlock}
+use Rattle.router_moments.specs.Moments.{Moment, Policies}
+use Rattle.router_moments.specs.Refreshes.{IsServedAt}
+use Rattle.router_moments.specs.Stands.{Stands, ExitsAt}
 use Rattle.replay.specs.Output.{Run}
 use Rattle.replay.specs.Refreshes.{RefreshesAreServed, RefreshesEnd}
 

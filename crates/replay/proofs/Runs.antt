@@ -5,8 +5,8 @@ use Rattle.journal_text.specs.declared.line.Code.{Code}
 use Rattle.journal_text.specs.declared.line.Line.{Line}
 use Rattle.event_text.specs.declared.event.Event.{Event}
 use Rattle.event_text.specs.Declarations.{Declaration}
-use Rattle.router_core.specs.Moments.{Moment}
-use Rattle.router_core.specs.Blocks.{Acts}
+use Rattle.router_moments.specs.Moments.{Moment}
+use Rattle.router_moments.specs.Blocks.{Acts}
 use Rattle.live_state.specs.Declared.{declared_after}
 use Rattle.replay.specs.Judging.{judge, verdict_from, refused_or}
 use Rattle.replay.specs.Output.{Step, Run, RunIn}

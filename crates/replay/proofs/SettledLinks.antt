@@ -3,9 +3,9 @@ use Rattle.std.proofs.Common.{◌≡◌, ℕ, List, subst}
 use Rattle.journal_text.specs.declared.line.Line.{Line}
 use Rattle.event_text.specs.declared.event.Event.{Event}
 use Rattle.event_text.specs.declared.event.Event.TheVariants.{Idle}
-use Rattle.router_core.specs.Moments.{Moment}
-use Rattle.router_core.specs.Scratch.{IsExact}
-use Rattle.router_core.specs.Blocks.{IsBlock}
+use Rattle.router_moments.specs.Moments.{Moment}
+use Rattle.router_moments.specs.Scratch.{IsExact}
+use Rattle.router_moments.specs.Blocks.{IsBlock}
 
 pub idle_exact : (m : Moment) (event : Event) (said : List Line) (turns : ℕ) (next : Moment) → IsBlock m event said turns next → event ≡ Idle → IsExact next
 idle_exact m event said turns next block is = (subst (λ (e : Event). IsBlock m e said turns next) is block).exact

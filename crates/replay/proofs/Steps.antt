@@ -9,12 +9,12 @@ use Rattle.journal_text.specs.Journals.{Journaled, with_lines, flushed}
 use Rattle.journal_text.specs.Texts.{line_text, text_of, entries_of}
 use Rattle.journal_text.specs.Walk.{LeadsOn, no_links}
 use Rattle.event_text.specs.declared.event.Event.{Event}
-use Rattle.router_core.specs.Moments.{Moment, Gives, router_links}
-use Rattle.router_core.specs.Stands.{Stands, AllHaveExits}
-use Rattle.router_core.specs.Lives.{live_state}
+use Rattle.router_moments.specs.Moments.{Moment, Gives, router_links}
+use Rattle.router_moments.specs.Stands.{Stands, AllHaveExits}
+use Rattle.router_moments.specs.Lives.{live_state}
 use Rattle.live_state.specs.Laws.{DeclarationsFollow}
-use Rattle.router_core.specs.Scratch.{IsExactAtRest}
-use Rattle.router_core.specs.Blocks.{Acts}
+use Rattle.router_moments.specs.Scratch.{IsExactAtRest}
+use Rattle.router_moments.specs.Blocks.{Acts}
 use Rattle.replay.specs.Judging.{judge}
 use Rattle.exit_laws.specs.Laws.{HearingJoins, HearingStays, HeardIsSent}
 use Rattle.replay.proofs.SettledLinks.{idle_exact}

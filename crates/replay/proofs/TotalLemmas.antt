@@ -5,7 +5,7 @@ use Rattle.std.proofs.Math.Seq.{take-length, take-suc}
 use Rattle.journal_text.specs.declared.line.Line.TheVariants.{Rows, Work}
 use Rattle.journal_text.specs.declared.link.Link.{Link}
 use Rattle.journal_text.specs.Texts.{line_text}
-use Rattle.router_core.specs.Moments.{Moment, router_links}
+use Rattle.router_moments.specs.Moments.{Moment, router_links}
 use Rattle.replay.specs.Totals.{Adds, AreTotals, AreTotalsOf, IsTotal, rows_line, total_links, turns_line}
 
 -- a line's text begins with its first word, here one of four bytes

@@ -11,7 +11,7 @@ use Rattle.journal_text.specs.declared.value.Value.{Value}
 use Rattle.journal_check.proofs.InkLemmas.{all_append, ink_by}
 use Rattle.event_text.specs.declared.declared.DeclaredPeer.{DeclaredPeer}
 use Rattle.event_text.specs.Declarations.{IsCounted, peer_at}
-use Rattle.router_core.specs.Moments.{Moment, router_links}
+use Rattle.router_moments.specs.Moments.{Moment, router_links}
 use Rattle.replay.specs.Output.{Run}
 use Rattle.replay.specs.Totals.{AreTotals, AreTotalsOf, IsTotal, sent_link, total_links, turns_line}
 use Rattle.replay.proofs.Lines.{accepted_is_admitted}

@@ -1,7 +1,7 @@
 -- How far a run has come.
 use Rattle.std.specs.Prelude.{ℕ, Bool, List, Option}
 use Rattle.std.specs.Io.KnownBytes.{Appends, Consumes}
-use Rattle.router_core.specs.Moments.{Moment}
+use Rattle.router_moments.specs.Moments.{Moment}
 use Rattle.replay.specs.Stream.{HasStepped}
 
 -- what was read of a source, and what a sink took, up to now

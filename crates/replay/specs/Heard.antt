@@ -12,8 +12,8 @@ use Rattle.live_state.specs.Lives.{LiveState}
 use Rattle.live_state.specs.Decided.{sent_rows, best_of}
 use Rattle.live_state.specs.Heard.{Views, no_views, Hears}
 use Rattle.exit_laws.specs.Views.{views_of}
-use Rattle.router_core.specs.Moments.{Moment, router_links}
-use Rattle.router_core.specs.Peers.{is_up}
+use Rattle.router_moments.specs.Moments.{Moment, router_links}
+use Rattle.router_moments.specs.Peers.{is_up}
 
 -- The lines of the whole output, from the first on, lead the peers, which had heard nothing, to what each was sent in its session.
 abbrev pub AreHeard : List Line → Moment → Type 0

@@ -7,14 +7,14 @@ use Rattle.journal_text.specs.Texts.{line_text, text_of, entries_of}
 use Rattle.journal_text.specs.Walk.{Leads, no_links}
 use Rattle.event_text.specs.declared.event.Event.{Event}
 use Rattle.event_text.specs.declared.event.Event.TheVariants.{Idle}
-use Rattle.router_core.specs.Moments.{Moment, first_moment, router_links}
-use Rattle.router_core.specs.Stands.{Stands}
+use Rattle.router_moments.specs.Moments.{Moment, first_moment, router_links}
+use Rattle.router_moments.specs.Stands.{Stands}
 use Rattle.live_state.specs.Declared.{declared_after}
 use Rattle.live_state.specs.Lives.{LiveState, LiveAfter, first_live}
-use Rattle.router_core.specs.Scratch.{IsExact, IsExactAtRest}
-use Rattle.router_core.specs.Blocks.{Acts}
+use Rattle.router_moments.specs.Scratch.{IsExact, IsExactAtRest}
+use Rattle.router_moments.specs.Blocks.{Acts}
 use Rattle.exit_laws.specs.Views.{views_of}
-use Rattle.router_core.specs.Lives.{live_state}
+use Rattle.router_moments.specs.Lives.{live_state}
 use Rattle.replay.specs.Judging.{judge, verdict}
 use Rattle.replay.specs.Heard.{AreHeard, AreSent, AreBest}
 use Rattle.check_run.specs.Lines.{AreEnded, lines_of}

@@ -10,8 +10,8 @@ use Rattle.event_text.specs.declared.declared.DeclaredPeer.{DeclaredPeer}
 use Rattle.event_text.specs.Declarations.{peer_at}
 use Rattle.live_state.specs.Reflected.{IsBestAsSent}
 use Rattle.exit_laws.specs.Views.{views_of}
-use Rattle.router_core.specs.Lives.{live_state}
-use Rattle.router_core.specs.Moments.{Moment, first_moment}
+use Rattle.router_moments.specs.Lives.{live_state}
+use Rattle.router_moments.specs.Moments.{Moment, first_moment}
 use Rattle.replay.specs.Output.{Step, Run}
 
 -- Behind some lines comes an idle. Each route that a peer that is up has heard then is the best of those that are live, decided from scratch,

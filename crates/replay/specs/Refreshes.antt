@@ -10,8 +10,8 @@ use Rattle.event_text.specs.declared.declared.DeclaredPeer.{DeclaredPeer}
 use Rattle.event_text.specs.Declarations.{peer_at}
 use Rattle.live_state.specs.Refreshes.{AsksAgain, IsAnnounced}
 use Rattle.exit_laws.specs.Views.{views_of}
-use Rattle.router_core.specs.Moments.{Moment}
-use Rattle.router_core.specs.Turns.{has_work}
+use Rattle.router_moments.specs.Moments.{Moment}
+use Rattle.router_moments.specs.Turns.{has_work}
 use Rattle.replay.specs.Output.{Step, Run}
 
 -- By the event of a line peer k asked for all routes again; the lines behind it were stepped, and this is said since; the session is

@@ -8,8 +8,8 @@ use Rattle.journal_text.specs.declared.value.Value.{Value}
 use Rattle.journal_text.specs.Journals.{Journaled}
 use Rattle.journal_text.specs.Texts.{line_text, text_of, entries_of}
 use Rattle.journal_text.specs.Walk.{Leads, no_links}
-use Rattle.router_core.specs.Moments.{Moment, Cored, first_moment, router_links}
-use Rattle.router_core.specs.Stands.{Stands, CoreStands}
+use Rattle.router_moments.specs.Moments.{Moment, Cored, first_moment, router_links}
+use Rattle.router_moments.specs.Stands.{Stands, CoreStands}
 use Rattle.exit_laws.specs.Views.{views_of}
 use Rattle.replay.specs.Judging.{judge}
 use Rattle.replay.specs.Heard.{AreHeard, AreSent}

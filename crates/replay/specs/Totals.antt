@@ -9,8 +9,8 @@ use Rattle.journal_text.specs.declared.value.Value.{Value}
 use Rattle.journal_text.specs.Texts.{link_text, words_line}
 use Rattle.event_text.specs.declared.declared.DeclaredPeer.{DeclaredPeer}
 use Rattle.event_text.specs.Declarations.{peer_at}
-use Rattle.router_core.specs.Blocks.{AreRows}
-use Rattle.router_core.specs.Moments.{Moment, router_links}
+use Rattle.router_moments.specs.Blocks.{AreRows}
+use Rattle.router_moments.specs.Moments.{Moment, router_links}
 use Rattle.check_run.specs.Lines.{lines_of}
 use Rattle.replay.specs.Output.{IsOutput, IsOutputTo, IsRefusedOutput, IsOutputOfFront, IsFrontOfOutput}
 

@@ -11,7 +11,8 @@ use event_gen::lines_are_read;
 use journal_check::there_is_one_answer;
 use live_state::routes_are_reflected;
 use mrt_reader::{lines_are_few, texts_are_one};
-use router_core::{blocks_are_one, first_moment_stands};
+use router_determinism::blocks_are_one;
+use router_moments::first_moment_stands;
 
 /// No line of a seed is refused.
 pub fn seeds_are_accepted()

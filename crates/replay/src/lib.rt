@@ -47,7 +47,7 @@ use crate::laws::{
 };
 use command_line::read_command;
 use edge_io::{Sink, Source};
-use router_core::first_moment_stands;
+use router_moments::first_moment_stands;
 pub use status::Status;
 use std::alloc::Global;
 

@@ -9,7 +9,8 @@ use crate::stepping::step_line;
 use addr4::Memory;
 use check_run::{first_line, without_return};
 use journal_text::{Code, Journal, Line};
-use router_core::{Core, first_moment_stands};
+use router_core::Core;
+use router_moments::first_moment_stands;
 use std::alloc::Global;
 
 /// So many bytes without an LF may be part of a line, which may end with CR LF; with one more the line is refused.

@@ -5,7 +5,7 @@ ghost use Rattle.edge_io.specs.Causes.{Rose};
 ghost use Rattle.check_run.specs.Runs.{Writes, IsFrontOf};
 ghost use Rattle.journal_text.specs.Texts.{line_text};
 ghost use Rattle.event_text.specs.Declarations.{peer_at};
-ghost use Rattle.router_core.specs.Moments.{router_links};
+ghost use Rattle.router_moments.specs.Moments.{router_links};
 ghost use Rattle.replay.specs.Totals.{Adds, AreTotals, AreTotalsOf, IsTotal, rows_line, sent_link, sent_links, total_links, turns_line};
 
 use crate::status::Status;

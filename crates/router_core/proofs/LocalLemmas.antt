@@ -1,5 +1,5 @@
 -- `local`: the links of the interior routes begin.
-use Rattle.router_core.proofs.Common.{sym, subst, ◌∙◌, ap, ◌≡◌, ℕ, refl, List, true, arith, false, ◌+◌, ◌++◌, cond, ◌<◌, suc, zero, take, get_or, nat_tests, take_more, nat_cmp_total, get-insert, nat_cmp, eq_by_cmp, Route, Speaker, peer_at, Declaration, AllStand, with_queue, Queued, AllLead, unread_or_none, resolver_at, rows_by, with_lines_append, Journaled, Adds, with_entries, with_lines, entries_of, route_rows, Leads, Links, Link, Best, Fib, Adv, Read, Outf, Org, Value, rows_before, Rows, no_rows, Resolving, Metric, OutChained, Passed, IsSender, filt_at, Protos, StandsOver, RibExit, Proto, Connected, Static, Ospf, Rip, Interior, of_new, org_rows, int_rows, Treed, branch_of, tree_links, low_rows, dyn_rows, own_rows, all_at, best_at, best_links, own_links, live_state, Moment, best_of, router_links, own_of, read_of, read_by, tree_by, forward_by, Stands, ExitsAt, journal_lines, Pushes, HasStepped}
+use Rattle.router_moments.proofs.Common.{sym, subst, ◌∙◌, ap, ◌≡◌, ℕ, refl, List, true, arith, false, ◌+◌, ◌++◌, cond, ◌<◌, suc, zero, take, get_or, nat_tests, take_more, nat_cmp_total, get-insert, nat_cmp, eq_by_cmp, Route, Speaker, peer_at, Declaration, AllStand, with_queue, Queued, AllLead, unread_or_none, resolver_at, rows_by, with_lines_append, Journaled, Adds, with_entries, with_lines, entries_of, route_rows, Leads, Links, Link, Best, Fib, Adv, Read, Outf, Org, Value, rows_before, Rows, no_rows, Resolving, Metric, OutChained, Passed, IsSender, filt_at, Protos, StandsOver, RibExit, Proto, Connected, Static, Ospf, Rip, Interior, of_new, org_rows, int_rows, Treed, branch_of, tree_links, low_rows, dyn_rows, own_rows, all_at, best_at, best_links, own_links, live_state, Moment, best_of, router_links, own_of, read_of, read_by, tree_by, forward_by, Stands, ExitsAt, journal_lines, Pushes, HasStepped}
 use Rattle.std.proofs.Common.{[], ◌∷◌, map, length, Option, Some, None, is_some}
 use Rattle.std.specs.FinMap as tables
 use Rattle.std.proofs.lemmas.List.{map-append}
@@ -11,24 +11,24 @@ use Rattle.redist.proofs.LawLemmas.{nothing_at_first}
 use Rattle.rib_exit.specs.Exits.{nothing_yet, exit_links}
 use Rattle.rib_exit.specs.Steps.{begin_entries}
 use Rattle.rib_exit.proofs.LawLemmas.{stands_at_first}
-use Rattle.router_core.proofs.BestLemmas.{best_none}
+use Rattle.router_moments.proofs.BestLemmas.{best_none}
 use Rattle.journal_text.specs.Values.{interior_rows}
 use Rattle.event_text.specs.declared.event.Event.TheVariants as events
 use Rattle.event_text.specs.Declarations.{refusal, with_speaker}
-use Rattle.router_core.specs.Blocks.{begin_line, first_begins, rib_begins, declared_speaker}
-use Rattle.router_core.proofs.BeforeLocal.{local_first, no_chain, no_exit, no_reader, read_before}
+use Rattle.router_moments.specs.Blocks.{begin_line, first_begins, rib_begins, declared_speaker}
+use Rattle.router_moments.proofs.BeforeLocal.{local_first, no_chain, no_exit, no_reader, read_before}
 use Rattle.bgp_attr.specs.Speakers.{IsSpeaker}
 use Rattle.fanout_queue.specs.Queues.{AllBelowRead}
 use Rattle.fanout_queue.proofs.LeadLemmas.{join_keeps_leading}
 use Rattle.exit_side.specs.Exits.{exit_links as exit_links_of}
 use Rattle.exit_side.specs.Laws.{IsStranger, StaysWithQueue, StrangersJoin}
-use Rattle.router_core.proofs.HeardSteps.{heard_quiet}
-use Rattle.router_core.proofs.QueueLemmas.{exits_none}
-use Rattle.router_core.proofs.SessionLemmas.{may_send}
+use Rattle.router_moments.proofs.HeardSteps.{heard_quiet}
+use Rattle.router_moments.proofs.QueueLemmas.{exits_none}
+use Rattle.router_moments.proofs.SessionLemmas.{may_send}
 use Rattle.rib_tree.proofs.NewLemmas.{org_empty, low_empty, dyn_empty, int_empty}
 use Rattle.loss_chain.specs.Tables.{rows_above}
 use Rattle.std.specs.Prelude.{option_map}
-use Rattle.router_core.specs.Works.{BeginsReading}
+use Rattle.router_moments.specs.Works.{BeginsReading}
 
 same_key : (k : ℕ) → eq_by_cmp nat_cmp k k ≡ true
 same_key k = grind (arith, nat_tests)

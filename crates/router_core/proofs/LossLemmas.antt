@@ -1,5 +1,5 @@
 -- The loss of a session.
-use Rattle.router_core.proofs.Common.{sym, subst, ◌∙◌, ap, ◌≡◌, ℕ, refl, List, true, ◌+◌, Bool, ◌++◌, cond, nat_eq, same_Some, peer_at, Declaration, without_session, DeclaredPeer, others_are_unheard, Exited, Chained, Journaled, flushed, Adds, Entry, Line, Value, Inward, no_table, OutChained, chain_at, Chains, peer_links, overdue_at, live_state, Moment, own_of, Gives, with_exits, with_chains, Stands, ExitsAt, StandsAt, PeerStands, ExitsStand, open_session, journal_lines, Pushes, Keeps}
+use Rattle.router_moments.proofs.Common.{sym, subst, ◌∙◌, ap, ◌≡◌, ℕ, refl, List, true, ◌+◌, Bool, ◌++◌, cond, nat_eq, same_Some, peer_at, Declaration, without_session, DeclaredPeer, others_are_unheard, Exited, Chained, Journaled, flushed, Adds, Entry, Line, Value, Inward, no_table, OutChained, chain_at, Chains, peer_links, overdue_at, live_state, Moment, own_of, Gives, with_exits, with_chains, Stands, ExitsAt, StandsAt, PeerStands, ExitsStand, open_session, journal_lines, Pushes, Keeps}
 use Rattle.std.proofs.Common.{Option, Some, None, is_some}
 use Rattle.std.specs.FinMap as tables
 use Rattle.in_chain.specs.Steps.{lost}
@@ -10,17 +10,17 @@ use Rattle.link_region.proofs.RegionLemmas.{by_bool}
 use Rattle.exit_side.specs.Exits.{chain_at as exit_at}
 use Rattle.exit_side.specs.Steps.{EndsExit}
 use Rattle.live_state.specs.Lives.{ended}
-use Rattle.router_core.specs.Works.{HasRoom, IsSession, HasLost, Ends}
+use Rattle.router_moments.specs.Works.{HasRoom, IsSession, HasLost, Ends}
 use Rattle.live_state.proofs.AdmittedLemmas.{down, ended_same, ended_other, ended_length}
-use Rattle.router_core.proofs.BestLemmas.{best_quiet}
-use Rattle.router_core.proofs.HopLemmas.{hops_quiet}
-use Rattle.router_core.proofs.RegionLemmas.{leads_inward}
-use Rattle.router_core.proofs.StandLemmas.{remade, peer_of, same_peers, chain_there, KeepsOthers, stands_put, live_routed}
-use Rattle.router_core.proofs.KeepLemmas.{keeps_then, gives_push, push_gives}
-use Rattle.router_core.proofs.HeardRows.{put_heard, lost_heard}
-use Rattle.router_core.proofs.HeardSteps.{heard_quiet}
-use Rattle.router_core.proofs.QueueLemmas.{exits_none, exits_stay}
-use Rattle.router_core.proofs.SessionLemmas.{silenced}
+use Rattle.router_moments.proofs.BestLemmas.{best_quiet}
+use Rattle.router_moments.proofs.HopLemmas.{hops_quiet}
+use Rattle.router_moments.proofs.RegionLemmas.{leads_inward}
+use Rattle.router_moments.proofs.StandLemmas.{remade, peer_of, same_peers, chain_there, KeepsOthers, stands_put, live_routed}
+use Rattle.router_moments.proofs.KeepLemmas.{keeps_then, gives_push, push_gives}
+use Rattle.router_moments.proofs.HeardRows.{put_heard, lost_heard}
+use Rattle.router_moments.proofs.HeardSteps.{heard_quiet}
+use Rattle.router_moments.proofs.QueueLemmas.{exits_none, exits_stay}
+use Rattle.router_moments.proofs.SessionLemmas.{silenced}
 use Rattle.exit_laws.proofs.ViewLemmas.{gone_here}
 
 -- ---- what stands after the loss

@@ -1,18 +1,18 @@
 -- The loss of a protocol.
-use Rattle.router_core.proofs.Common.{sym, subst, ◌∙◌, ap, ◌≡◌, refl, List, ◌+◌, ◌++◌, ◌≤◌, Speaker, Lose, others_are_unheard, entries_of_entries, Journaled, flushed, with_entries, Leads, Entry, Line, Value, Rows, InteriorRoutes, Proto, Interior, tree_leads, put_all, Branch, LeadsTree, tree_overdue, int_rows, Treed, branch_of, IsTree, tree_links, IsFull, own_rows, best_at, live_state, Moment, router_links, Gives, with_tree, Stands, journal_lines, Pushes, HasStepped}
+use Rattle.router_moments.proofs.Common.{sym, subst, ◌∙◌, ap, ◌≡◌, refl, List, ◌+◌, ◌++◌, ◌≤◌, Speaker, Lose, others_are_unheard, entries_of_entries, Journaled, flushed, with_entries, Leads, Entry, Line, Value, Rows, InteriorRoutes, Proto, Interior, tree_leads, put_all, Branch, LeadsTree, tree_overdue, int_rows, Treed, branch_of, IsTree, tree_links, IsFull, own_rows, best_at, live_state, Moment, router_links, Gives, with_tree, Stands, journal_lines, Pushes, HasStepped}
 use Rattle.std.proofs.Common.{length, Some, None, IsSome}
 use Rattle.rib_tree.specs.BranchSteps.{lost_branch}
 use Rattle.loss_chain.specs.declared.owner.Owner.TheVariants as owners
 use Rattle.rib_tree.specs.Steps.{lost_tree, tree_loss_entries}
 use Rattle.live_state.specs.Lives.{interior_lost}
-use Rattle.router_core.specs.Works.{EndsProtocol, HasProtocolRoom}
-use Rattle.router_core.proofs.HeardSteps.{heard_quiet}
-use Rattle.router_core.proofs.QueueLemmas.{exits_stay}
-use Rattle.router_core.proofs.RibLinks.{leads_above}
+use Rattle.router_moments.specs.Works.{EndsProtocol, HasProtocolRoom}
+use Rattle.router_moments.proofs.HeardSteps.{heard_quiet}
+use Rattle.router_moments.proofs.QueueLemmas.{exits_stay}
+use Rattle.router_moments.proofs.RibLinks.{leads_above}
 use Rattle.loss_chain.proofs.TableLemmas.{few_lost}
-use Rattle.router_core.proofs.RouteLemmas.{stands_replanted, live_lost}
-use Rattle.router_core.proofs.KeepLemmas.{keeps_then, gives_push}
-use Rattle.router_core.proofs.StandLemmas.{speaker_of}
+use Rattle.router_moments.proofs.RouteLemmas.{stands_replanted, live_lost}
+use Rattle.router_moments.proofs.KeepLemmas.{keeps_then, gives_push}
+use Rattle.router_moments.proofs.StandLemmas.{speaker_of}
 
 -- the loss alone
 pub protocol_ended : (proto : Proto) (m : Moment) (t : Treed) (before now : Journaled) → Stands m → tree_overdue proto m.tree ≡ None → IsSome m.declared.speaker → t ≡ lost_tree proto m.tree

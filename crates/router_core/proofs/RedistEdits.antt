@@ -1,5 +1,5 @@
 -- A protocol that is redistributed from now on, or isn't: that changes no row yet.
-use Rattle.router_core.proofs.Common.{sym, subst, ◌∙◌, ap, ◌≡◌, refl, true, false, Bool, cond, Route, Speaker, Redist, AllStand, AllLead, leads_nowhere, Rows, joined, Region, Decided, Redistributed, Outward, speaker_since, Passed, present, redistributed, has, Protos, StandsOver, Proto, Connected, Static, Ospf, Rip, Interior, int_rows, own_rows, best_at, best_links, own_links, live_state, Moment, best_of, router_links, own_of, read_rows_by, parts, read_links, with_redist, Stands, HasStepped}
+use Rattle.router_moments.proofs.Common.{sym, subst, ◌∙◌, ap, ◌≡◌, refl, true, false, Bool, cond, Route, Speaker, Redist, AllStand, AllLead, leads_nowhere, Rows, joined, Region, Decided, Redistributed, Outward, speaker_since, Passed, present, redistributed, has, Protos, StandsOver, Proto, Connected, Static, Ospf, Rip, Interior, int_rows, own_rows, best_at, best_links, own_links, live_state, Moment, best_of, router_links, own_of, read_rows_by, parts, read_links, with_redist, Stands, HasStepped}
 use Rattle.std.proofs.Common.{[], Option, Some, None, IsSome, is_some}
 use Rattle.pass_core.specs.Passed.{edited}
 use Rattle.pass_core.proofs.TurnLemmas.{an_edit_keeps_the_rows}
@@ -8,8 +8,8 @@ use Rattle.event_text.specs.Declarations.{refusal}
 use Rattle.exit_side.specs.Exits.{exit_links}
 use Rattle.link_region.specs.declared.regions.Region.TheVariants.{External}
 use Rattle.live_state.specs.Lives.{with_redistributed, same_protocol}
-use Rattle.router_core.proofs.HeardSteps.{heard_quiet}
-use Rattle.router_core.proofs.PeerLemmas.{present_edited}
+use Rattle.router_moments.proofs.HeardSteps.{heard_quiet}
+use Rattle.router_moments.proofs.PeerLemmas.{present_edited}
 
 -- the set has what was put into it, and of all else what it had
 put_in : (s : Protos) (proto : Proto) (on : Bool) (other : Proto) → has (with_proto s proto on) other ≡ cond (same_protocol other proto) on (has s other)

@@ -1,5 +1,5 @@
 -- Room for one more deletion stage.
-use Rattle.router_core.proofs.Common.{sym, subst, ◌∙◌, ap, ◌≡◌, ℕ, refl, List, true, arith, Bool, cond, suc, zero, nat_eq, ◌&&◌, ◌||◌, nat_lt, same_Some, Chained, welded, Journaled, flushed, Line, Task, is_empty_map, no_table, same_by, table_of, chain_at, overdue_at, has_turn_in, RunsFirst, Moment, Gives, Stands, Turns, HasDrained}
+use Rattle.router_moments.proofs.Common.{sym, subst, ◌∙◌, ap, ◌≡◌, ℕ, refl, List, true, arith, Bool, cond, suc, zero, nat_eq, ◌&&◌, ◌||◌, nat_lt, same_Some, Chained, welded, Journaled, flushed, Line, Task, is_empty_map, no_table, same_by, table_of, chain_at, overdue_at, has_turn_in, RunsFirst, Moment, Gives, Stands, Turns, HasDrained}
 use Rattle.std.proofs.Common.{[], Option, Some, None, is_some, length}
 use Rattle.std.specs.Prelude.{IsSome}
 use Rattle.journal_text.specs.declared.link.Task.TheVariants.{Del}
@@ -10,11 +10,11 @@ use Rattle.in_chain.specs.Steps.{swept, Sweeps}
 use Rattle.peer_side.specs.Peers.{overdue_by}
 use Rattle.peer_side.specs.Steps.{TurnsPeer}
 use Rattle.peer_side.proofs.PutLemmas.{put_here}
-use Rattle.router_core.specs.Works.{HasRoom}
+use Rattle.router_moments.specs.Works.{HasRoom}
 use Rattle.peer_side.proofs.WeldLemmas.{weld_after}
-use Rattle.router_core.proofs.KeepLemmas.{keeps_none, gives_none}
-use Rattle.router_core.proofs.TurnWalks.{turns_same}
-use Rattle.router_core.proofs.TurnLaws.{turns_work}
+use Rattle.router_moments.proofs.KeepLemmas.{keeps_none, gives_none}
+use Rattle.router_moments.proofs.TurnWalks.{turns_same}
+use Rattle.router_moments.proofs.TurnLaws.{turns_work}
 
 -- the chain after turns of a stage, which may have gone
 turns_shorter : (n k s : ℕ) (m : Moment) (c : Chained) (said : List Line) (m' : Moment) → chain_at k m.chains ≡ Some c → Turns n (Del k s) m said m'

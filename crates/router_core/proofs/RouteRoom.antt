@@ -1,16 +1,16 @@
 -- Room for one more deletion stage of a protocol.
-use Rattle.router_core.proofs.Common.{sym, subst, ◌∙◌, ap, ◌≡◌, ℕ, refl, List, arith, Bool, cond, suc, zero, ◌||◌, nat_lt, Journaled, flushed, Line, Task, is_empty_map, no_table, same_by, table_of, swept_one, Proto, Interior, welded_branch, swept_branch, Branch, tree_overdue, Treed, branch_of, RunsFirst, Moment, Gives, Stands, Turns, HasDrained}
+use Rattle.router_moments.proofs.Common.{sym, subst, ◌∙◌, ap, ◌≡◌, ℕ, refl, List, arith, Bool, cond, suc, zero, ◌||◌, nat_lt, Journaled, flushed, Line, Task, is_empty_map, no_table, same_by, table_of, swept_one, Proto, Interior, welded_branch, swept_branch, Branch, tree_overdue, Treed, branch_of, RunsFirst, Moment, Gives, Stands, Turns, HasDrained}
 use Rattle.std.proofs.Common.{[], map, length, Option, Some, None}
 use Rattle.std.specs.List.{filter}
 use Rattle.journal_text.specs.declared.link.Task.TheVariants.{Rdel}
 use Rattle.loss_chain.specs.declared.owner.Owner.TheVariants as owners
 use Rattle.loss_chain.specs.Lost.{Lost}
-use Rattle.router_core.specs.Works.{HasProtocolRoom}
+use Rattle.router_moments.specs.Works.{HasProtocolRoom}
 use Rattle.loss_chain.proofs.TableLemmas.{is_full, Shorter, shorter_none, shorter_more, free_of, stage_of}
 use Rattle.rib_tree.proofs.BranchLemmas.{put_own}
 use Rattle.rib_tree.proofs.TreeParts.{welded_put}
-use Rattle.router_core.proofs.KeepLemmas.{keeps_none, gives_none}
-use Rattle.router_core.proofs.TurnLaws.{turns_work}
+use Rattle.router_moments.proofs.KeepLemmas.{keeps_none, gives_none}
+use Rattle.router_moments.proofs.TurnLaws.{turns_work}
 
 abbrev stages : Proto → Moment → List (Lost Interior)
 stages proto m = (branch_of proto m.tree).tables.deletions

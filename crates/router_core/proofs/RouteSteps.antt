@@ -1,15 +1,15 @@
 -- What each event of the interior routes comes to.
-use Rattle.router_core.proofs.Common.{sym, subst, ◌≡◌, ℕ, refl, true, false, Bool, Network, RouteAdd, RouteDel, Journaled, flushed, with_lines, no_table, Proto, Interior, branch_of, DropsRouteIf, live_state, Moment, Gives, Stands, Pushes, HasStepped}
+use Rattle.router_moments.proofs.Common.{sym, subst, ◌≡◌, ℕ, refl, true, false, Bool, Network, RouteAdd, RouteDel, Journaled, flushed, with_lines, no_table, Proto, Interior, branch_of, DropsRouteIf, live_state, Moment, Gives, Stands, Pushes, HasStepped}
 use Rattle.std.proofs.Common.{[], ◌∷◌, Some, None, Result, is_some}
 use Rattle.std.specs.Result.{IfOk}
 use Rattle.std.specs.FinMap as tables
 use Rattle.link_change.proofs.RowLemmas.{remove_absent}
 use Rattle.journal_text.specs.declared.line.Line.TheVariants as lines
 use Rattle.live_state.specs.Lives.{interior_fed}
-use Rattle.router_core.specs.Works.{SetsRoute}
+use Rattle.router_moments.specs.Works.{SetsRoute}
 use Rattle.live_state.proofs.AdmittedLemmas.{live_as_it_was}
-use Rattle.router_core.proofs.KeepLemmas.{gives_pushed, ignores}
-use Rattle.router_core.proofs.RouteLemmas.{routed}
+use Rattle.router_moments.proofs.KeepLemmas.{gives_pushed, ignores}
+use Rattle.router_moments.proofs.RouteLemmas.{routed}
 use Rattle.std.specs.Prelude.{IsSome}
 
 -- ---- `route add` and `route del`

@@ -1,5 +1,5 @@
 -- The rows of a link, one after the other.
-use Rattle.router_core.proofs.Common.{sym, subst, ◌∙◌, ap, ◌≡◌, ℕ, refl, List, arith, false, ◌+◌, ◌++◌, ◌<◌, length-append, same_Some, IfOk-weaker, Network, Route, Speaker, AreUnheard, resolver_at, rows_by, hop_links, metric_rows, link_by, Chained, filt_rows, filt_candidates, with_lines_append, Journaled, with_lines, entries_of, route_value, route_rows, Links, HasRow, Line, Link, Best, Res, Value, Rows, Candidates, IsNextCandidate, no_rows, CoversRows, region_of, Decided, Inward, Redistributed, Resolved, InteriorRoutes, Forward, no_table, Resolving, Metric, Passed, passed_rows, chain_at, filt_at, filt_by, peer_links, redistributed, Protos, RibExit, Interior, int_rows, Treed, tree_links, own_rows, best_links, own_links, answer_lines, Shows, live_state, Moment, best_of, router_links, own_of, tree_by, forward_by, Stands, Pushes, HasStepped}
+use Rattle.router_moments.proofs.Common.{sym, subst, ◌∙◌, ap, ◌≡◌, ℕ, refl, List, arith, false, ◌+◌, ◌++◌, ◌<◌, length-append, same_Some, IfOk-weaker, Network, Route, Speaker, AreUnheard, resolver_at, rows_by, hop_links, metric_rows, link_by, Chained, filt_rows, filt_candidates, with_lines_append, Journaled, with_lines, entries_of, route_value, route_rows, Links, HasRow, Line, Link, Best, Res, Value, Rows, Candidates, IsNextCandidate, no_rows, CoversRows, region_of, Decided, Inward, Redistributed, Resolved, InteriorRoutes, Forward, no_table, Resolving, Metric, Passed, passed_rows, chain_at, filt_at, filt_by, peer_links, redistributed, Protos, RibExit, Interior, int_rows, Treed, tree_links, own_rows, best_links, own_links, answer_lines, Shows, live_state, Moment, best_of, router_links, own_of, tree_by, forward_by, Stands, Pushes, HasStepped}
 use Rattle.std.proofs.Common.{◌^◌, [], ◌∷◌, map, length, Option, Some, None, append-nil}
 use Rattle.std.specs.Prelude.{IsSome, is_some, option_map, Result, IfOk}
 use Rattle.journal_text.specs.declared.link.Link.TheVariants.{Red}
@@ -8,13 +8,13 @@ use Rattle.link_change.specs.Rows.{with_rows}
 use Rattle.journal_text.specs.declared.line.Line.TheVariants as lines
 use Rattle.event_text.specs.declared.event.Event.TheVariants as events
 use Rattle.journal_laws.proofs.ShownRows.{IsShown, none_shown, one_shown, none_more, none_left, with_none}
-use Rattle.router_core.specs.Blocks.{AreRows}
-use Rattle.router_core.specs.Lookups.{listed_at, row_lines, Counts, ShowsRow, IsCountOf, IsNextPlace}
+use Rattle.router_moments.specs.Blocks.{AreRows}
+use Rattle.router_moments.specs.Lookups.{listed_at, row_lines, Counts, ShowsRow, IsCountOf, IsNextPlace}
 use Rattle.rib_exit.specs.Exits.{exit_links as external_links}
 use Rattle.peer_side.specs.Peers.{peer_candidates}
-use Rattle.router_core.proofs.RegionLemmas.{in_region}
-use Rattle.router_core.proofs.HeardSteps.{heard_quiet}
-use Rattle.router_core.proofs.KeepLemmas.{steps_said}
+use Rattle.router_moments.proofs.RegionLemmas.{in_region}
+use Rattle.router_moments.proofs.HeardSteps.{heard_quiet}
+use Rattle.router_moments.proofs.KeepLemmas.{steps_said}
 
 -- the next candidate, whether it has a row or not
 next_shown : (candidates : Candidates) (rows : Rows Value) → CoversRows candidates rows → (place : Option Network) (listed : List (Network × Value)) (p : Network) (row : Option Value) → IsNextCandidate candidates place (Some p) → rows p ≡ row → IsShown rows place listed

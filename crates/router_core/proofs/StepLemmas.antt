@@ -1,5 +1,5 @@
 -- What each event comes to.
-use Rattle.router_core.proofs.Common.{sym, subst, ◌∙◌, ap, ◌≡◌, ℕ, refl, List, true, false, Bool, ◌++◌, cond, ◌<◌, Network, Attrs, Message, Update, peer_at, DeclaredPeer, Event, Down, Bgp, Cover, Settled, Work, Journaled, flushed, with_lines, Line, Task, Rows, LiveState, changes_of, Says, width, Interior, ByPeer, EndsIf, HearsIf, first_held, FirstHeldTells, live_state, Moment, Gives, bound_of, all_phases, Tells, Stands, AllHaveExits, Pushes, HasStepped, Keeps, HaveFed}
+use Rattle.router_moments.proofs.Common.{sym, subst, ◌∙◌, ap, ◌≡◌, ℕ, refl, List, true, false, Bool, ◌++◌, cond, ◌<◌, Network, Attrs, Message, Update, peer_at, DeclaredPeer, Event, Down, Bgp, Cover, Settled, Work, Journaled, flushed, with_lines, Line, Task, Rows, LiveState, changes_of, Says, width, Interior, ByPeer, EndsIf, HearsIf, first_held, FirstHeldTells, live_state, Moment, Gives, bound_of, all_phases, Tells, Stands, AllHaveExits, Pushes, HasStepped, Keeps, HaveFed}
 use Rattle.std.proofs.Common.{◌^◌, [], ◌∷◌, Option, Some, Result}
 use Rattle.std.specs.Result.{IfOk}
 use Rattle.bgp_wire.specs.declared.notice.Notice.{Notice}
@@ -9,15 +9,15 @@ use Rattle.journal_text.specs.declared.line.Line.TheVariants as lines
 use Rattle.event_text.specs.declared.event.Event.TheVariants.{Idle}
 use Rattle.std.specs.FinMap as tables
 use Rattle.register_interest.specs.Covers.{matched, IsCover}
-use Rattle.router_core.specs.declared.router.Idle.{Idle as Answer}
+use Rattle.router_moments.specs.declared.tasks.Idle.{Idle as Answer}
 use Rattle.live_state.specs.Lives.{heard, ended, ended_if_up, HearsIfUp, HearsFrom}
 use Rattle.bgp_wire.specs.declared.message.RouteRefresh.{RouteRefresh}
-use Rattle.router_core.specs.Blocks.{AreMessageOctets, Hears, refreshed}
-use Rattle.router_core.specs.Works.{AreTurns, AllHaveDrained, HasLost, HasHeard, HasIdled}
-use Rattle.router_core.proofs.KeepLemmas.{keeps_none, keeps_said, keeps_join, keeps_on, gives_push, push_gives, gives_none, gives_so, gives_pushed, steps_pushed, ignores}
-use Rattle.router_core.proofs.TurnLaws.{turns_work}
-use Rattle.router_core.proofs.RefreshTurns.{refreshed_keeps}
-use Rattle.router_core.proofs.ServedTurns.{idle_serves}
+use Rattle.router_moments.specs.Blocks.{AreMessageOctets, Hears, refreshed}
+use Rattle.router_moments.specs.Works.{AreTurns, AllHaveDrained, HasLost, HasHeard, HasIdled}
+use Rattle.router_moments.proofs.KeepLemmas.{keeps_none, keeps_said, keeps_join, keeps_on, gives_push, push_gives, gives_none, gives_so, gives_pushed, steps_pushed, ignores}
+use Rattle.router_moments.proofs.TurnLaws.{turns_work}
+use Rattle.router_moments.proofs.RefreshTurns.{refreshed_keeps}
+use Rattle.router_moments.proofs.ServedTurns.{idle_serves}
 
 -- ---- `idle` and `work`
 pub idled : (m m' : Moment) (bound turns : ℕ) (before j j2 j3 now : Journaled) → Stands m → bound ≡ bound_of m → bound < 2 ^ 128 → j ≡ with_lines before (lines.Bound bound ∷ []) → Gives (AllHaveDrained m turns m') j j2

@@ -6,10 +6,10 @@ ghost use Rattle.addr4.specs.Places.{key_of};
 ghost use Rattle.journal_text.specs.Journals.{Adds};
 ghost use Rattle.link_change.specs.Rows.{IsNextCandidate, CoversRows};
 ghost use Rattle.exit_side.specs.Exits.{IsExits};
-ghost use Rattle.router_core.specs.Works.{Decides};
+ghost use Rattle.router_moments.specs.Works.{Decides};
 ghost use Rattle.rib_tree.specs.Trees.{int_rows};
-ghost use Rattle.router_core.specs.Bests.{own_rows, lent_chain, lent_resolved, candidates_by};
-ghost use Rattle.router_core.specs.Moments.{best_of, candidates_of};
+ghost use Rattle.router_moments.specs.Bests.{own_rows, lent_chain, lent_resolved, candidates_by};
+ghost use Rattle.router_moments.specs.Moments.{best_of, candidates_of};
 
 use crate::network::Network;
 use addr4::{Addr, Memory, Place, Prefix};
@@ -100,7 +100,7 @@ impl<'a> Lent<'a> {
 
 impl<'a> Branches for Lent<'a> {
     ghost use Rattle.rib_tree.specs.Trees.{int_rows, int_candidates};
-    ghost use Rattle.router_core.specs.Bests.{own_rows, lent_rows, lent_candidates};
+    ghost use Rattle.router_moments.specs.Bests.{own_rows, lent_rows, lent_candidates};
 
     ghost rows = { λ l. lent_rows (own_rows l.declared.now.speaker l.redist.now (int_rows l.tree.now)) l.chains.now l.hops.now };
 

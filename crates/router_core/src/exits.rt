@@ -11,18 +11,17 @@ ghost use Rattle.journal_text.specs.declared.link.Task.TheVariants as tasks;
 ghost use Rattle.event_text.specs.declared.event.Event.TheVariants as events;
 ghost use Rattle.event_text.specs.Declarations.{peer_at, refusal};
 ghost use Rattle.exit_side.specs.Exits.{IsExits, exit_links, chain_at as exit_at};
-ghost use Rattle.router_core.specs.declared.router.Phase.TheVariants as phases;
+ghost use Rattle.router_moments.specs.declared.tasks.Phase.TheVariants as phases;
 ghost use Rattle.rib_exit.specs.Exits.{IsExit, AgreesWith};
-ghost use Rattle.router_core.specs.Moments.{best_of, read_links, rules_to};
-ghost use Rattle.router_core.specs.Stands.{Stands, HaveReaders};
-ghost use Rattle.router_core.specs.Lookups.{IsNextPlace};
-ghost use Rattle.router_core.specs.Turns.{has_work, next_task};
-ghost use Rattle.router_core.specs.Blocks.{refreshed};
-ghost use Rattle.router_core.specs.Works.{TakesTurn, Forwards, HasStepped, JoinsQueue, BeginsReading, BeginsSession, SendsAs};
+ghost use Rattle.router_moments.specs.Moments.{best_of, read_links, rules_to};
+ghost use Rattle.router_moments.specs.Stands.{Stands, HaveReaders};
+ghost use Rattle.router_moments.specs.Lookups.{IsNextPlace};
+ghost use Rattle.router_moments.specs.Turns.{has_work, next_task};
+ghost use Rattle.router_moments.specs.Blocks.{refreshed};
+ghost use Rattle.router_moments.specs.Works.{TakesTurn, Forwards, HasStepped, JoinsQueue, BeginsReading, BeginsSession, SendsAs};
 
 use crate::best::Lent;
 use crate::network::Network;
-use crate::router::Done;
 use addr4::{Memory, Place, Prefix};
 use bgp_attr::Route;
 use bgp_wire::RouteRefresh;
@@ -33,6 +32,7 @@ use fanout_queue::Reader;
 use journal_text::{Entry, Journal, Link, Task, Value};
 use link_change::{Change, Turn};
 use policy_rules::Rules;
+use router_moments::Done;
 use std::alloc::Global;
 use std::collections::BTreeMap;
 use std::marker::Model;
@@ -47,7 +47,7 @@ impl Model for Policies {
     ghost use Rattle.std.specs.Coded.{coded_ℕ};
     ghost use Rattle.std.specs.FinMap as map;
     ghost use Rattle.policy_rules.specs.contracts.rule.Rules as rules_row;
-    ghost use Rattle.router_core.specs.Moments.{Policies};
+    ghost use Rattle.router_moments.specs.Moments.{Policies};
 
     ghost Value = { Policies };
 

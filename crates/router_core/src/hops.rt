@@ -4,18 +4,18 @@ ghost use Rattle.std.specs.Prelude.{◌≡◌, IfOk, OnOk, IsSome};
 ghost use Rattle.journal_text.specs.declared.link.Task.TheVariants as tasks;
 ghost use Rattle.journal_text.specs.Journals.{Adds};
 ghost use Rattle.hop_side.specs.Resolvers.{resolver_at, IsHops, AllAgree};
-ghost use Rattle.router_core.specs.Moments.{with_hops};
-ghost use Rattle.router_core.specs.Stands.{Stands};
-ghost use Rattle.router_core.specs.Turns.{IsOfPeers, ResolvesOn, sent_of};
-ghost use Rattle.router_core.specs.Works.{TakesTurn, MaySettle, SettlesPeer};
+ghost use Rattle.router_moments.specs.Moments.{with_hops};
+ghost use Rattle.router_moments.specs.Stands.{Stands};
+ghost use Rattle.router_moments.specs.Turns.{IsOfPeers, ResolvesOn, sent_of};
+ghost use Rattle.router_moments.specs.Works.{TakesTurn, MaySettle, SettlesPeer};
 
 use crate::network::Network;
-use crate::router::Done;
 use addr4::Memory;
 use bgp_attr::Route;
 use journal_text::{Journal, Task};
 use link_change::{Change, Turn};
 use peer_side::peer_of;
+use router_moments::Done;
 
 impl Network {
     /// What follows a change in a peer's chain, by what came out on `filt.K`: its resolver takes that in, the best route is

@@ -6,9 +6,9 @@
 //! phase of an idle, all of it. [`Core::chain`], [`Core::resolver`], [`Core::tree`], [`Core::external`] and [`Core::count`] look
 //! at what is there. Each turn's lines are made into text at once, so that a long idle holds few lines.
 //!
-//! What contracts see is in `specs/`: the moment ([`Moments`](specs/Moments.antt)), what holds between two steps (`Stands`),
-//! what each event does and the lines that it gives (`Blocks`), and the live state (`Lives`), which is what the events alone make
-//! of it, whatever work was done or not. Every step obeys the two consistency rules of a journal (NSDI 2005, section 5.1) on all
+//! What contracts see is in `router_moments`: the moment (`Moments`), what holds between two steps (`Stands`), what each event
+//! does and the lines that it gives (`Blocks`), and the live state (`Lives`), which is what the events alone make of it, whatever
+//! work was done or not. Every step obeys the two consistency rules of a journal (NSDI 2005, section 5.1) on all
 //! links together. At any moment, at each prefix, each link that no work holds up there has the row that the live state alone
 //! asks for (`Scratch`): of a peer the live routes and what the latest rules make of them, of the interior side the live routes
 //! of each protocol, those of least distance, and what packets are forwarded by. After an idle no deletion stage stands and no
@@ -22,7 +22,6 @@
 mod best;
 mod exits;
 mod hops;
-mod laws;
 mod lookups;
 mod network;
 mod own;
@@ -35,8 +34,4 @@ mod steps;
 mod turns;
 mod updates;
 
-pub use laws::{
-    blocks_are_one, external_rows_are_few, first_moment_stands, known_next_hops_are_few,
-    only_work_holds_up, rows_at_rest_are_exact, the_first_task_tells, turns_are_one,
-};
-pub use router::{Core, Done, Idle, Phase};
+pub use router::Core;

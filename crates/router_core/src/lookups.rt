@@ -7,12 +7,12 @@ ghost use Rattle.journal_text.specs.Journals.{with_lines};
 ghost use Rattle.hop_side.specs.Resolvers.{hop_links};
 ghost use Rattle.peer_side.specs.Peers.{filt_at};
 ghost use Rattle.rib_tree.specs.Trees.{int_rows};
-ghost use Rattle.router_core.specs.Bests.{own_links, best_links};
-ghost use Rattle.router_core.specs.Moments.{own_of, best_of, tree_by, forward_by, router_links};
-ghost use Rattle.router_core.specs.Stands.{HaveReaders};
-ghost use Rattle.router_core.specs.Blocks.{answer_lines, Shows};
-ghost use Rattle.router_core.specs.Lookups.{Counts, ShowsRow, IsCountOf, IsNextPlace};
-ghost use Rattle.router_core.specs.Works.{Pushes};
+ghost use Rattle.router_moments.specs.Bests.{own_links, best_links};
+ghost use Rattle.router_moments.specs.Moments.{own_of, best_of, tree_by, forward_by, router_links};
+ghost use Rattle.router_moments.specs.Stands.{HaveReaders};
+ghost use Rattle.router_moments.specs.Blocks.{answer_lines, Shows};
+ghost use Rattle.router_moments.specs.Lookups.{Counts, ShowsRow, IsCountOf, IsNextPlace};
+ghost use Rattle.router_moments.specs.Works.{Pushes};
 
 use crate::network::Network;
 use addr4::{Memory, Place, Prefix};

@@ -1,7 +1,7 @@
 //! What was declared, the interior routes, the peers' chains, and what follows these down to the peers and the forwarding table.
 
 ghost use Rattle.std.specs.Prelude.{◌≡◌, ◌+◌, ◌*◌, IfOk};
-ghost use Rattle.router_core.specs.Moments.{first_moment, bound_of};
+ghost use Rattle.router_moments.specs.Moments.{first_moment, bound_of};
 
 use crate::exits::Policies;
 use addr4::Memory;
@@ -35,7 +35,7 @@ pub(crate) struct Network {
 }
 
 impl Model for Network {
-    ghost use Rattle.router_core.specs.Moments.{Moment, moment_code};
+    ghost use Rattle.router_moments.specs.Moments.{Moment, moment_code};
     ghost use Rattle.event_text.specs.Declarations.{declaration_code};
     ghost use Rattle.event_text.specs.contracts.declared.DeclaredPeer as peer_row;
     ghost use Rattle.bgp_attr.specs.contracts.speaker.Profile as profile_row;

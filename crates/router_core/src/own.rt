@@ -6,19 +6,19 @@ ghost use Rattle.journal_text.specs.Journals.{Adds};
 ghost use Rattle.event_text.specs.declared.event.Event.TheVariants as events;
 ghost use Rattle.event_text.specs.Declarations.{refusal};
 ghost use Rattle.exit_side.specs.Exits.{IsExits};
-ghost use Rattle.router_core.specs.declared.router.Phase.TheVariants as phases;
-ghost use Rattle.router_core.specs.Stands.{Stands};
-ghost use Rattle.router_core.specs.Turns.{next_task};
-ghost use Rattle.router_core.specs.Works.{TakesTurn, HasStepped, Redistributes, SendsOwn};
+ghost use Rattle.router_moments.specs.declared.tasks.Phase.TheVariants as phases;
+ghost use Rattle.router_moments.specs.Stands.{Stands};
+ghost use Rattle.router_moments.specs.Turns.{next_task};
+ghost use Rattle.router_moments.specs.Works.{TakesTurn, HasStepped, Redistributes, SendsOwn};
 
 use crate::hops::sent_of;
 use crate::network::Network;
-use crate::router::Done;
 use addr4::Memory;
 use bgp_attr::Route;
 use journal_text::{Journal, Link, Task};
 use link_change::{Change, Turn};
 use rib_route::{Interior, Proto};
+use router_moments::Done;
 
 impl Network {
     /// A protocol's routes are redistributed from now on, or aren't; a walk brings that into force. Takes no memory.

@@ -6,13 +6,13 @@ ghost use Rattle.event_text.specs.Declarations.{peer_at, refusal};
 ghost use Rattle.peer_side.specs.Peers.{chain_at};
 ghost use Rattle.live_state.specs.Messages.{Says};
 ghost use Rattle.event_text.specs.WellFormed.{IsWellFormed};
-ghost use Rattle.router_core.specs.Moments.{profiled};
-ghost use Rattle.router_core.specs.Stands.{Stands};
-ghost use Rattle.router_core.specs.Blocks.{begin_line, first_begins};
+ghost use Rattle.router_moments.specs.Moments.{profiled};
+ghost use Rattle.router_moments.specs.Stands.{Stands};
+ghost use Rattle.router_moments.specs.Blocks.{begin_line, first_begins};
 ghost use Rattle.journal_text.specs.Journals.{with_lines};
-ghost use Rattle.router_core.specs.Peers.{is_up};
+ghost use Rattle.router_moments.specs.Peers.{is_up};
 ghost use Rattle.bgp_wire.specs.Notices.{HasShortNotice};
-ghost use Rattle.router_core.specs.Works.{Pushes, HasStepped};
+ghost use Rattle.router_moments.specs.Works.{Pushes, HasStepped};
 
 use crate::network::Network;
 use addr4::Memory;

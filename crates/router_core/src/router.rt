@@ -9,15 +9,14 @@ ghost use Rattle.event_text.specs.WellFormed.{IsWellFormed};
 ghost use Rattle.std.specs.Option.{option_copied};
 ghost use Rattle.hop_side.specs.Resolvers.{resolver_at};
 ghost use Rattle.peer_side.specs.Peers.{chain_at};
-ghost use Rattle.router_core.specs.Moments.{first_moment, router_links, Gives};
-ghost use Rattle.router_core.specs.Scratch.{IsExactAtRest, Tells};
-ghost use Rattle.router_core.specs.Stands.{CoreStands};
-ghost use Rattle.router_core.specs.Turns.{has_work};
-ghost use Rattle.router_core.specs.Blocks.{Acts};
-ghost use Rattle.router_core.specs.Lookups.{IsCountOf};
-ghost use Rattle.router_core.specs.Works.{Comes, HaveDrained, HasIdled};
+ghost use Rattle.router_moments.specs.Moments.{first_moment, router_links, Gives};
+ghost use Rattle.router_moments.specs.Scratch.{IsExactAtRest, Tells};
+ghost use Rattle.router_moments.specs.Stands.{CoreStands};
+ghost use Rattle.router_moments.specs.Turns.{has_work};
+ghost use Rattle.router_moments.specs.Blocks.{Acts};
+ghost use Rattle.router_moments.specs.Lookups.{IsCountOf};
+ghost use Rattle.router_moments.specs.Works.{Comes, HaveDrained, HasIdled};
 
-use crate::laws::{rows_at_rest_are_exact, the_first_task_tells};
 use crate::network::Network;
 use addr4::{Memory, Prefix};
 use event_text::{Declared, Event};
@@ -27,46 +26,9 @@ use live_state::declarations_follow;
 use nexthop_resolver::{Metric, Resolver};
 use rib_exit::RibExit;
 use rib_tree::{Tree, a_new_tree_stands};
+use router_moments::{Done, Idle, Phase, rows_at_rest_are_exact, the_first_task_tells};
 use std::alloc::Global;
 use std::marker::Model;
-
-/// What a turn of a task came to.
-#[derive(Clone, Copy, PartialEq)]
-pub enum Done {
-    /// The task has no work.
-    Nothing,
-    Taken,
-}
-
-/// What an idle announced, and what it took.
-#[derive(Clone, Copy)]
-pub struct Idle {
-    pub bound: u128,
-    pub turns: u128,
-}
-
-/// The phases of an idle, in their order.
-#[derive(Clone, Copy)]
-pub enum Phase {
-    /// The deletion stages of the interior protocols' losses. In no other phase does a next hop become stale.
-    Rdel,
-    /// The walk of redistribution.
-    Red,
-    /// The deletion stages of lost sessions.
-    Del,
-    /// The walks of the incoming filters.
-    Fin,
-    /// The next hops of the resolvers: those that are asked for again, and the walks of fresh answers.
-    Nh,
-    /// What the forwarding side has yet to read of `best`.
-    ReadRib,
-    /// The exits of peers: what their readers haven't taken, and the walks of the outgoing filters.
-    Out,
-    /// The next hops of external routes: those that are asked for again, and the walks of fresh answers.
-    Ext,
-    /// The refreshes that peers asked for: what each was sent is said to it again (RFC 2918).
-    Ref,
-}
 
 #[derive(Drop)]
 pub struct Core {
@@ -78,8 +40,8 @@ pub struct Core {
 impl Model for Core {
     ghost use Rattle.std.specs.Prelude.{◌≡◌, false};
     ghost use Rattle.std.specs.Coded.{coded_option};
-    ghost use Rattle.router_core.specs.Stands.{HaveReaders};
-    ghost use Rattle.router_core.specs.Moments.{Cored, cored_code, moment_code};
+    ghost use Rattle.router_moments.specs.Stands.{HaveReaders};
+    ghost use Rattle.router_moments.specs.Moments.{Cored, cored_code, moment_code};
     ghost use Rattle.router_core.specs.contracts.exits.Policies as policies_row;
     ghost use Rattle.exit_side.specs.contracts.exits.Exits as exits_row;
     ghost use Rattle.fanout_queue.specs.contracts.reader.Reader as reader_row;

@@ -12,22 +12,22 @@ ghost use Rattle.rib_tree.specs.Falls.{way_of_route};
 ghost use Rattle.hop_side.specs.Resolvers.{IsHops};
 ghost use Rattle.rib_exit.specs.Exits.{IsExit};
 ghost use Rattle.journal_text.specs.Journals.{Adds};
-ghost use Rattle.router_core.specs.Moments.{Gives};
+ghost use Rattle.router_moments.specs.Moments.{Gives};
 ghost use Rattle.loss_chain.specs.Steps.{live_after};
 ghost use Rattle.live_state.specs.Lives.{interior_fed};
-ghost use Rattle.router_core.specs.Lives.{live_state};
-ghost use Rattle.router_core.specs.Stands.{Stands};
-ghost use Rattle.router_core.specs.Turns.{Registers};
-ghost use Rattle.router_core.specs.Works.{TakesTurn, Informs, MayFollow, Follows, Settles, Turned, SetsRoute, HasProtocolRoom, EndsProtocol, HasStepped, Pushes};
+ghost use Rattle.router_moments.specs.Lives.{live_state};
+ghost use Rattle.router_moments.specs.Stands.{Stands};
+ghost use Rattle.router_moments.specs.Turns.{Registers};
+ghost use Rattle.router_moments.specs.Works.{TakesTurn, Informs, MayFollow, Follows, Settles, Turned, SetsRoute, HasProtocolRoom, EndsProtocol, HasStepped, Pushes};
 
 use crate::network::Network;
-use crate::router::Done;
 use crate::steps::ignored;
 use addr4::{Addr, Memory, Prefix};
 use journal_text::{Journal, Line, Task};
 use link_change::{Change, Turn};
 use register_interest::{Interest, Register};
 use rib_route::{Interior, Proto};
+use router_moments::Done;
 use std::alloc::Global;
 
 impl Network {

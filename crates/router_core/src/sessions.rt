@@ -5,9 +5,9 @@ ghost use Rattle.peer_side.specs.Peers.{chain_at, overdue_at};
 ghost use Rattle.std.specs.Option.{ForSome};
 ghost use Rattle.peer_out.specs.Changes.{MayBeHeard};
 ghost use Rattle.exit_side.specs.Exits.{chain_at as exit_at};
-ghost use Rattle.router_core.specs.Moments.{Gives};
-ghost use Rattle.router_core.specs.Stands.{Stands};
-ghost use Rattle.router_core.specs.Works.{Pushes, AreHeard, IsUpAt, IsSession, HaveFed, HasLost, HasRoom, Ends};
+ghost use Rattle.router_moments.specs.Moments.{Gives};
+ghost use Rattle.router_moments.specs.Stands.{Stands};
+ghost use Rattle.router_moments.specs.Works.{Pushes, AreHeard, IsUpAt, IsSession, HaveFed, HasLost, HasRoom, Ends};
 
 use crate::network::Network;
 use crate::updates::again;

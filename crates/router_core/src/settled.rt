@@ -6,20 +6,19 @@
 ghost use Rattle.std.specs.Prelude.{◌≡◌, ℕ, ◌<◌, ◌≤◌, IfOk, is_some, None};
 ghost use Rattle.event_text.specs.declared.event.Event.TheVariants as events;
 ghost use Rattle.peer_side.specs.Peers.{chain_at};
-ghost use Rattle.router_core.specs.declared.router.Phase.TheVariants as phases;
-ghost use Rattle.router_core.specs.Moments.{Gives};
-ghost use Rattle.router_core.specs.Stands.{Stands, AllHaveExits};
-ghost use Rattle.router_core.specs.Holding.{held_in, first_held};
-ghost use Rattle.router_core.specs.Works.{HasStepped};
+ghost use Rattle.router_moments.specs.declared.tasks.Phase.TheVariants as phases;
+ghost use Rattle.router_moments.specs.Moments.{Gives};
+ghost use Rattle.router_moments.specs.Stands.{Stands, AllHaveExits};
+ghost use Rattle.router_moments.specs.Holding.{held_in, first_held};
+ghost use Rattle.router_moments.specs.Works.{HasStepped};
 
-use crate::laws::{only_work_holds_up, the_first_task_tells};
 use crate::network::Network;
-use crate::router::Phase;
 use crate::turns::{exit_of, phases, task_of};
 use addr4::{Addr, Memory, Prefix};
 use decision::has;
 use hop_side::Named;
 use journal_text::{Journal, Line, Task};
+use router_moments::{Phase, only_work_holds_up, the_first_task_tells};
 
 impl Network {
     /// `settled`: whether a prefix is, or the first task that holds it up.

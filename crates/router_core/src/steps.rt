@@ -8,18 +8,17 @@ ghost use Rattle.event_text.specs.declared.event.Event.TheVariants as events;
 ghost use Rattle.event_text.specs.Declarations.{peer_at, refusal};
 ghost use Rattle.bgp_wire.specs.Spelling.{notification_octets};
 ghost use Rattle.rib_tree.specs.Trees.{AreNumbered};
-ghost use Rattle.router_core.specs.Moments.{Gives};
+ghost use Rattle.router_moments.specs.Moments.{Gives};
 ghost use Rattle.live_state.specs.Messages.{Says};
-ghost use Rattle.router_core.specs.Blocks.{AreMessageOctets};
+ghost use Rattle.router_moments.specs.Blocks.{AreMessageOctets};
 ghost use Rattle.bgp_wire.specs.Notices.{HasShortNotice};
 ghost use Rattle.event_text.specs.WellFormed.{IsWellFormed};
 ghost use Rattle.exit_side.specs.Exits.{chain_at as exit_at};
-ghost use Rattle.router_core.specs.Stands.{Stands, AllHaveExits};
-ghost use Rattle.router_core.specs.Works.{HasStepped, HasIdled, HasHeard, IsHeardMessage, IsSession};
+ghost use Rattle.router_moments.specs.Stands.{Stands, AllHaveExits};
+ghost use Rattle.router_moments.specs.Works.{HasStepped, HasIdled, HasHeard, IsHeardMessage, IsSession};
 
 use crate::network::Network;
 use crate::peers::said;
-use crate::router::Idle;
 use crate::updates::changes;
 use addr4::{Memory, Prefix};
 use bgp_attr::{Octets, Profile, Speaker};
@@ -28,6 +27,7 @@ use event_text::{DeclaredPeer, Event};
 use journal_text::{Journal, Line, Link, Task};
 use policy_rules::Rules;
 use rib_route::Proto;
+use router_moments::Idle;
 use std::alloc::Global;
 
 impl Network {

@@ -2,17 +2,16 @@
 
 ghost use Rattle.std.specs.Prelude.{◌≡◌, IfOk, IfNone, option_map};
 ghost use Rattle.journal_text.specs.declared.link.Task.TheVariants as tasks;
-ghost use Rattle.router_core.specs.Moments.{Gives};
-ghost use Rattle.router_core.specs.Stands.{Stands, AllHaveExits};
-ghost use Rattle.router_core.specs.Phases.{all_phases, counts};
-ghost use Rattle.router_core.specs.Turns.{next_task};
-ghost use Rattle.router_core.specs.Works.{TakesTurn, AreTurns, HasDrained, RunsOut, AllHaveDrained};
+ghost use Rattle.router_moments.specs.Moments.{Gives};
+ghost use Rattle.router_moments.specs.Stands.{Stands, AllHaveExits};
+ghost use Rattle.router_moments.specs.Phases.{all_phases, counts};
+ghost use Rattle.router_moments.specs.Turns.{next_task};
+ghost use Rattle.router_moments.specs.Works.{TakesTurn, AreTurns, HasDrained, RunsOut, AllHaveDrained};
 
-use crate::laws::{only_work_holds_up, rows_at_rest_are_exact};
 use crate::network::{Network, plus};
-use crate::router::{Done, Phase};
 use addr4::Memory;
 use journal_text::{Journal, Task};
+use router_moments::{Done, Phase, only_work_holds_up, rows_at_rest_are_exact};
 
 impl Network {
     /// One turn of a task, and the text of its lines.

@@ -1,4 +1,4 @@
-use Rattle.router_core.specs.Stands.{CoreStands}
+use Rattle.router_moments.specs.Stands.{CoreStands}
 use Rattle.part_tests.proofs.cores.run.Given as goal
 
 abbrev pub invariant-loop-line : goal.invariant-loop-line

@@ -1,5 +1,5 @@
 use Rattle.std.proofs.Common.{◌++◌, ℕ, ap, sym, subst, subst₂, ◌∙◌}
-use Rattle.router_core.specs.Moments.{Cored}
+use Rattle.router_moments.specs.Moments.{Cored}
 use Rattle.replay.specs.Totals.{AreTotals}
 use Rattle.replay.proofs.totals.totals_of.Goals as goal
 

@@ -1,4 +1,4 @@
-use Rattle.router_core.proofs.Common.{sym, subst, ◌∙◌, ap, ◌≡◌, ℕ, List, arith, ◌≤◌, ◌<◌, AllByRecursion}
+use Rattle.router_moments.proofs.Common.{sym, subst, ◌∙◌, ap, ◌≡◌, ℕ, List, arith, ◌≤◌, ◌<◌, AllByRecursion}
 use Rattle.std.proofs.Common.{◌^◌, ◌∷◌, length}
 use Rattle.bgp_wire.proofs.SpelledLengths.{length-framed}
 use Rattle.router_core.proofs.steps.spelled.Goals as goal

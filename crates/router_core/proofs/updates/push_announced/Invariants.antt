@@ -1,4 +1,4 @@
-use Rattle.router_core.proofs.Common.{◌≡◌, ◌++◌, take, is_host_prefix, announced_with}
+use Rattle.router_moments.proofs.Common.{◌≡◌, ◌++◌, take, is_host_prefix, announced_with}
 use Rattle.std.proofs.Common.{map}
 use Rattle.std.specs.Prelude.{filter}
 use Rattle.router_core.proofs.updates.push_announced.Given as goal

@@ -1,4 +1,4 @@
-use Rattle.router_core.proofs.Common.{sym, ◌∙◌, ap, true, false}
+use Rattle.router_moments.proofs.Common.{sym, ◌∙◌, ap, true, false}
 use Rattle.std.proofs.Common.{append-nil}
 use Rattle.live_state.proofs.UpdateLemmas.{set_has, one_more}
 use Rattle.router_core.proofs.updates.push_withdrawn.Goals as goal

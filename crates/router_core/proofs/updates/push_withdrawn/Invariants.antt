@@ -1,4 +1,4 @@
-use Rattle.router_core.proofs.Common.{◌≡◌, ◌++◌, take, withdrawn_from}
+use Rattle.router_moments.proofs.Common.{◌≡◌, ◌++◌, take, withdrawn_from}
 use Rattle.std.proofs.Common.{map}
 use Rattle.bgp_wire.specs.Grammar.{without}
 use Rattle.router_core.proofs.updates.push_withdrawn.Given as goal

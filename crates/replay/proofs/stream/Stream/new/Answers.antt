@@ -1,5 +1,5 @@
 use Rattle.std.proofs.Common.{[], List, ℕ, ap, sym, subst}
-use Rattle.router_core.specs.Moments.{Moment, Cored}
+use Rattle.router_moments.specs.Moments.{Moment, Cored}
 use Rattle.replay.specs.Stream.{HasStepped}
 use Rattle.replay.proofs.Pieces.{stepped_nothing}
 use Rattle.replay.proofs.stream.Stream.new.Goals as goal

@@ -1,4 +1,4 @@
-use Rattle.router_core.proofs.Common.{◌∙◌, IfOk-weaker}
+use Rattle.router_moments.proofs.Common.{◌∙◌, IfOk-weaker}
 use Rattle.std.proofs.Common.{Some, None}
 use Rattle.router_core.proofs.PolicyLemmas.{policies_get}
 use Rattle.router_core.proofs.exits.Policies.rules.Goals as goal

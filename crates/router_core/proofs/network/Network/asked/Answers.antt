@@ -1,4 +1,4 @@
-use Rattle.router_core.proofs.Common.{sym, ◌∙◌}
+use Rattle.router_moments.proofs.Common.{sym, ◌∙◌}
 use Rattle.router_core.proofs.ShownRows.{forward_live, has_forward}
 use Rattle.router_core.proofs.network.Network.asked.Goals as goal
 

@@ -1,6 +1,6 @@
-use Rattle.router_core.proofs.Common.{sym, ◌∙◌, ap, ℕ, Moment}
+use Rattle.router_moments.proofs.Common.{sym, ◌∙◌, ap, ℕ, Moment}
 use Rattle.exit_side.specs.Exits.{chain_at as exit_at}
-use Rattle.router_core.proofs.SessionLemmas.{number_at}
+use Rattle.router_moments.proofs.SessionLemmas.{number_at}
 use Rattle.router_core.proofs.network.Network.begin_exit.Goals as goal
 
 pub begin-requires-clause-absent : goal.begin-requires-clause-absent

@@ -1,8 +1,8 @@
-use Rattle.router_core.proofs.Common.{sym, ◌∙◌, on_ok_weaker}
+use Rattle.router_moments.proofs.Common.{sym, ◌∙◌, on_ok_weaker}
 use Rattle.std.proofs.Common.{[], ◌∷◌}
 use Rattle.journal_text.specs.declared.line.Line.TheVariants as lines
-use Rattle.router_core.proofs.PeerLemmas.{begun_is, ignored_stepped}
-use Rattle.router_core.proofs.SessionLemmas.{session_begun, begins_there, begins_absent, begins_sender, begins_sound}
+use Rattle.router_moments.proofs.PeerLemmas.{begun_is, ignored_stepped}
+use Rattle.router_moments.proofs.SessionLemmas.{session_begun, begins_there, begins_absent, begins_sender, begins_sound}
 use Rattle.router_core.proofs.network.Network.begin_session.Goals as goal
 
 pub begin_exit-requires-clause-sound : goal.begin_exit-requires-clause-sound

@@ -1,6 +1,6 @@
-use Rattle.router_core.proofs.Common.{subst, ◌≡◌, Route, Rows}
+use Rattle.router_moments.proofs.Common.{subst, ◌≡◌, Route, Rows}
 use Rattle.std.specs.Prelude.{IfOk}
-use Rattle.router_core.proofs.BestLemmas.{lent_best}
+use Rattle.router_moments.proofs.BestLemmas.{lent_best}
 use Rattle.router_core.proofs.network.Network.best.Goals as goal
 
 pub returns : goal.returns

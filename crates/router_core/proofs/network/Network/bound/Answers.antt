@@ -1,6 +1,6 @@
-use Rattle.router_core.proofs.Common.{◌∙◌, ap, ℕ, List, ◌+◌, IfOk-weaker, DeclaredPeer}
+use Rattle.router_moments.proofs.Common.{◌∙◌, ap, ℕ, List, ◌+◌, IfOk-weaker, DeclaredPeer}
 use Rattle.std.proofs.Common.{length}
-use Rattle.router_core.proofs.ReadingLemmas.{bound_is}
+use Rattle.router_moments.proofs.ReadingLemmas.{bound_is}
 use Rattle.router_core.proofs.network.Network.bound.Goals as goal
 
 pub returns : goal.returns

@@ -1,4 +1,4 @@
-use Rattle.router_core.proofs.Common.{arith, key_of, router_links}
+use Rattle.router_moments.proofs.Common.{arith, key_of, router_links}
 use Rattle.router_core.proofs.ShownRows.{none_counted, one_counted, all_counted}
 use Rattle.journal_laws.proofs.ShownRows.{place_rises}
 use Rattle.router_core.proofs.network.Network.count_rows.Goals as goal

@@ -1,4 +1,4 @@
-use Rattle.router_core.proofs.Common.{subst, width, Moment}
+use Rattle.router_moments.proofs.Common.{subst, width, Moment}
 use Rattle.std.specs.FinMap as tables
 use Rattle.register_interest.specs.Covers.{IsCover}
 use Rattle.register_interest.specs.Matches.{lent_match}

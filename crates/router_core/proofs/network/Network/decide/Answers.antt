@@ -1,5 +1,5 @@
-use Rattle.router_core.proofs.Common.{on_ok_weaker}
-use Rattle.router_core.proofs.BestLemmas.{decides_none, decides_some}
+use Rattle.router_moments.proofs.Common.{on_ok_weaker}
+use Rattle.router_moments.proofs.BestLemmas.{decides_none, decides_some}
 use Rattle.router_core.proofs.network.Network.decide.Goals as goal
 
 pub returns-in_default : goal.returns-in_default

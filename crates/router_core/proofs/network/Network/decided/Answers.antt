@@ -1,4 +1,4 @@
-use Rattle.router_core.proofs.Common.{sym, ◌∙◌}
+use Rattle.router_moments.proofs.Common.{sym, ◌∙◌}
 use Rattle.std.proofs.Common.{Some, None}
 use Rattle.router_core.proofs.ShownRows.{has_best}
 use Rattle.router_core.proofs.network.Network.decided.Goals as goal

@@ -1,7 +1,7 @@
-use Rattle.router_core.proofs.Common.{sym, ◌∙◌, ap, peer_at, Moment}
-use Rattle.router_core.proofs.StandLemmas.{peers_sound}
-use Rattle.router_core.proofs.HopTurns.{hops_sound}
-use Rattle.router_core.proofs.PeerLemmas.{resolver_absent, peer_absent, peer_after, not_added, chain_absent, new_number, peer_declared}
+use Rattle.router_moments.proofs.Common.{sym, ◌∙◌, ap, peer_at, Moment}
+use Rattle.router_moments.proofs.StandLemmas.{peers_sound}
+use Rattle.router_moments.proofs.HopTurns.{hops_sound}
+use Rattle.router_moments.proofs.PeerLemmas.{resolver_absent, peer_absent, peer_after, not_added, chain_absent, new_number, peer_declared}
 use Rattle.router_core.proofs.network.Network.declare_peer.Goals as goal
 
 pub unreachable-requires : goal.unreachable-requires

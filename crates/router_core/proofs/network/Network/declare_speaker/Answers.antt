@@ -1,4 +1,4 @@
-use Rattle.router_core.proofs.Common.{◌∙◌, ap, on_ok_weaker, Moment}
+use Rattle.router_moments.proofs.Common.{◌∙◌, ap, on_ok_weaker, Moment}
 use Rattle.router_core.proofs.LocalLemmas.{local_declared, nothing_external, speaker_is}
 use Rattle.router_core.proofs.network.Network.declare_speaker.Goals as goal
 

@@ -1,4 +1,4 @@
-use Rattle.router_core.proofs.Common.{sym, subst, ◌≡◌, peer_at, Moment}
+use Rattle.router_moments.proofs.Common.{sym, subst, ◌≡◌, peer_at, Moment}
 use Rattle.std.proofs.lemmas.Bool.{not-false, not-true}
 use Rattle.live_state.proofs.AdmittedLemmas.{down_there}
 use Rattle.std.proofs.Common.{Some, None}

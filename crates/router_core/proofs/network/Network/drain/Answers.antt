@@ -1,5 +1,5 @@
-use Rattle.router_core.proofs.Common.{sym, subst, ℕ}
-use Rattle.router_core.proofs.RunLemmas.{HaveGivenOf, phase_none, phase_more, phase_stands, phase_less, phase_done}
+use Rattle.router_moments.proofs.Common.{sym, subst, ℕ}
+use Rattle.router_moments.proofs.RunLemmas.{HaveGivenOf, phase_none, phase_more, phase_stands, phase_less, phase_done}
 use Rattle.router_core.proofs.network.Network.drain.Goals as goal
 
 pub loop-task-init : goal.loop-task-init

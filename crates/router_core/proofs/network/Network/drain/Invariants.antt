@@ -1,5 +1,5 @@
-use Rattle.router_core.proofs.Common.{counts}
-use Rattle.router_core.proofs.RunLemmas.{HaveGivenOf}
+use Rattle.router_moments.proofs.Common.{counts}
+use Rattle.router_moments.proofs.RunLemmas.{HaveGivenOf}
 use Rattle.router_core.proofs.network.Network.drain.Given as goal
 
 abbrev pub invariant-loop-task : goal.invariant-loop-task

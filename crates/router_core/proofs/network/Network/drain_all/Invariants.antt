@@ -1,5 +1,5 @@
-use Rattle.router_core.proofs.Common.{Gives}
-use Rattle.router_core.proofs.RunLemmas.{Idling}
+use Rattle.router_moments.proofs.Common.{Gives}
+use Rattle.router_moments.proofs.RunLemmas.{Idling}
 use Rattle.router_core.proofs.network.Network.drain_all.Given as goal
 
 abbrev pub invariant-loop-i : goal.invariant-loop-i

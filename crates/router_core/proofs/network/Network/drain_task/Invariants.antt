@@ -1,5 +1,5 @@
-use Rattle.router_core.proofs.Common.{counts, phase_of}
-use Rattle.router_core.proofs.RunLemmas.{HaveGiven}
+use Rattle.router_moments.proofs.Common.{counts, phase_of}
+use Rattle.router_moments.proofs.RunLemmas.{HaveGiven}
 use Rattle.router_core.proofs.network.Network.drain_task.Given as goal
 
 abbrev pub invariant-rest : goal.invariant-rest

@@ -1,5 +1,5 @@
-use Rattle.router_core.proofs.StandLemmas.{peers_sound}
-use Rattle.router_core.proofs.PeerLemmas.{edited_stepped, chain_for_rules}
+use Rattle.router_moments.proofs.StandLemmas.{peers_sound}
+use Rattle.router_moments.proofs.PeerLemmas.{edited_stepped, chain_for_rules}
 use Rattle.router_core.proofs.network.Network.edit_incoming.Goals as goal
 
 pub edit-requires-clause-sound : goal.edit-requires-clause-sound

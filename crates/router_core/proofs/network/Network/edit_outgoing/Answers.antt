@@ -1,7 +1,7 @@
-use Rattle.router_core.proofs.Common.{on_ok_weaker}
+use Rattle.router_moments.proofs.Common.{on_ok_weaker}
 use Rattle.router_core.specs.contracts.network.Network.{the_view}
-use Rattle.router_core.proofs.HopTurns.{exits_sound}
-use Rattle.router_core.proofs.SessionLemmas.{outgoing_edited}
+use Rattle.router_moments.proofs.HopTurns.{exits_sound}
+use Rattle.router_moments.proofs.SessionLemmas.{outgoing_edited}
 use Rattle.router_core.proofs.network.Network.edit_outgoing.Goals as goal
 
 pub edit-requires : goal.edit-requires

@@ -1,6 +1,6 @@
-use Rattle.router_core.proofs.Common.{sym, subst, List, take, Network, Attrs, Profile, Pushes, AreHeard, HaveFed}
+use Rattle.router_moments.proofs.Common.{sym, subst, List, take, Network, Attrs, Profile, Pushes, AreHeard, HaveFed}
 use Rattle.std.specs.Prelude.{Option}
-use Rattle.router_core.proofs.FeedLemmas.{fed_profile, pushed_more, take_pair, heard_at}
+use Rattle.router_moments.proofs.FeedLemmas.{fed_profile, pushed_more, take_pair, heard_at}
 use Rattle.router_core.proofs.network.Network.feed.Goals as goal
 
 pub loop-change-preserved : goal.loop-change-preserved

@@ -1,4 +1,4 @@
-use Rattle.router_core.proofs.Common.{take, Pushes, HaveFed}
+use Rattle.router_moments.proofs.Common.{take, Pushes, HaveFed}
 use Rattle.router_core.proofs.network.Network.feed.Given as goal
 
 abbrev pub invariant-loop-change : goal.invariant-loop-change

@@ -1,6 +1,6 @@
-use Rattle.router_core.proofs.Common.{on_ok_weaker}
-use Rattle.router_core.proofs.StandLemmas.{chain_is_there, peers_sound}
-use Rattle.router_core.proofs.FeedLemmas.{one_fed, fed_settles}
+use Rattle.router_moments.proofs.Common.{on_ok_weaker}
+use Rattle.router_moments.proofs.StandLemmas.{chain_is_there, peers_sound}
+use Rattle.router_moments.proofs.FeedLemmas.{one_fed, fed_settles}
 use Rattle.router_core.proofs.network.Network.feed_one.Goals as goal
 
 pub feed-requires-clause-sound : goal.feed-requires-clause-sound

@@ -1,4 +1,4 @@
-use Rattle.router_core.proofs.HeldLemmas.{phase_passed, phase_holds}
+use Rattle.router_moments.proofs.HeldLemmas.{phase_passed, phase_holds}
 use Rattle.router_core.proofs.network.Network.first_held.Goals as goal
 
 pub returns-in-Some : goal.returns-in-Some

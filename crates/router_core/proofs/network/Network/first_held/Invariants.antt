@@ -1,5 +1,5 @@
-use Rattle.router_core.proofs.Common.{◌≡◌, first_held}
-use Rattle.router_core.proofs.HeldLemmas.{from_phase}
+use Rattle.router_moments.proofs.Common.{◌≡◌, first_held}
+use Rattle.router_moments.proofs.HeldLemmas.{from_phase}
 use Rattle.router_core.proofs.network.Network.first_held.Given as goal
 
 abbrev pub invariant-loop-i : goal.invariant-loop-i

@@ -1,7 +1,7 @@
-use Rattle.router_core.proofs.Common.{sym, subst, ◌≡◌}
+use Rattle.router_moments.proofs.Common.{sym, subst, ◌≡◌}
 use Rattle.std.proofs.Common.{Result, Err, OnOk}
 use Rattle.rib_exit.proofs.LawLemmas.{on_ok}
-use Rattle.router_core.proofs.ExitTurns.{forwarded}
+use Rattle.router_moments.proofs.ExitTurns.{forwarded}
 use Rattle.router_core.proofs.network.Network.forward.Goals as goal
 use Rattle.router_core.proofs.network.Network.forward.Goals.{in-Ok, in-Err}
 

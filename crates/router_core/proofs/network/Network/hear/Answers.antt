@@ -1,6 +1,6 @@
-use Rattle.router_core.proofs.Common.{sym, subst, ◌∙◌, refl, on_ok_weaker, AreHeard, IsHeardMessage}
+use Rattle.router_moments.proofs.Common.{sym, subst, ◌∙◌, refl, on_ok_weaker, AreHeard, IsHeardMessage}
 use Rattle.bgp_wire.specs.declared.message.Message.TheVariants as messages
-use Rattle.router_core.proofs.HeardRows.{changes_heard}
+use Rattle.router_moments.proofs.HeardRows.{changes_heard}
 use Rattle.router_core.proofs.StepLemmas.{nothing_heard, refresh_heard, update_heard, end_heard, fault_heard}
 use Rattle.router_core.proofs.network.Network.hear.Goals as goal
 

@@ -1,14 +1,14 @@
-use Rattle.router_core.proofs.Common.{sym, ◌∙◌, ap, Route, Rows, route_hop, Chains, filt_at, Moment, best_of}
+use Rattle.router_moments.proofs.Common.{sym, ◌∙◌, ap, Route, Rows, route_hop, Chains, filt_at, Moment, best_of}
 use Rattle.std.proofs.Common.{is_some, option_map}
 use Rattle.std.specs.List.{find}
 use Rattle.std.specs.FinMap as tables
 use Rattle.hop_side.specs.Resolvers.{hop_holds_up}
-use Rattle.router_core.specs.declared.router.Phase.TheVariants.{Del, Fin}
-use Rattle.router_core.proofs.StandLemmas.{peers_sound}
-use Rattle.router_core.proofs.HopTurns.{exits_sound}
-use Rattle.router_core.proofs.BestLemmas.{lent_best}
-use Rattle.router_core.proofs.NextLemmas.{held_of_peers, held_of_hops, held_of_exits, held_of_losses, held_of_refreshes}
-use Rattle.router_core.proofs.SettledLemmas.{none_held}
+use Rattle.router_moments.specs.declared.tasks.Phase.TheVariants.{Del, Fin}
+use Rattle.router_moments.proofs.StandLemmas.{peers_sound}
+use Rattle.router_moments.proofs.HopTurns.{exits_sound}
+use Rattle.router_moments.proofs.BestLemmas.{lent_best}
+use Rattle.router_moments.proofs.NextLemmas.{held_of_peers, held_of_hops, held_of_exits, held_of_losses, held_of_refreshes}
+use Rattle.router_moments.proofs.SettledLemmas.{none_held}
 use Rattle.router_core.proofs.network.Network.held_in.Goals as goal
 
 pub returns-in_err-next : goal.returns-in_err-next

@@ -1,4 +1,4 @@
-use Rattle.router_core.proofs.Common.{arith}
+use Rattle.router_moments.proofs.Common.{arith}
 use Rattle.router_core.proofs.StepLemmas.{idled}
 use Rattle.router_core.proofs.network.Network.idle.Goals as goal
 

@@ -1,4 +1,4 @@
-use Rattle.router_core.proofs.Common.{sym, subst, IsHops, Moment}
+use Rattle.router_moments.proofs.Common.{sym, subst, IsHops, Moment}
 use Rattle.router_core.proofs.network.Network.inform.Goals as goal
 
 pub reach-requires : goal.reach-requires

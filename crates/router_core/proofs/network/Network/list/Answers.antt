@@ -1,8 +1,8 @@
-use Rattle.router_core.proofs.Common.{sym, subst, refl, Shows, router_links, HasStepped, Moment, Stands}
+use Rattle.router_moments.proofs.Common.{sym, subst, refl, Shows, router_links, HasStepped, Moment, Stands}
 use Rattle.event_text.specs.declared.event.Event.TheVariants as events
-use Rattle.router_core.specs.Moments.{Gives}
-use Rattle.router_core.specs.Stands.{HaveReaders}
-use Rattle.router_core.proofs.KeepLemmas.{gives_pushed}
+use Rattle.router_moments.specs.Moments.{Gives}
+use Rattle.router_moments.specs.Stands.{HaveReaders}
+use Rattle.router_moments.proofs.KeepLemmas.{gives_pushed}
 use Rattle.router_core.proofs.ShownRows.{show_stepped}
 use Rattle.router_core.proofs.ReadLemmas.{have_readers}
 use Rattle.router_core.proofs.network.Network.list.Goals as goal

@@ -1,7 +1,7 @@
-use Rattle.router_core.proofs.Common.{◌∙◌, ap, sym, subst, refl, flushed, answer_lines, router_links, HasStepped, Moment, Stands}
+use Rattle.router_moments.proofs.Common.{◌∙◌, ap, sym, subst, refl, flushed, answer_lines, router_links, HasStepped, Moment, Stands}
 use Rattle.event_text.specs.declared.event.Event.TheVariants as events
-use Rattle.router_core.specs.Moments.{Gives}
-use Rattle.router_core.specs.Stands.{HaveReaders}
+use Rattle.router_moments.specs.Moments.{Gives}
+use Rattle.router_moments.specs.Stands.{HaveReaders}
 use Rattle.router_core.proofs.ShownRows.{ask_stepped}
 use Rattle.router_core.proofs.ReadLemmas.{have_readers}
 use Rattle.router_core.proofs.network.Network.look_up.Goals as goal

@@ -1,7 +1,7 @@
-use Rattle.router_core.proofs.Common.{on_ok_weaker}
+use Rattle.router_moments.proofs.Common.{on_ok_weaker}
 use Rattle.router_core.specs.contracts.network.Network.{the_view}
-use Rattle.router_core.proofs.HopTurns.{exits_sound}
-use Rattle.router_core.proofs.StandLemmas.{chain_is_there}
+use Rattle.router_moments.proofs.HopTurns.{exits_sound}
+use Rattle.router_moments.proofs.StandLemmas.{chain_is_there}
 use Rattle.router_core.proofs.LossLemmas.{lost_all, silenced_stands, room_silent}
 use Rattle.router_core.proofs.network.Network.lose.Goals as goal
 

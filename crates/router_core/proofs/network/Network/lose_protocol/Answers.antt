@@ -1,8 +1,8 @@
-use Rattle.router_core.proofs.Common.{sym, subst, ap, Lose, speaker_since, LiveState}
+use Rattle.router_moments.proofs.Common.{sym, subst, ap, Lose, speaker_since, LiveState}
 use Rattle.std.proofs.Common.{IsSome}
 use Rattle.router_core.proofs.ProtocolLosses.{protocol_lost}
 use Rattle.router_core.proofs.network.Network.lose_protocol.Goals as goal
-use Rattle.router_core.proofs.CoreLemmas.{worked_numbered}
+use Rattle.router_moments.proofs.CoreLemmas.{worked_numbered}
 
 pub lose_protocol_with_room-requires-clause-few : goal.lose_protocol_with_room-requires-clause-few
 lose_protocol_with_room-requires-clause-few c = worked_numbered c.args.self.now c.make_protocol_room.new.self c.in_ok-make_protocol_room.ensures.0 4294967294 c.in_ok-make_protocol_room.ensures.2.keeps c.requires.few

@@ -1,7 +1,7 @@
-use Rattle.router_core.proofs.Common.{sym, subst, ◌≡◌, tree_overdue, IsTree, IsFull, Moment, with_tree, Stands, Pushes}
+use Rattle.router_moments.proofs.Common.{sym, subst, ◌≡◌, tree_overdue, IsTree, IsFull, Moment, with_tree, Stands, Pushes}
 use Rattle.std.proofs.Common.{None, IsSome}
 use Rattle.router_core.specs.contracts.network.Network.{the_view}
-use Rattle.router_core.specs.Works.{EndsProtocol}
+use Rattle.router_moments.specs.Works.{EndsProtocol}
 use Rattle.router_core.proofs.ProtocolLosses.{protocol_ended}
 use Rattle.router_core.proofs.network.Network.lose_protocol_with_room.Goals as goal
 

@@ -1,4 +1,4 @@
-use Rattle.router_core.proofs.StandLemmas.{peers_sound}
+use Rattle.router_moments.proofs.StandLemmas.{peers_sound}
 use Rattle.router_core.proofs.LossLemmas.{may_lose, one_ended}
 use Rattle.router_core.proofs.network.Network.lose_with_room.Goals as goal
 

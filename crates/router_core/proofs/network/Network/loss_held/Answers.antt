@@ -1,7 +1,7 @@
-use Rattle.router_core.proofs.Common.{ℕ, refl, arith, ◌≤◌, ◌<◌}
-use Rattle.router_core.proofs.StandLemmas.{tree_sound}
-use Rattle.router_core.proofs.HeldLemmas.{hop_more, hop_none}
-use Rattle.router_core.proofs.NextLemmas.{held_of_tree}
+use Rattle.router_moments.proofs.Common.{ℕ, refl, arith, ◌≤◌, ◌<◌}
+use Rattle.router_moments.proofs.StandLemmas.{tree_sound}
+use Rattle.router_moments.proofs.HeldLemmas.{hop_more, hop_none}
+use Rattle.router_moments.proofs.NextLemmas.{held_of_tree}
 use Rattle.router_core.proofs.network.Network.loss_held.Goals as goal
 use Rattle.router_core.proofs.network.Network.loss_held.Goals.{in-Some, in_default}
 

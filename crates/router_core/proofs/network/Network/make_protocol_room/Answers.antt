@@ -1,4 +1,4 @@
-use Rattle.router_core.proofs.Common.{◌∙◌, ap, on_ok_weaker, tree_overdue, Moment}
+use Rattle.router_moments.proofs.Common.{◌∙◌, ap, on_ok_weaker, tree_overdue, Moment}
 use Rattle.router_core.proofs.RouteRoom.{protocol_room_drained, protocol_room_there}
 use Rattle.router_core.proofs.network.Network.make_protocol_room.Goals as goal
 

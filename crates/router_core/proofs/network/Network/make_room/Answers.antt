@@ -1,4 +1,4 @@
-use Rattle.router_core.proofs.Common.{on_ok_weaker}
+use Rattle.router_moments.proofs.Common.{on_ok_weaker}
 use Rattle.router_core.proofs.RoomLemmas.{room_drained, room_there}
 use Rattle.router_core.proofs.network.Network.make_room.Goals as goal
 

@@ -1,4 +1,4 @@
-use Rattle.router_core.proofs.Common.{sym, subst, ◌≡◌, ℕ, List, IsWellFormed, Gives, HasStepped}
+use Rattle.router_moments.proofs.Common.{sym, subst, ◌≡◌, ℕ, List, IsWellFormed, Gives, HasStepped}
 use Rattle.std.proofs.Common.{None}
 use Rattle.std.specs.Result.{IfOk}
 use Rattle.event_text.specs.declared.event.Event.TheVariants as events

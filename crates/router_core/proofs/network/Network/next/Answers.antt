@@ -1,7 +1,7 @@
-use Rattle.router_core.specs.declared.router.Phase.TheVariants.{Red, Del, Fin, ReadRib, Ext}
-use Rattle.router_core.proofs.StandLemmas.{peers_sound}
-use Rattle.router_core.proofs.HopTurns.{exits_sound}
-use Rattle.router_core.proofs.NextLemmas.{next_of_hops, none_of_hops, next_of_exits, none_of_exits, next_of_refreshes, none_of_refreshes, next_of_one, none_of_reader, none_of_own, none_of_external, next_of_peers, next_of_tree, none_of_tree}
+use Rattle.router_moments.specs.declared.tasks.Phase.TheVariants.{Red, Del, Fin, ReadRib, Ext}
+use Rattle.router_moments.proofs.StandLemmas.{peers_sound}
+use Rattle.router_moments.proofs.HopTurns.{exits_sound}
+use Rattle.router_moments.proofs.NextLemmas.{next_of_hops, none_of_hops, next_of_exits, none_of_exits, next_of_refreshes, none_of_refreshes, next_of_one, none_of_reader, none_of_own, none_of_external, next_of_peers, next_of_tree, none_of_tree}
 use Rattle.router_core.proofs.network.Network.next.Goals as goal
 
 pub first_loss-requires : goal.first_loss-requires

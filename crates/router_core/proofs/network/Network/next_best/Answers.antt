@@ -1,5 +1,5 @@
-use Rattle.router_core.proofs.Common.{subst, key_of, Route, best_rows, Rows, Candidates, IsNextCandidate, CoversRows, int_rows, own_rows, lent_rows, candidates_of}
-use Rattle.router_core.proofs.BestLemmas.{lent_best, lent_at}
+use Rattle.router_moments.proofs.Common.{subst, key_of, Route, best_rows, Rows, Candidates, IsNextCandidate, CoversRows, int_rows, own_rows, lent_rows, candidates_of}
+use Rattle.router_moments.proofs.BestLemmas.{lent_best, lent_at}
 use Rattle.router_core.proofs.network.Network.next_best.Goals as goal
 
 pub returns-clause-next : goal.returns-clause-next

@@ -1,4 +1,4 @@
-use Rattle.router_core.proofs.Common.{sym, ◌∙◌, refl, key_of}
+use Rattle.router_moments.proofs.Common.{sym, ◌∙◌, refl, key_of}
 use Rattle.router_core.proofs.ShownRows.{next_inward, next_res, next_best, next_tree, next_own, next_forward, forward_live}
 use Rattle.router_core.proofs.network.Network.next_candidate.Goals as goal
 

@@ -1,4 +1,4 @@
-use Rattle.router_core.proofs.Common.{sym, ◌∙◌, ap, option_copied, key_of}
+use Rattle.router_moments.proofs.Common.{sym, ◌∙◌, ap, option_copied, key_of}
 use Rattle.router_core.proofs.ShownRows.{none_resolved, next_resolved}
 use Rattle.router_core.proofs.network.Network.next_resolved.Goals as goal
 

@@ -1,4 +1,4 @@
-use Rattle.router_core.proofs.Common.{key_of}
+use Rattle.router_moments.proofs.Common.{key_of}
 use Rattle.router_core.specs.contracts.network.Network.{the_view}
 use Rattle.router_core.proofs.ReadLemmas.{sent_next}
 use Rattle.router_core.proofs.network.Network.next_sent.Goals as goal

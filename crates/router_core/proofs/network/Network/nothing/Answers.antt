@@ -1,7 +1,7 @@
-use Rattle.router_core.proofs.Common.{refl, HasStepped}
+use Rattle.router_moments.proofs.Common.{refl, HasStepped}
 use Rattle.std.proofs.Common.{[]}
 use Rattle.event_text.specs.declared.event.Event.TheVariants as events
-use Rattle.router_core.proofs.KeepLemmas.{gives_none, steps_said}
+use Rattle.router_moments.proofs.KeepLemmas.{gives_none, steps_said}
 use Rattle.router_core.proofs.network.Network.nothing.Goals as goal
 
 pub returns : goal.returns

@@ -1,6 +1,6 @@
-use Rattle.router_core.proofs.Common.{sym, ◌∙◌, ap, Route, Rows}
+use Rattle.router_moments.proofs.Common.{sym, ◌∙◌, ap, Route, Rows}
 use Rattle.std.proofs.Common.{Some, None}
-use Rattle.router_core.proofs.BestLemmas.{own_is}
+use Rattle.router_moments.proofs.BestLemmas.{own_is}
 use Rattle.router_core.proofs.ShownRows.{has_own}
 use Rattle.router_core.proofs.network.Network.own.Goals as goal
 

@@ -1,8 +1,8 @@
-use Rattle.router_core.proofs.Common.{sym, subst, Adds}
+use Rattle.router_moments.proofs.Common.{sym, subst, Adds}
 use Rattle.std.proofs.Common.{OnOk, Some}
-use Rattle.router_core.specs.Works.{Follows}
+use Rattle.router_moments.specs.Works.{Follows}
 use Rattle.rib_exit.proofs.LawLemmas.{on_ok}
-use Rattle.router_core.proofs.RouteLemmas.{followed}
+use Rattle.router_moments.proofs.RouteLemmas.{followed}
 use Rattle.router_core.proofs.network.Network.pass_on.Goals as goal
 use Rattle.router_core.proofs.network.Network.pass_on.Goals.{in-Ok, in-Err}
 

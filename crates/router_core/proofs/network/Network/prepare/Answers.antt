@@ -1,6 +1,6 @@
-use Rattle.router_core.proofs.Common.{ap, ◌∙◌, Exited}
+use Rattle.router_moments.proofs.Common.{ap, ◌∙◌, Exited}
 use Rattle.router_core.specs.contracts.network.Network.{the_view}
-use Rattle.router_core.specs.Moments.{with_exits}
+use Rattle.router_moments.specs.Moments.{with_exits}
 use Rattle.router_core.proofs.network.Network.prepare.Goals as goal
 
 pub returns : goal.returns

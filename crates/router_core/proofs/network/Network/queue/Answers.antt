@@ -1,5 +1,5 @@
-use Rattle.router_core.proofs.Common.{on_ok_weaker}
-use Rattle.router_core.proofs.BestLemmas.{joins_none, joins_some}
+use Rattle.router_moments.proofs.Common.{on_ok_weaker}
+use Rattle.router_moments.proofs.BestLemmas.{joins_none, joins_some}
 use Rattle.router_core.proofs.network.Network.queue.Goals as goal
 
 pub returns-in-None : goal.returns-in-None

@@ -1,4 +1,4 @@
-use Rattle.router_core.proofs.Common.{sym, ◌∙◌}
+use Rattle.router_moments.proofs.Common.{sym, ◌∙◌}
 use Rattle.std.proofs.Common.{Some, None}
 use Rattle.router_core.specs.contracts.network.Network.{the_view}
 use Rattle.router_core.proofs.ReadLemmas.{read_has}

@@ -1,5 +1,5 @@
-use Rattle.router_core.proofs.Common.{sym, ◌∙◌, ap, option_copied}
-use Rattle.router_core.proofs.ExitTurns.{reader_is}
+use Rattle.router_moments.proofs.Common.{sym, ◌∙◌, ap, option_copied}
+use Rattle.router_moments.proofs.ExitTurns.{reader_is}
 use Rattle.router_core.proofs.network.Network.reader_held.Goals as goal
 
 pub unread-requires : goal.unread-requires

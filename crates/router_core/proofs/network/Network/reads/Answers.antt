@@ -1,4 +1,4 @@
-use Rattle.router_core.proofs.ExitTurns.{reader_is, reads_is, reads_nothing}
+use Rattle.router_moments.proofs.ExitTurns.{reader_is, reads_is, reads_nothing}
 use Rattle.router_core.proofs.network.Network.reads.Goals as goal
 
 pub waiting-requires : goal.waiting-requires

@@ -1,9 +1,9 @@
-use Rattle.router_core.proofs.Common.{sym, subst, ◌∙◌, ap, ◌≡◌, ℕ, List, Bool, not, Profile, AreOctets, Message, peer_at, Says, Moment, IsHeardMessage}
+use Rattle.router_moments.proofs.Common.{sym, subst, ◌∙◌, ap, ◌≡◌, ℕ, List, Bool, not, Profile, AreOctets, Message, peer_at, Says, Moment, IsHeardMessage}
 use Rattle.router_core.proofs.StepLemmas.{bgp_ignored, heard_up}
 use Rattle.std.proofs.Common.{Some, None}
 use Rattle.bgp_wire.specs.Grammar.{Answers}
 use Rattle.bgp_wire.specs.declared.message.Message.TheVariants as messages
-use Rattle.router_core.proofs.HeardRows.{message_heard}
+use Rattle.router_moments.proofs.HeardRows.{message_heard}
 use Rattle.live_state.proofs.AdmittedLemmas.{bgp_there}
 use Rattle.router_core.proofs.network.Network.receive.Goals as goal
 

@@ -1,5 +1,5 @@
-use Rattle.router_core.proofs.Common.{sym, ◌∙◌}
-use Rattle.router_core.proofs.OwnTurns.{own_followed}
+use Rattle.router_moments.proofs.Common.{sym, ◌∙◌}
+use Rattle.router_moments.proofs.OwnTurns.{own_followed}
 use Rattle.router_core.proofs.network.Network.redistribute.Goals as goal
 
 pub returns : goal.returns

@@ -1,6 +1,6 @@
-use Rattle.router_core.proofs.Common.{sym, ◌∙◌}
+use Rattle.router_moments.proofs.Common.{sym, ◌∙◌}
 use Rattle.router_core.specs.contracts.network.Network.{the_view}
-use Rattle.router_core.proofs.RefreshTurns.{refresh_is, unserved_is}
+use Rattle.router_moments.proofs.RefreshTurns.{refresh_is, unserved_is}
 use Rattle.router_core.proofs.network.Network.refresh.Goals as goal
 
 pub returns-then-is_served : goal.returns-then-is_served

@@ -1,6 +1,6 @@
-use Rattle.router_core.proofs.Common.{sym, subst, IfOk-weaker, AllAgree, Moment}
+use Rattle.router_moments.proofs.Common.{sym, subst, IfOk-weaker, AllAgree, Moment}
 use Rattle.register_interest.specs.Registers.{AllStand as MatchesStand}
-use Rattle.router_core.proofs.HopLemmas.{resolved_out, resolved_in}
+use Rattle.router_moments.proofs.HopLemmas.{resolved_out, resolved_in}
 use Rattle.router_core.proofs.network.Network.resolve.Goals as goal
 
 pub returns-in_default-clause-resolves : goal.returns-in_default-clause-resolves

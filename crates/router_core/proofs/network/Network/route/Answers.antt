@@ -1,8 +1,8 @@
-use Rattle.router_core.proofs.Common.{sym, subst, ◌≡◌, on_ok_weaker, Interior, way_of_route, fed_tree, IsTree, IsFull, Moment, Pushes}
+use Rattle.router_moments.proofs.Common.{sym, subst, ◌≡◌, on_ok_weaker, Interior, way_of_route, fed_tree, IsTree, IsFull, Moment, Pushes}
 use Rattle.std.proofs.Common.{Option, IsSome}
-use Rattle.router_core.specs.Works.{SetsRoute}
-use Rattle.router_core.proofs.StandLemmas.{may_follow}
-use Rattle.router_core.proofs.RouteLemmas.{route_fell}
+use Rattle.router_moments.specs.Works.{SetsRoute}
+use Rattle.router_moments.proofs.StandLemmas.{may_follow}
+use Rattle.router_moments.proofs.RouteLemmas.{route_fell}
 use Rattle.router_core.proofs.network.Network.route.Goals as goal
 use Rattle.router_core.specs.contracts.network.Network.{the_view}
 

@@ -1,4 +1,4 @@
-use Rattle.router_core.proofs.Common.{RouteAdd, speaker_since}
+use Rattle.router_moments.proofs.Common.{RouteAdd, speaker_since}
 use Rattle.router_core.proofs.RouteSteps.{route_added}
 use Rattle.router_core.proofs.network.Network.route_add.Goals as goal
 

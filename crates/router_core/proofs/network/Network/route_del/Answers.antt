@@ -1,4 +1,4 @@
-use Rattle.router_core.proofs.Common.{sym, ◌∙◌, ap, ◌≡◌, true, false, RouteDel, speaker_since, branch_of, Moment}
+use Rattle.router_moments.proofs.Common.{sym, ◌∙◌, ap, ◌≡◌, true, false, RouteDel, speaker_since, branch_of, Moment}
 use Rattle.std.proofs.Common.{is_some}
 use Rattle.std.specs.FinMap as tables
 use Rattle.router_core.proofs.RouteSteps.{route_dropped, nothing_dropped}

@@ -1,5 +1,5 @@
-use Rattle.router_core.proofs.Common.{on_ok_weaker}
-use Rattle.router_core.proofs.OwnTurns.{sends_own}
+use Rattle.router_moments.proofs.Common.{on_ok_weaker}
+use Rattle.router_moments.proofs.OwnTurns.{sends_own}
 use Rattle.router_core.proofs.network.Network.send_own.Goals as goal
 
 pub returns : goal.returns

@@ -1,4 +1,4 @@
-use Rattle.router_core.proofs.Common.{subst, Links, HasRow, Value}
+use Rattle.router_moments.proofs.Common.{subst, Links, HasRow, Value}
 use Rattle.std.proofs.Common.{IfOk}
 use Rattle.router_core.specs.contracts.network.Network.{the_view}
 use Rattle.router_core.proofs.ReadLemmas.{sent_links}

@@ -1,4 +1,4 @@
-use Rattle.router_core.proofs.RouteLemmas.{settled}
+use Rattle.router_moments.proofs.RouteLemmas.{settled}
 use Rattle.router_core.proofs.network.Network.settle.Goals as goal
 
 pub returns : goal.returns

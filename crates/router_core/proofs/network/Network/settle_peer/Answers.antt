@@ -1,5 +1,5 @@
-use Rattle.router_core.proofs.Common.{on_ok_weaker}
-use Rattle.router_core.proofs.HopLemmas.{settled_peer}
+use Rattle.router_moments.proofs.Common.{on_ok_weaker}
+use Rattle.router_moments.proofs.HopLemmas.{settled_peer}
 use Rattle.router_core.proofs.network.Network.settle_peer.Goals as goal
 
 pub returns : goal.returns

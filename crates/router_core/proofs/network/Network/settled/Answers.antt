@@ -1,7 +1,7 @@
-use Rattle.router_core.proofs.Common.{sym, subst, HasStepped, Moment, Stands}
+use Rattle.router_moments.proofs.Common.{sym, subst, HasStepped, Moment, Stands}
 use Rattle.event_text.specs.declared.event.Event.TheVariants as events
-use Rattle.router_core.specs.Moments.{Gives}
-use Rattle.router_core.specs.Stands.{AllHaveExits}
+use Rattle.router_moments.specs.Moments.{Gives}
+use Rattle.router_moments.specs.Stands.{AllHaveExits}
 use Rattle.router_core.proofs.StepLemmas.{settled}
 use Rattle.router_core.proofs.network.Network.settled.Goals as goal
 

@@ -1,4 +1,4 @@
-use Rattle.router_core.proofs.Common.{sym, ◌∙◌, on_ok_weaker, router_links}
+use Rattle.router_moments.proofs.Common.{sym, ◌∙◌, on_ok_weaker, router_links}
 use Rattle.router_core.proofs.ShownRows.{not_shown}
 use Rattle.router_core.proofs.network.Network.show.Goals as goal
 

@@ -1,4 +1,4 @@
-use Rattle.router_core.proofs.Common.{arith, on_ok_weaker, key_of, router_links}
+use Rattle.router_moments.proofs.Common.{arith, on_ok_weaker, key_of, router_links}
 use Rattle.router_core.proofs.ShownRows.{none_given, one_given, rows_end}
 use Rattle.journal_laws.proofs.ShownRows.{place_rises}
 use Rattle.router_core.proofs.network.Network.show_rows.Goals as goal

@@ -1,4 +1,4 @@
-use Rattle.router_core.proofs.Common.{◌+◌, ◌≤◌, ◌-◌, key_of, router_links}
+use Rattle.router_moments.proofs.Common.{◌+◌, ◌≤◌, ◌-◌, key_of, router_links}
 use Rattle.std.proofs.Common.{◌^◌}
 use Rattle.addr4.specs.Places.{beyond}
 use Rattle.journal_laws.proofs.ShownRows.{IsPlaced}

@@ -1,5 +1,5 @@
-use Rattle.router_core.proofs.HopTurns.{exits_sound}
-use Rattle.router_core.proofs.ExitTurns.{exits_stand, exit_took}
+use Rattle.router_moments.proofs.HopTurns.{exits_sound}
+use Rattle.router_moments.proofs.ExitTurns.{exits_stand, exit_took}
 use Rattle.router_core.proofs.network.Network.turn_exit.Goals as goal
 
 pub turn-requires-clause-sound : goal.turn-requires-clause-sound

@@ -1,5 +1,5 @@
-use Rattle.router_core.proofs.Common.{refl}
-use Rattle.router_core.proofs.ExternalTurns.{rib_sound, rib_agrees, external_took}
+use Rattle.router_moments.proofs.Common.{refl}
+use Rattle.router_moments.proofs.ExternalTurns.{rib_sound, rib_agrees, external_took}
 use Rattle.router_core.proofs.network.Network.turn_external.Goals as goal
 
 pub turn-requires-clause-sound : goal.turn-requires-clause-sound

@@ -1,5 +1,5 @@
-use Rattle.router_core.proofs.Common.{sym, ◌∙◌, ap, refl, option_copied}
-use Rattle.router_core.proofs.HopTurns.{hops_sound, hops_agree, exits_sound, hop_took, hop_small, no_hops}
+use Rattle.router_moments.proofs.Common.{sym, ◌∙◌, ap, refl, option_copied}
+use Rattle.router_moments.proofs.HopTurns.{hops_sound, hops_agree, exits_sound, hop_took, hop_small, no_hops}
 use Rattle.router_core.proofs.network.Network.turn_hops.Goals as goal
 
 pub returns-in_default : goal.returns-in_default

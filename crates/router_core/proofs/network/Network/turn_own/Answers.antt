@@ -1,6 +1,6 @@
-use Rattle.router_core.proofs.Common.{sym, ◌∙◌, refl}
-use Rattle.router_core.proofs.HopTurns.{exits_sound}
-use Rattle.router_core.proofs.OwnTurns.{none_own, own_took}
+use Rattle.router_moments.proofs.Common.{sym, ◌∙◌, refl}
+use Rattle.router_moments.proofs.HopTurns.{exits_sound}
+use Rattle.router_moments.proofs.OwnTurns.{none_own, own_took}
 use Rattle.router_core.proofs.network.Network.turn_own.Goals as goal
 
 pub returns-in_default : goal.returns-in_default

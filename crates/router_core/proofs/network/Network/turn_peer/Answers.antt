@@ -1,7 +1,7 @@
-use Rattle.router_core.proofs.Common.{sym, subst, ℕ, with_chains, MaySettle}
+use Rattle.router_moments.proofs.Common.{sym, subst, ℕ, with_chains, MaySettle}
 use Rattle.router_core.specs.contracts.network.Network.{the_view}
-use Rattle.router_core.proofs.StandLemmas.{peers_sound}
-use Rattle.router_core.proofs.PeerTurns.{peer_took, peer_settles, settled_same}
+use Rattle.router_moments.proofs.StandLemmas.{peers_sound}
+use Rattle.router_moments.proofs.PeerTurns.{peer_took, peer_settles, settled_same}
 use Rattle.router_core.proofs.network.Network.turn_peer.Goals as goal
 
 pub turn-requires : goal.turn-requires

@@ -1,8 +1,8 @@
-use Rattle.router_core.proofs.Common.{sym, subst, ◌∙◌, ap, Route, Takes, Change}
+use Rattle.router_moments.proofs.Common.{sym, subst, ◌∙◌, ap, Route, Takes, Change}
 use Rattle.std.proofs.Common.{Option, Some}
 use Rattle.router_core.specs.contracts.network.Network.{the_view}
-use Rattle.router_core.proofs.ExitTurns.{reader_is, reader_took, reader_same}
-use Rattle.router_core.proofs.ExternalTurns.{rib_sound, rib_agrees}
+use Rattle.router_moments.proofs.ExitTurns.{reader_is, reader_took, reader_same}
+use Rattle.router_moments.proofs.ExternalTurns.{rib_sound, rib_agrees}
 use Rattle.router_core.proofs.network.Network.turn_reader.Goals as goal
 
 pub take-requires : goal.take-requires

@@ -1,5 +1,5 @@
 use Rattle.router_core.specs.contracts.network.Network.{the_view}
-use Rattle.router_core.proofs.RefreshTurns.{exits_are_chains, refresh_took, refresh_rests}
+use Rattle.router_moments.proofs.RefreshTurns.{exits_are_chains, refresh_took, refresh_rests}
 use Rattle.router_core.proofs.network.Network.turn_refresh.Goals as goal
 
 pub resend-requires : goal.resend-requires

@@ -1,9 +1,9 @@
-use Rattle.router_core.proofs.Common.{sym, subst, IsTree, IsFull, Moment, TakesTurn}
+use Rattle.router_moments.proofs.Common.{sym, subst, IsTree, IsFull, Moment, TakesTurn}
 use Rattle.std.proofs.Common.{IfOk}
 use Rattle.journal_text.specs.declared.link.Task.TheVariants as tasks
 use Rattle.router_core.specs.contracts.network.Network.{the_view}
-use Rattle.router_core.proofs.StandLemmas.{may_follow}
-use Rattle.router_core.proofs.RouteTurns.{quiet_since, sent_since, route_quiet, route_sent}
+use Rattle.router_moments.proofs.StandLemmas.{may_follow}
+use Rattle.router_moments.proofs.RouteTurns.{quiet_since, sent_since, route_quiet, route_sent}
 use Rattle.router_core.proofs.network.Network.turn_route.Goals as goal
 
 pub unit-requires-clause-tree : goal.unit-requires-clause-tree

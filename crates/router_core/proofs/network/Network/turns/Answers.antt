@@ -1,5 +1,5 @@
-use Rattle.router_core.proofs.Common.{subst, TakesTurn, Done}
-use Rattle.router_core.proofs.RunLemmas.{given_more, given_stands}
+use Rattle.router_moments.proofs.Common.{subst, TakesTurn, Done}
+use Rattle.router_moments.proofs.RunLemmas.{given_more, given_stands}
 use Rattle.router_core.proofs.network.Network.turns.Goals as goal
 
 pub loop-taken-preserved : goal.loop-taken-preserved

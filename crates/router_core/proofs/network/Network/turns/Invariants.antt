@@ -1,4 +1,4 @@
-use Rattle.router_core.proofs.RunLemmas.{HaveGiven}
+use Rattle.router_moments.proofs.RunLemmas.{HaveGiven}
 use Rattle.router_core.proofs.network.Network.turns.Given as goal
 
 abbrev pub invariant-loop-taken : goal.invariant-loop-taken

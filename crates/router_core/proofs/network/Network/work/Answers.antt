@@ -1,5 +1,5 @@
-use Rattle.router_core.proofs.Common.{subst, Gives}
-use Rattle.router_core.specs.Works.{AreTurns}
+use Rattle.router_moments.proofs.Common.{subst, Gives}
+use Rattle.router_moments.specs.Works.{AreTurns}
 use Rattle.router_core.proofs.StepLemmas.{worked}
 use Rattle.router_core.proofs.network.Network.work.Goals as goal
 

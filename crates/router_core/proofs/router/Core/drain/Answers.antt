@@ -1,4 +1,4 @@
-use Rattle.router_core.proofs.CoreLemmas.{core_drained, core_phase, exact_after, readers_of}
+use Rattle.router_moments.proofs.CoreLemmas.{core_drained, core_phase, exact_after, readers_of}
 use Rattle.router_core.proofs.router.Core.drain.Goals as goal
 
 pub returns-clause-drained : goal.returns-clause-drained

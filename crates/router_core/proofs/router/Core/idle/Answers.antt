@@ -1,4 +1,4 @@
-use Rattle.router_core.proofs.CoreLemmas.{moment_exits, core_idled, exact_after, readers_of}
+use Rattle.router_moments.proofs.CoreLemmas.{moment_exits, core_idled, exact_after, readers_of}
 use Rattle.router_core.proofs.router.Core.idle.Goals as goal
 
 pub idle-requires-clause-exits : goal.idle-requires-clause-exits

@@ -1,7 +1,7 @@
-use Rattle.router_core.proofs.Common.{sym, subst, Moment, HaveReaders}
-use Rattle.router_core.specs.Moments.{first_moment}
-use Rattle.router_core.specs.Stands.{CoreStands}
-use Rattle.router_core.proofs.CoreLemmas.{cored, first_stands, readers_of}
+use Rattle.router_moments.proofs.Common.{sym, subst, Moment, HaveReaders}
+use Rattle.router_moments.specs.Moments.{first_moment}
+use Rattle.router_moments.specs.Stands.{CoreStands}
+use Rattle.router_moments.proofs.CoreLemmas.{cored, first_stands, readers_of}
 use Rattle.router_core.proofs.router.Core.new.Goals as goal
 
 pub returns-clause-stands : goal.returns-clause-stands

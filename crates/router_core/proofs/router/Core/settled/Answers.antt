@@ -1,4 +1,4 @@
-use Rattle.router_core.proofs.CoreLemmas.{core_tells}
+use Rattle.router_moments.proofs.CoreLemmas.{core_tells}
 use Rattle.router_core.proofs.router.Core.settled.Goals as goal
 
 pub returns : goal.returns

@@ -1,6 +1,6 @@
-use Rattle.router_core.proofs.Common.{sym, subst, ◌+◌, ◌<◌}
-use Rattle.router_core.specs.Moments.{Cored}
-use Rattle.router_core.proofs.CoreLemmas.{few_losses, moment_stands, moment_exits, core_acts, core_stepped, exact_after, readers_of}
+use Rattle.router_moments.proofs.Common.{sym, subst, ◌+◌, ◌<◌}
+use Rattle.router_moments.specs.Moments.{Cored}
+use Rattle.router_moments.proofs.CoreLemmas.{few_losses, moment_stands, moment_exits, core_acts, core_stepped, exact_after, readers_of}
 use Rattle.router_core.proofs.router.Core.step.Goals as goal
 
 pub step-requires-clause-few : goal.step-requires-clause-few

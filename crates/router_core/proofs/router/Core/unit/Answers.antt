@@ -1,4 +1,4 @@
-use Rattle.router_core.proofs.CoreLemmas.{core_comes, core_turned, exact_after, readers_of}
+use Rattle.router_moments.proofs.CoreLemmas.{core_comes, core_turned, exact_after, readers_of}
 use Rattle.router_core.proofs.router.Core.unit.Goals as goal
 
 pub returns-clause-stands : goal.returns-clause-stands

@@ -1,8 +1,0 @@
-use Rattle.router_core.proofs.OneLaws as one
-use Rattle.router_core.proofs.laws.blocks_are_one.Goals as goal
-
-pub returns-clause-block : goal.returns-clause-block
-returns-clause-block c = one.block_law c.one_of_message_and_fault.ensures
-
-pub returns-clause-listing : goal.returns-clause-listing
-returns-clause-listing c = one.listing_law

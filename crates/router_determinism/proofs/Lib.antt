@@ -1,0 +1,9 @@
+pub mod OneBests
+pub mod OneFalls
+pub mod OneRoutes
+pub mod OneTurns
+pub mod OneRuns
+pub mod OneSessions
+pub mod OneHops
+pub mod OneBlocks
+pub mod OneLaws

@@ -1,0 +1,15 @@
+pub mod Bests
+pub mod Moments
+pub mod Lives
+pub mod Phases
+pub mod Printable
+pub mod Stands
+pub mod Scratch
+pub mod Turns
+pub mod Holding
+pub mod Refreshes
+pub mod Blocks
+pub mod Laws
+pub mod Lookups
+pub mod Works
+pub mod Peers
