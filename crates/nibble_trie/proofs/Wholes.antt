@@ -1,10 +1,12 @@
 -- Tries after a change.
-use Rattle.std.proofs.Common.{◌≡◌, ◌≢◌, ℕ, ◌^◌, ◌<◌, ◌≤◌, true, List, [], get_or, Option, Some, None, IsSome, is_some, option_and_then, option_map, refl, sym, ap, subst, ◌∙◌, inl, inr, arith}
+use Rattle.std.proofs.Common.{◌≡◌, ◌≢◌, ℕ, zero, suc, ◌^◌, ◌<◌, ◌≤◌, true, List, [], ◌∷◌, get_or, Option, Some, None, IsSome, is_some, option_and_then, option_map, refl, sym, ap, subst, ◌∙◌, inl, inr, arith}
 use Rattle.std.proofs.lemmas.Bool.{cases_eq}
+use Rattle.std.proofs.Math.Seq.{map-set_same}
+use Rattle.std.specs.Prelude as list
 use Rattle.std.specs.FinMap as map
 use Rattle.slab.specs.Slab.{Slab, get, ContainsKey, Updates, with_value as put_value}
 use Rattle.slab.proofs.SlabLemmas.{Updates-with_value}
-use Rattle.std.specs.FinMap.{same_map, get-empty}
+use Rattle.std.specs.FinMap.{FinMap, same_map, get-empty}
 use Rattle.addr4.specs.Places.{IsBeyond, IsNextRow}
 use Rattle.addr4.proofs.HalfLemmas.{one_network}
 use Rattle.addr4.proofs.PrefixOrder.{prefixes_total, exact_prefixes}
@@ -16,7 +18,8 @@ use Rattle.nibble_trie.specs.declared.index.Index.{Index}
 use Rattle.nibble_trie.specs.Links.{leads, leaf_of}
 use Rattle.nibble_trie.specs.Keys.{prefix_in, longer_in, IsNextOf, IsChained, IsLastBelow, IsHeadOf, IsLeafOf, IsNextLeaf}
 use Rattle.nibble_trie.specs.Index.{Indexes, Names, with_head}
-use Rattle.nibble_trie.specs.Nodes.{HasNode, HasNodes}
+use Rattle.nibble_trie.specs.Nodes.{HasNode, HasNodes, prefixes_of}
+use Rattle.nibble_trie.specs.Contents.{Contents, LiesAt}
 use Rattle.nibble_trie.specs.View.{rows_of, IsWhole, Joins}
 use Rattle.nibble_trie.proofs.Digits.{some_same}
 use Rattle.nibble_trie.proofs.Chains.{Adds, Removes, was_there, is_there, stood_there, first_chained, first_heads, first_gone, next_same, behind_chained, behind_heads, first_removed, behind_removed, behind_gone, chained_kept}
@@ -239,12 +242,26 @@ module _ {V : Type 0} where
   touched_whole leaves index key n p v w found is =
       whole_joined leaves (put_value leaves key (record n { value = v })) index p (Some v) w (touched_joins leaves key n p v w.chained found is) (w.small key p (prefix_found leaves key n found ∙ ap Some is))
 
-  pub touched_rows : (leaves : Slab (Node V)) (index : Index) (key : ℕ) (n : Node V) (p : Network) (v : V) → IsWhole leaves index → get leaves key ≡ Some n → n.prefix ≡ p → rows_of (put_value leaves key (record n { value = v })) ≡ map.insert (rows_of leaves) p v
+  touched_rows : (leaves : Slab (Node V)) (index : Index) (key : ℕ) (n : Node V) (p : Network) (v : V) → IsWhole leaves index → get leaves key ≡ Some n → n.prefix ≡ p → rows_of (put_value leaves key (record n { value = v })) ≡ map.insert (rows_of leaves) p v
   touched_rows leaves index key n p v w found is = (touched_joins leaves key n p v w.chained found is).rows
+
+  pub touched_contents : (leaves : Slab (Node V)) (index : Index) (key : ℕ) (n : Node V) (p : Network) (v : V) → IsWhole leaves index → get leaves key ≡ Some n → n.prefix ≡ p → ◌≡◌ {A = Contents V} (record { rows = rows_of (put_value leaves key (record n { value = v })); leaves = prefixes_of (put_value leaves key (record n { value = v })) }) (record { rows = map.insert (rows_of leaves) p v; leaves = prefixes_of leaves })
+  touched_contents leaves index key n p v w found is =
+      ap (λ (rows : FinMap prefix_cmp V). record { rows = rows; leaves = prefixes_of (put_value leaves key (record n { value = v })) }) (touched_rows leaves index key n p v w found is)
+      ∙ ap (λ (xs : List (Option Network)). record { rows = map.insert (rows_of leaves) p v; leaves = xs }) (map-set_same (option_map (λ (m : Node V). m.prefix)) leaves.slots key (Some (record n { value = v })) None (sym (prefix_found leaves key n found)))
 
   -- the leaf of a prefix
   pub leaf_node : (leaves : Slab (Node V)) (key : ℕ) (n : Node V) (p : Network) → prefix_in leaves key ≡ Some p → get leaves key ≡ Some n → n.prefix ≡ p
   leaf_node leaves key n p leaf found = some_same n.prefix p (sym (prefix_found leaves key n found) ∙ leaf)
+
+  -- where contracts see it
+  pub lies_at : (leaves : Slab (Node V)) (key : ℕ) (p : Network) → prefix_in leaves key ≡ Some p → LiesAt (prefixes_of leaves) key p
+  lies_at leaves key p found = by leaves.slots key ∙ found
+    where
+      by : (slots : List (Option (Node V))) (k : ℕ) → get_or (list.map (option_map (λ (n : Node V). n.prefix)) slots) k None ≡ option_map (λ n. n.prefix) (get_or slots k None)
+      by [] k = refl
+      by (slot ∷ rest) zero = refl
+      by (slot ∷ rest) (suc k) = by rest k
 
   pub must_find : (leaves : Slab (Node V)) (p : Network) (result : Option ℕ) → IsSome (map.get (rows_of leaves) p) → IsLeafOf (prefix_in leaves) p result → IsSome result
   must_find leaves p None has absent = let clash : is_some {T = V} None ≡ true = sym (ap is_some (row_none leaves p absent)) ∙ has in absurd (cc)

@@ -1,16 +1,21 @@
 -- What contracts see of a trie.
-use Rattle.std.specs.Prelude.{IsSome, refl}
-use Rattle.std.specs.Coded.{Coded, code_by}
+use Rattle.std.specs.Prelude.{◌≡◌, ℕ, List, Option, Some, None, IsSome, slice_index_or, refl}
+use Rattle.std.specs.Coded.{Coded, code_by, coded×, coded_list, coded_option}
 use Rattle.std.specs.FinMap.{FinMap, code, get}
 use Rattle.addr4.specs.Prefixes.{Network, prefix_cmp, network_code}
 
--- its map
+-- its map, and of each key in its nodes the prefix of the leaf that lies there
 pub record Contents (V : Type 0) : Type 0 where
   pub rows : FinMap prefix_cmp V
+  pub leaves : List (Option Network)
 
 abbrev pub contents_code : {V : Type 0} → Coded V → Coded (Contents V)
-contents_code {V} c = code_by (FinMap prefix_cmp V) (code network_code c) (λ t. t.rows) (λ rows. record { rows = rows }) (λ _. refl)
+contents_code {V} c = code_by (FinMap prefix_cmp V × List (Option Network)) (coded× (code network_code c) (coded_list (coded_option network_code))) (λ t. (t.rows, t.leaves)) (λ p. record { rows = p.0; leaves = p.1 }) (λ _. refl)
 
 module _ {V : Type 0} where
   abbrev pub HasKey : FinMap prefix_cmp V → Network → Type 0
   HasKey rows p = IsSome (get rows p)
+
+-- the leaf at a key is that of a prefix
+abbrev pub LiesAt : List (Option Network) → ℕ → Network → Type 0
+LiesAt leaves key p = slice_index_or leaves key None ≡ Some p

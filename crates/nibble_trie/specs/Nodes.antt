@@ -1,5 +1,5 @@
 -- The nodes that a trie lends.
-use Rattle.std.specs.Prelude.{◌≡◌, ℕ, Some}
+use Rattle.std.specs.Prelude.{◌≡◌, ℕ, List, map, Option, Some, option_map}
 use Rattle.std.specs.FinMap.{FinMap}
 use Rattle.slab.specs.Slab.{Slab, get}
 use Rattle.addr4.specs.Prefixes.{Network, prefix_cmp}
@@ -13,6 +13,10 @@ module _ {V : Type 0} where
     pub node : Node V
     pub found : get nodes key ≡ Some node
     pub prefix : node.prefix ≡ p
+
+  -- the prefix at each key
+  abbrev pub prefixes_of : Slab (Node V) → List (Option Network)
+  prefixes_of nodes = map (option_map (λ n. n.prefix)) nodes.slots
 
 module _ {V W : Type 0} where
   -- each key has a node

@@ -8,7 +8,7 @@
 //! What is kept true: each leaf leads to the next longer one of its address, no prefix has two, and the index leads each
 //! address to its first. Of the index: a link that leads to nothing stands for no address with a leaf, one that leads to a
 //! leaf for that address alone, and each branch hangs at one link. Contracts see none of that, but a finite map, ordered by
-//! address and then length.
+//! address and then length, and whose leaf lies at which key.
 //!
 //! A leaf keeps its key in the slab as long as it stands. Whoever remembers the key hands it in, and the leaf is found
 //! without a descent. What lies there is compared first, so a key that is out of date costs a descent and changes no answer.

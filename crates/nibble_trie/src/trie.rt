@@ -15,7 +15,8 @@ use slab::Slab;
 use std::alloc::Global;
 use std::marker::Model;
 
-/// A map from prefixes to values. Contracts see its rows, a finite map.
+/// A map from prefixes to values. Contracts see its rows, a finite map, and of each key in [`nodes`](Trie::nodes) the prefix
+/// of the leaf that lies there.
 #[derive(Drop)]
 pub struct Trie<V> {
     leaves: Slab<Node<V>>,
@@ -29,16 +30,18 @@ impl<V> Model for Trie<V> {
 
     ghost coded = { contents_code V.code };
 
+    ghost use Rattle.nibble_trie.specs.Nodes.{prefixes_of};
     ghost use Rattle.nibble_trie.specs.View.{rows_of, IsWhole};
 
-    ghost view = { λ t. record { rows = rows_of t.leaves } };
+    ghost view = { λ t. record { rows = rows_of t.leaves; leaves = prefixes_of t.leaves } };
 
     ghost invariant = { λ t. IsWhole t.leaves t.index };
 }
 
 impl<V> Trie<V> {
     ghost use Rattle.nibble_trie.specs.Lent.{lends_value, lends_get};
-    ghost use Rattle.nibble_trie.specs.Nodes.{HasNodes};
+    ghost use Rattle.nibble_trie.specs.Contents.{LiesAt};
+    ghost use Rattle.nibble_trie.specs.Nodes.{HasNodes, prefixes_of};
 
     /// An empty map. Takes no memory.
     pub fn new(alloc: Global) -> Self
@@ -120,7 +123,8 @@ impl<V> Trie<V> {
 
     /// What stands at a prefix, and the key of its leaf in [`nodes`](Trie::nodes).
     pub fn find(&self, prefix: Prefix) -> Option<(&V, usize)>
-        ensures { option_map (λ found. found.0.now) result ≡ map.get self.now.rows prefix }
+        ensures value { option_map (λ found. found.0.now) result ≡ map.get self.now.rows prefix }
+        ensures key { IfSome result (λ found. LiesAt self.now.leaves found.1 prefix) }
     {
         match reading::find(&self.index, &self.leaves, prefix) {
             None => None,
@@ -133,7 +137,8 @@ impl<V> Trie<V> {
 
     /// The leaves: one for each key.
     pub fn nodes(&self) -> &Slab<Node<V>>
-        ensures { HasNodes result.now self.now.rows }
+        ensures rows { HasNodes result.now self.now.rows }
+        ensures leaves { prefixes_of result.now ≡ self.now.leaves }
     {
         &self.leaves
     }
@@ -157,6 +162,7 @@ impl<V> Trie<V> {
     pub fn next_near(&self, near: usize, after: Place) -> Option<(Prefix, &V, usize)>
         ensures prefix { IsNextRow (map.get self.now.rows) (key_of after) (option_map (λ row. row.0) result) }
         ensures value { IfSome result (λ row. map.get self.now.rows row.0 ≡ Some row.1.now) }
+        ensures key { IfSome result (λ row. LiesAt self.now.leaves row.2 row.0) }
     {
         match reading::next_leaf(&self.index, &self.leaves, near, after) {
             None => None,

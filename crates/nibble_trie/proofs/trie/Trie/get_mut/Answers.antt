@@ -2,7 +2,7 @@ use Rattle.std.proofs.Common.{◌∙◌, Some, sym, ap, inl, inr}
 use Rattle.std.specs.FinMap as map
 use Rattle.nibble_trie.specs.Contents.{Contents}
 use Rattle.nibble_trie.proofs.Rows.{row_of, row_none}
-use Rattle.nibble_trie.proofs.Wholes.{leaf_node, touched_whole, touched_rows}
+use Rattle.nibble_trie.proofs.Wholes.{leaf_node, touched_whole, touched_contents}
 use Rattle.nibble_trie.proofs.trie.Trie.get_mut.Goals as goal
 
 pub invariant_of-self-lent : goal.invariant_of-self-lent
@@ -22,6 +22,6 @@ returns-in-Some g c =
     let leaves = c.self.inside.leaves in
     let n = c.index_mut.result.now in
     let is = leaf_node leaves c.in-Some.key n c.args.prefix c.in-Some.ensures c.index_mut.ensures.value in (
-      λ i. inl (c.value_mut.result.ghost_name, λ w. (ap (λ rows. record { rows = rows }) (touched_rows leaves c.self.inside.index c.in-Some.key n c.args.prefix w c.self.invariant c.index_mut.ensures.value is) ∙ ap (λ (v : Contents _). record { rows = map.insert v.rows c.args.prefix w }) c.self.view_is) i),
+      λ i. inl (c.value_mut.result.ghost_name, λ w. (touched_contents leaves c.self.inside.index c.in-Some.key n c.args.prefix w c.self.invariant c.index_mut.ensures.value is ∙ ap (λ (v : Contents _). record v { rows = map.insert v.rows c.args.prefix w }) c.self.view_is) i),
       record { writes_back = tt; value = ap Some (sym c.value_mut.ensures.value) ∙ sym (row_of leaves c.in-Some.key n c.args.prefix c.self.invariant.chained.single c.index_mut.ensures.value is) ∙ ap (λ (v : Contents _). map.get v.rows c.args.prefix) c.self.view_is },
     )
