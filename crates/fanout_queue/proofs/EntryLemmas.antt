@@ -71,10 +71,11 @@ module _ {R : Type 0} where
       ∙ ap (λ k. get_or (set m.readers (place - m.first) count) k 0) (let e : n - m'.first ≡ n - m.first = omega arith in e)
       ∙ get_or-set_other m.readers (place - m.first) (n - m.first) count 0 (λ e. apart (omega arith))
 
-  enters_by : (m m' : Numbered R) (place : ℕ) → m'.first ≡ m.first → m'.changes ≡ m.changes → m.first ≤ place → place - m.first < length m.readers → m'.readers ≡ set m.readers (place - m.first) (readers_at m place + 1) → Enters m m' place
-  enters_by m m' place first changes from within is = record {
+  enters_by : (m m' : Numbered R) (place : ℕ) → m'.first ≡ m.first → m'.changes ≡ m.changes → m'.indexed ≡ m.indexed → m.first ≤ place → place - m.first < length m.readers → m'.readers ≡ set m.readers (place - m.first) (readers_at m place + 1) → Enters m m' place
+  enters_by m m' place first changes indexed from within is = record {
     first = first;
     changes = changes;
+    indexed = indexed;
     readers = λ n low. by_place n place (readers_at m' n ≡ readers_at m n + stands_at n (Some place))
         (λ here. let s = stands_here n place here in
         set_here m m' place (readers_at m place + 1) n first from within is here ∙ (let same = ap (readers_at m) here in omega arith))
@@ -82,10 +83,11 @@ module _ {R : Type 0} where
         let e = set_elsewhere m m' place (readers_at m place + 1) n first from low is apart in omega arith);
   }
 
-  leaves_by : (m m' : Numbered R) (place : ℕ) → m'.first ≡ m.first → m'.changes ≡ m.changes → m.first ≤ place → place - m.first < length m.readers → 0 < readers_at m place → m'.readers ≡ set m.readers (place - m.first) (readers_at m place - 1) → Leaves m m' place
-  leaves_by m m' place first changes from within some is = record {
+  leaves_by : (m m' : Numbered R) (place : ℕ) → m'.first ≡ m.first → m'.changes ≡ m.changes → m'.indexed ≡ m.indexed → m.first ≤ place → place - m.first < length m.readers → 0 < readers_at m place → m'.readers ≡ set m.readers (place - m.first) (readers_at m place - 1) → Leaves m m' place
+  leaves_by m m' place first changes indexed from within some is = record {
     first = first;
     changes = changes;
+    indexed = indexed;
     readers = λ n low. by_place n place (readers_at m' n + stands_at n (Some place) ≡ readers_at m n)
         (λ here. let s = stands_here n place here in
         let e = set_here m m' place (readers_at m place - 1) n first from within is here in
@@ -95,7 +97,7 @@ module _ {R : Type 0} where
   }
 
   -- ---- the same, of the fields
-  module _ (first : ℕ) (kept : List (Entry R)) (at_end : ℕ) (m : Numbered R) (view : numbered_of first kept at_end ≡ m) (place : ℕ) where
+  module _ {numbered : ℕ} (first : ℕ) (kept : List (Entry R)) (at_end : ℕ) (m : Numbered R) (view : numbered_of first kept at_end numbered ≡ m) (place : ℕ) where
     count_here : (e : Entry R) → place - first < length kept → e ≡ get_or kept (place - first) e → get_or (readers_of kept at_end) (place - first) 0 ≡ e.readers
     count_here e within at =
         let n = length-map kept (λ (x : Entry R). x.readers) in
@@ -117,38 +119,38 @@ module _ {R : Type 0} where
         let n = length-map kept (λ (x : Entry R). x.change) in
         let to : place ≤ first + length (changes_of kept) = subst (λ (v : Numbered R). place ≤ v.first + length v.changes) (sym view) is.to in omega arith
 
-    pub enters_entry : (e : Entry R) → first ≤ place → place - first < length kept → e ≡ get_or kept (place - first) e → Enters m (numbered_of first (set kept (place - first) (record { change = e.change; readers = e.readers + 1 })) at_end) place
+    pub enters_entry : (e : Entry R) → first ≤ place → place - first < length kept → e ≡ get_or kept (place - first) e → Enters m (numbered_of first (set kept (place - first) (record { change = e.change; readers = e.readers + 1 })) at_end numbered) place
     enters_entry e from within at =
         let n = counts_long kept at_end in let k = length-map kept (λ (x : Entry R). x.change) in
-        subst (λ (v : Numbered R). Enters v (numbered_of first (set kept (place - first) (record { change = e.change; readers = e.readers + 1 })) at_end) place) view
-        (enters_by (numbered_of first kept at_end) (numbered_of first (set kept (place - first) (record { change = e.change; readers = e.readers + 1 })) at_end) place refl (same_changes kept (place - first) (e.readers + 1) e at) from (omega arith)
+        subst (λ (v : Numbered R). Enters v (numbered_of first (set kept (place - first) (record { change = e.change; readers = e.readers + 1 })) at_end numbered) place) view
+        (enters_by (numbered_of first kept at_end numbered) (numbered_of first (set kept (place - first) (record { change = e.change; readers = e.readers + 1 })) at_end numbered) place refl (same_changes kept (place - first) (e.readers + 1) e at) refl from (omega arith)
         (count_set kept at_end (place - first) (e.readers + 1) e within ∙ ap (λ c. set (readers_of kept at_end) (place - first) (c + 1)) (sym (count_here e within at))))
 
-    pub enters_end : first ≤ place → place - first ≡ length kept → Enters m (numbered_of first kept (at_end + 1)) place
+    pub enters_end : first ≤ place → place - first ≡ length kept → Enters m (numbered_of first kept (at_end + 1) numbered) place
     enters_end from is =
         let n = counts_long kept at_end in let k = length-map kept (λ (x : Entry R). x.change) in
-        subst (λ (v : Numbered R). Enters v (numbered_of first kept (at_end + 1)) place) view
-        (enters_by (numbered_of first kept at_end) (numbered_of first kept (at_end + 1)) place refl refl from (omega arith)
+        subst (λ (v : Numbered R). Enters v (numbered_of first kept (at_end + 1) numbered) place) view
+        (enters_by (numbered_of first kept at_end numbered) (numbered_of first kept (at_end + 1) numbered) place refl refl refl from (omega arith)
         (last_set kept at_end (place - first) (at_end + 1) is ∙ ap (λ c. set (readers_of kept at_end) (place - first) (c + 1)) (sym (count_last is))))
 
-    pub leaves_entry : (e : Entry R) → first ≤ place → place - first < length kept → 0 < readers_at m place → e ≡ get_or kept (place - first) e → Leaves m (numbered_of first (set kept (place - first) (record { change = e.change; readers = e.readers - 1 })) at_end) place
+    pub leaves_entry : (e : Entry R) → first ≤ place → place - first < length kept → 0 < readers_at m place → e ≡ get_or kept (place - first) e → Leaves m (numbered_of first (set kept (place - first) (record { change = e.change; readers = e.readers - 1 })) at_end numbered) place
     leaves_entry e from within some at =
         let n = counts_long kept at_end in let k = length-map kept (λ (x : Entry R). x.change) in
-        subst (λ (v : Numbered R). Leaves v (numbered_of first (set kept (place - first) (record { change = e.change; readers = e.readers - 1 })) at_end) place) view
-        (leaves_by (numbered_of first kept at_end) (numbered_of first (set kept (place - first) (record { change = e.change; readers = e.readers - 1 })) at_end) place refl (same_changes kept (place - first) (e.readers - 1) e at) from (omega arith)
+        subst (λ (v : Numbered R). Leaves v (numbered_of first (set kept (place - first) (record { change = e.change; readers = e.readers - 1 })) at_end numbered) place) view
+        (leaves_by (numbered_of first kept at_end numbered) (numbered_of first (set kept (place - first) (record { change = e.change; readers = e.readers - 1 })) at_end numbered) place refl (same_changes kept (place - first) (e.readers - 1) e at) refl from (omega arith)
         (subst (λ (v : Numbered R). 0 < readers_at v place) (sym view) some)
         (count_set kept at_end (place - first) (e.readers - 1) e within ∙ ap (λ c. set (readers_of kept at_end) (place - first) (c - 1)) (sym (count_here e within at))))
 
-    pub leaves_end : first ≤ place → place - first ≡ length kept → 0 < readers_at m place → Leaves m (numbered_of first kept (at_end - 1)) place
+    pub leaves_end : first ≤ place → place - first ≡ length kept → 0 < readers_at m place → Leaves m (numbered_of first kept (at_end - 1) numbered) place
     leaves_end from is some =
         let n = counts_long kept at_end in let k = length-map kept (λ (x : Entry R). x.change) in
-        subst (λ (v : Numbered R). Leaves v (numbered_of first kept (at_end - 1)) place) view
-        (leaves_by (numbered_of first kept at_end) (numbered_of first kept (at_end - 1)) place refl refl from (omega arith)
+        subst (λ (v : Numbered R). Leaves v (numbered_of first kept (at_end - 1) numbered) place) view
+        (leaves_by (numbered_of first kept at_end numbered) (numbered_of first kept (at_end - 1) numbered) place refl refl refl from (omega arith)
         (subst (λ (v : Numbered R). 0 < readers_at v place) (sym view) some)
         (last_set kept at_end (place - first) (at_end - 1) is ∙ ap (λ c. set (readers_of kept at_end) (place - first) (c - 1)) (sym (count_last is))))
 
   -- ---- entries come and go
-  pub end_is : (first : ℕ) (kept : List (Entry R)) (at_end number : ℕ) (m : Numbered R) → numbered_of first kept at_end ≡ m → number ≡ m.first + length m.changes → number ≡ first + length (changes_of kept)
+  pub end_is : {numbered : ℕ} (first : ℕ) (kept : List (Entry R)) (at_end number : ℕ) (m : Numbered R) → numbered_of first kept at_end numbered ≡ m → number ≡ m.first + length m.changes → number ≡ first + length (changes_of kept)
   end_is first kept at_end number m view is = is ∙ sym (ap (λ (v : Numbered R). v.first + length v.changes) view)
 
   pub put_kept : (first : ℕ) (kept kept' : List (Entry R)) (c : Change R) (readers : ℕ) (index : BTreeSet Key) (indexed : ℕ) → first + length (changes_of kept) + 1 < 2 ^ 64
@@ -185,7 +187,7 @@ module _ {R : Type 0} where
       }
 
   -- ---- what is found in the index
-  module _ (first : ℕ) (kept : List (Entry R)) (at_end : ℕ) (index : BTreeSet Key) (indexed : ℕ) (m : Numbered R) (view : numbered_of first kept at_end ≡ m) (sound : IsKept first kept index indexed) (place : ℕ) (is : IsPlace m place) where
+  module _ {numbered : ℕ} (first : ℕ) (kept : List (Entry R)) (at_end : ℕ) (index : BTreeSet Key) (indexed : ℕ) (m : Numbered R) (view : numbered_of first kept at_end numbered ≡ m) (sound : IsKept first kept index indexed) (place : ℕ) (is : IsPlace m place) where
     abbrev low : first ≤ place
     low = place_from first kept at_end m view place is
 
@@ -262,7 +264,7 @@ module _ {R : Type 0} where
   none_gone kept at after other end = let n = length-map kept (λ (x : Entry R). x.change) in none_beside (changes_of kept) at after other (omega arith)
 
   -- the change at a place is the first from there on
-  pub copied_first : (first : ℕ) (kept : List (Entry R)) (at_end : ℕ) (m : Numbered R) (place : ℕ) (e : Entry R) (c : Change R) → numbered_of first kept at_end ≡ m → m.first ≤ place → place < m.first + length m.changes
+  pub copied_first : {numbered : ℕ} (first : ℕ) (kept : List (Entry R)) (at_end : ℕ) (m : Numbered R) (place : ℕ) (e : Entry R) (c : Change R) → numbered_of first kept at_end numbered ≡ m → m.first ≤ place → place < m.first + length m.changes
       → e ≡ get_or kept (place - first) e → c ≡ e.change → unread_at m place ≡ c ∷ drop (place + 1 - m.first) m.changes
   copied_first first kept at_end m place e c view from within at same =
       let at_first : first ≡ m.first = ap (λ (v : Numbered R). v.first) view in

@@ -18,7 +18,7 @@ use Rattle.link_change.specs.Rows.{Rows}
 use Rattle.link_change.specs.declared.change.Change.{Change}
 use Rattle.link_change.specs.InOrder.{rows_before, with_last, changed_in}
 use Rattle.fanout_queue.specs.Queues.{Queued, AppendsToAll, Takes, AllBelowRead, IsMostUnread}
-use Rattle.fanout_queue.specs.Entries.{Numbered, stands_at, readers_at, first_readers, unread_at, IsPlace, Puts, Enters, Leaves, Trims, Passes, first_before}
+use Rattle.fanout_queue.specs.Entries.{Numbered, stands_at, readers_at, first_readers, unread_at, IsPlace, Indexes, Puts, Enters, Leaves, Trims, Passes, first_before}
 use Rattle.fanout_queue.specs.Places.{SetsPlace, AllBelowPlaced, queued_from, queued_of, IsPlaced, IsQueue}
 use Rattle.fanout_queue.proofs.Cases.{by_bool, by_number, same_number, other_number, if_some}
 use Rattle.fanout_queue.proofs.IndexLemmas.{or_else, first_of_rows, changed_is_first}
@@ -230,6 +230,29 @@ module _ {R : Type 0} where
             (λ e. grind (arith, nat_tests));
         to = omega arith;
       }
+
+  -- ---- the index gets changes
+  module _ (old new : Numbered R) (places : List (Option ℕ)) (indexes : Indexes old new) where
+    pub indexed_same : (m : Queued R) → queued_of old places ≡ m → queued_of new places ≡ m
+    indexed_same m view =
+        ap (λ k. queued_from 0 (λ place. drop (place - k) new.changes) places) indexes.first
+        ∙ ap (λ (cs : List (Change R)). queued_from 0 (λ place. drop (place - old.first) cs) places) indexes.changes ∙ view
+
+    still_placed : (o : Option ℕ) → IsPlaced old o → IsPlaced new o
+    still_placed None placed = tt
+    still_placed (Some p) placed =
+        let first = indexes.first in let from = placed.from in let to = placed.to in
+        let len : length new.changes ≡ length old.changes = ap length indexes.changes in
+        record { from = omega arith; to = omega arith }
+
+    pub indexed_sound : IsQueue old places → IsQueue new places
+    indexed_sound sound = record {
+      placed = λ k. still_placed (get_or places k None) (sound.placed k);
+      counted = λ n low.
+          let first = indexes.first in
+          ap (λ (l : List ℕ). get_or l (n - new.first) 0) indexes.readers ∙ ap (λ k. get_or old.readers (n - k) 0) first ∙ sound.counted n (omega arith);
+      needed = λ none. indexes.changes ∙ sound.needed (ap (λ (l : List ℕ). get_or l 0 0) (sym indexes.readers) ∙ none);
+    }
 
   -- ---- a reader joins
   module _ (old new : Numbered R) (was places : List (Option ℕ)) (number end : ℕ) (is_end : end ≡ old.first + length old.changes) (free : get_or was number None ≡ None) (sets : SetsPlace was places number (Some end)) (enters : Enters old new end) (sound : IsQueue old was) where

@@ -31,6 +31,7 @@ module _ {R : Type 0} where
         from = omega arith;
         to = omega arith;
         changes = ap (drop 1) (sym cuts.changes) ∙ ap (drop 1) drops.changes ∙ drop_twice 1 (mid.first - old.first) (new.first - old.first) old.changes (omega arith);
+        indexed = cuts.indexed ∙ drops.indexed;
         readers = cuts.readers ∙ ap (drop 1) drops.readers ∙ drop_twice 1 (mid.first - old.first) (new.first - old.first) old.readers (omega arith);
       }
 

@@ -44,7 +44,7 @@ impl<R> Model for Entries<R> {
 
     ghost coded = { numbered_code R.code };
 
-    ghost view = { λ s. numbered_of s.first s.kept.items s.at_end };
+    ghost view = { λ s. numbered_of s.first s.kept.items s.at_end s.indexed };
 
     ghost invariant = { λ s. IsKept s.first s.kept.items s.index s.indexed };
 }
@@ -75,7 +75,7 @@ impl<R: Row> Entries<R> {
 
     /// No changes and no readers. Takes no memory.
     pub(crate) fn new(alloc: Global) -> Entries<R>
-        ensures { result ≡ record { first = 0; changes = []; readers = 0 ∷ [] } }
+        ensures { result ≡ record { first = 0; changes = []; readers = 0 ∷ []; indexed = 0 } }
     {
         Entries {
             kept: VecDeque::new(alloc),

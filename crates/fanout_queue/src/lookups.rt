@@ -1,6 +1,6 @@
 //! Lookups of a queue's entries, and the index that they are prepared by.
 
-ghost use Rattle.std.specs.Prelude.{◌≡◌, ◌≤◌, length, drop, option_map};
+ghost use Rattle.std.specs.Prelude.{◌≡◌, ◌≤◌, ◌-◌, OnOk, length, drop, option_map};
 ghost use Rattle.std.specs.Option.{option_copied};
 ghost use Rattle.addr4.specs.Places.{key_of};
 ghost use Rattle.fanout_queue.specs.Entries.{changes_of, first_before, IsNextBeside};
@@ -46,7 +46,7 @@ fn least_among<R>(
 }
 
 impl<R: Row> Entries<R> {
-    ghost use Rattle.fanout_queue.specs.Entries.{IsPlace, unread_at};
+    ghost use Rattle.fanout_queue.specs.Entries.{IsPlace, unread_at, unindexed, Indexes};
 
     /// Drops the index, where the last change that it has was dropped.
     pub(crate) fn trim_index(&mut self)
@@ -59,7 +59,7 @@ impl<R: Row> Entries<R> {
 
     // The index begins anew, where more than half of what it has is kept no more.
     fn renew_index(&mut self)
-        ensures { self.new ≡ self.old }
+        ensures { Indexes self.old self.new }
     {
         let current = self.indexed.saturating_sub(self.first);
         if self.index.len() as u64 / 2 > current {
@@ -70,7 +70,8 @@ impl<R: Row> Entries<R> {
 
     // The index gets the first change that is kept and that it doesn't have, if there is one.
     fn index_next(&mut self) -> Result<(), Memory>
-        ensures { self.new ≡ self.old }
+        ensures same { Indexes self.old self.new }
+        ensures ok { OnOk result (unindexed self.new ≡ unindexed self.old - 1) }
     {
         let number = self.indexed.max(self.first);
         if number == self.end() {
@@ -84,10 +85,11 @@ impl<R: Row> Entries<R> {
 
     /// The index gets all changes that are kept. For want of memory it gets only some of them.
     pub(crate) fn prepare(&mut self) -> Result<(), Memory>
-        ensures { self.new ≡ self.old }
+        ensures same { Indexes self.old self.new }
+        ensures full { OnOk result (unindexed self.new ≡ 0) }
     {
         self.renew_index();
-        for _ in self.indexed.max(self.first)..self.end() {
+        for number in self.indexed.max(self.first)..self.end() {
             self.index_next()?;
         }
         Ok(())
