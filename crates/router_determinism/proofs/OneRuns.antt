@@ -1,5 +1,6 @@
 -- Many turns leave no choice: so many of a task, a task to its end, a phase, and all of them.
-use Rattle.router_moments.proofs.Common.{same_Some, sym, subst, ◌∙◌, ap, ◌≡◌, ℕ, zero, suc, ◌+◌, ◌-◌, ◌<◌, ◌≤◌, ◌⊎◌, inl, inr, arith, refl, List, ◌++◌, Bool, true, false, Line, Task, Moment, Stands, Turns, Runs, RunsPhase, RunsAll, RunsFirst, Phase, has_work, next_task}
+use Rattle.router_moments.proofs.Common.{same_Some, sym, subst, ◌∙◌, ap, ◌≡◌, ℕ, zero, suc, ◌+◌, ◌-◌, ◌<◌, ◌≤◌, ◌⊎◌, inl, inr, arith, refl, List, ◌++◌, Bool, true, false, Line, Task, Moment, Stands, Turns, Runs, RunsPhase, RunsAll, RunsFirst, has_work, next_task}
+use Rattle.router_moments.specs.declared.tasks.Phase.{Phase}
 use Rattle.std.proofs.Common.{[], ◌∷◌, Option, Some, None}
 use Rattle.std.proofs.lemmas.Bool.{cases_order}
 use Rattle.router_moments.specs.Turns.{Drains}

@@ -1,5 +1,5 @@
 -- What a message of a peer does, and the loss of a session, leave no choice.
-use Rattle.router_moments.proofs.Common.{sym, subst, ◌∙◌, ap, ◌≡◌, ℕ, List, ◌++◌, Bool, inl, inr, Network, Attrs, Profile, Entry, Line, Value, AreOctets, Message, peer_at, DeclaredPeer, Declaration, LiveState, Exited, overdue_at, Moment, Stands, with_exits, with_chains, journal_lines, FeedsAll, RunsFirst, AreHeard, IsHeardMessage, changes_of}
+use Rattle.router_moments.proofs.Common.{sym, subst, ◌∙◌, ap, ◌≡◌, ℕ, List, ◌++◌, Bool, inl, inr, Network, Attrs, Profile, Entry, Line, Value, Message, peer_at, DeclaredPeer, Declaration, LiveState, Exited, overdue_at, Moment, Stands, with_exits, with_chains, journal_lines, FeedsAll, RunsFirst, AreHeard, IsHeardMessage, changes_of}
 use Rattle.std.proofs.Common.{[], ◌∷◌, Option, Some, None}
 use Rattle.bgp_wire.specs.Grammar.{Answers, EachHasOne, Reads}
 use Rattle.bgp_wire.specs.Updates.{fault}

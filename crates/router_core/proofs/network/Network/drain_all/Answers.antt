@@ -1,4 +1,5 @@
-use Rattle.router_moments.proofs.Common.{sym, subst, ℕ, List, ◌+◌, get_or, Gives, RunsOut, Phase}
+use Rattle.router_moments.proofs.Common.{sym, subst, ℕ, List, ◌+◌, get_or, Gives, RunsOut}
+use Rattle.router_moments.specs.declared.tasks.Phase.{Phase}
 use Rattle.router_moments.specs.declared.tasks.Phase.TheVariants.{Rdel}
 use Rattle.router_moments.proofs.RunLemmas.{Idling, idling_none, idling_more, idling_done}
 use Rattle.router_core.proofs.network.Network.drain_all.Goals as goal

@@ -1,4 +1,5 @@
-use Rattle.router_moments.proofs.Common.{sym, subst, ℕ, TakesTurn, Done}
+use Rattle.router_moments.proofs.Common.{sym, subst, ℕ, TakesTurn}
+use Rattle.router_moments.specs.declared.tasks.Done.{Done}
 use Rattle.router_moments.proofs.RunLemmas.{HaveGiven, given_none, given_more, given_stands, turn_less}
 use Rattle.router_core.proofs.network.Network.drain_task.Goals as goal
 

@@ -1,4 +1,5 @@
-use Rattle.router_moments.proofs.Common.{subst, TakesTurn, Done}
+use Rattle.router_moments.proofs.Common.{subst, TakesTurn}
+use Rattle.router_moments.specs.declared.tasks.Done.{Done}
 use Rattle.router_moments.proofs.RunLemmas.{given_more, given_stands}
 use Rattle.router_core.proofs.network.Network.turns.Goals as goal
 
