@@ -3,7 +3,7 @@ use Rattle.std.proofs.Common.{ℕ, List, Option, sym, ap, ◌∙◌, subst, arit
 use Rattle.std.specs.FinMap.{get}
 use Rattle.std.specs.List.{Contains}
 use Rattle.addr4.specs.Prefixes.{Network}
-use Rattle.prefix_trie.specs.Width.{width}
+use Rattle.register_interest.specs.Width.{width}
 use Rattle.register_interest.specs.Covers.{longest, matched, IsSubnet}
 use Rattle.register_interest.specs.declared.interests.Interest.{Interest}
 use Rattle.register_interest.specs.Interests.{interest_cmp, AreReached, without}

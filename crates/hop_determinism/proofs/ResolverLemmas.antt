@@ -6,7 +6,7 @@ use Rattle.std.proofs.lemmas.Bool.{cases_eq}
 use Rattle.addr4.specs.Prefixes.{Network, Holds}
 use Rattle.addr4.proofs.BlockLemmas.{size_pos}
 use Rattle.link_change.specs.Changes.{IsSent}
-use Rattle.prefix_trie.specs.Width.{width}
+use Rattle.register_interest.specs.Width.{width}
 use Rattle.rib_route.specs.declared.rows.Interior.{Interior}
 use Rattle.register_interest.specs.Covers.{longest, matched}
 use Rattle.register_interest.specs.declared.interests.Interest.{Interest}

@@ -8,7 +8,7 @@ use Rattle.link_change.specs.Rows.{Rows, Candidates}
 use Rattle.link_change.specs.Changes.{IsSent}
 use Rattle.link_change.specs.declared.change.Change.{Change}
 use Rattle.link_change.specs.declared.turn.Turn.{Turn}
-use Rattle.prefix_trie.specs.Width.{width}
+use Rattle.register_interest.specs.Width.{width}
 use Rattle.rib_route.specs.declared.rows.Interior.{Interior}
 use Rattle.register_interest.specs.Covers.{IsSubnet, IsCover}
 use Rattle.register_interest.specs.declared.interests.Interest.{Interest}

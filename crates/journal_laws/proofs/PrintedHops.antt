@@ -10,7 +10,7 @@ use Rattle.bgp_attr.specs.declared.route.Route.{Route}
 use Rattle.bgp_attr.specs.declared.speaker.Neighbour.{Neighbour}
 use Rattle.link_change.specs.Rows.{Rows, Candidates}
 use Rattle.link_change.specs.declared.change.Change.{Change}
-use Rattle.prefix_trie.specs.Width.{width}
+use Rattle.register_interest.specs.Width.{width}
 use Rattle.rib_route.specs.declared.rows.Interior.{Interior}
 use Rattle.register_interest.specs.Covers.{longest, IsLongest}
 use Rattle.register_interest.specs.Registers.{Registry}

@@ -10,7 +10,7 @@ use Rattle.std.specs.FinMap as map
 use Rattle.addr4.specs.Prefixes.{Network, prefix_cmp, ComesBefore}
 use Rattle.addr4.proofs.PrefixOrder.{prefixes_total}
 use Rattle.addr4.proofs.RankLemmas.{is_before}
-use Rattle.prefix_trie.specs.Width.{width}
+use Rattle.register_interest.specs.Width.{width}
 use Rattle.nexthop_known.specs.Ties.{Marks, host, is_host}
 use Rattle.nexthop_known.proofs.HopLemmas.{both_equal}
 

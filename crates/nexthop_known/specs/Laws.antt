@@ -3,7 +3,7 @@ use Rattle.std.specs.Prelude.{◌≡◌, ◌↔◌, ℕ, ◌+◌, ◌<◌, ◌�
 use Rattle.std.specs.FinMap as map
 use Rattle.addr4.specs.Prefixes.{Network, Holds}
 use Rattle.link_change.specs.Rows.{Rows, no_rows, with_row}
-use Rattle.prefix_trie.specs.Width.{width}
+use Rattle.register_interest.specs.Width.{width}
 use Rattle.nexthop_known.specs.declared.answer.Hop.{Hop}
 use Rattle.nexthop_known.specs.Hops.{Hops, IsMapped, settled, came_at, IsLeastStale, IsWithSome, IsWithNone, IsUnshared, count_of, stale_count}
 use Rattle.nexthop_known.specs.Counts.{Counts, one_more, one_less, AreCounted, Recounts}

@@ -10,7 +10,7 @@ use Rattle.std.specs.BTreeSet as set
 use Rattle.std.specs.FinMap as map
 use Rattle.addr4.specs.Prefixes.{Network, prefix_cmp}
 use Rattle.prefix_trie.specs.Contents.{Contents}
-use Rattle.prefix_trie.specs.Width.{width}
+use Rattle.register_interest.specs.Width.{width}
 use Rattle.nexthop_known.specs.declared.answer.Hop.{Hop}
 use Rattle.nexthop_known.specs.declared.index.Holding.{Holding}
 use Rattle.nexthop_known.specs.Hops.{is_with, came_at, is_stale_at, IsSettledAt}

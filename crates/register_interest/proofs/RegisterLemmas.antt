@@ -5,7 +5,7 @@ use Rattle.addr4.specs.Prefixes.{Network, prefix_cmp, IsMasked}
 use Rattle.link_change.specs.Rows.{Rows, with_row}
 use Rattle.link_change.proofs.RowLemmas.{rows_inserted, rows_removed}
 use Rattle.link_change.proofs.MapLemmas.{by_key}
-use Rattle.prefix_trie.specs.Width.{width}
+use Rattle.register_interest.specs.Width.{width}
 use Rattle.register_interest.specs.Covers.{longest, matched, IsCover, IsHit, Stands}
 use Rattle.register_interest.specs.declared.interests.Interest.{Interest}
 use Rattle.register_interest.specs.Interests.{Interests, interest_cmp, IsProper, AreReached, without}

@@ -2,7 +2,7 @@
 use Rattle.std.specs.Prelude.{◌≡◌, ℕ, Option}
 use Rattle.addr4.specs.Prefixes.{Network, IsMasked, Holds}
 use Rattle.link_change.specs.Rows.{Rows, with_row}
-use Rattle.prefix_trie.specs.Width.{width}
+use Rattle.register_interest.specs.Width.{width}
 use Rattle.register_interest.specs.Covers.{longest, IsCover, IsHit, Stands, IsLongest}
 
 -- what is computed is the longest row

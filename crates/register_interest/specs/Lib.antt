@@ -1,3 +1,4 @@
+pub mod Width
 pub mod Covers
 pub mod Search
 pub mod Interests

@@ -4,7 +4,7 @@ ghost use Rattle.std.specs.Prelude.{◌≡◌, ◌+◌, ◌↔◌, IsTrue, OnOk,
 ghost use Rattle.std.specs.FinMap as map;
 ghost use Rattle.std.specs.BTreeMap.Range.{IsLeBy};
 ghost use Rattle.addr4.specs.Prefixes.{Covers, behind};
-ghost use Rattle.prefix_trie.specs.Width.{width};
+ghost use Rattle.register_interest.specs.Width.{width};
 ghost use Rattle.register_interest.specs.Covers.{IsHit};
 ghost use Rattle.register_interest.specs.Interests.{interest_cmp, IsBetween, AreProper, Appends, AreReached, Pushes, without};
 

@@ -2,7 +2,7 @@
 
 ghost use Rattle.std.specs.Prelude.{◌≡◌, OnOk, OnErr, IfOk};
 ghost use Rattle.std.specs.FinMap as map;
-ghost use Rattle.prefix_trie.specs.Width.{width};
+ghost use Rattle.register_interest.specs.Width.{width};
 ghost use Rattle.register_interest.specs.Covers.{matched, IsCover};
 ghost use Rattle.register_interest.specs.Interests.{AreReached, without};
 ghost use Rattle.register_interest.specs.Matches.{match_of, lent_match};

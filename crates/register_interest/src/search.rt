@@ -2,7 +2,7 @@
 
 ghost use Rattle.std.specs.Prelude.{◌≡◌, ◌≤◌, ◌↔◌, IsTrue};
 ghost use Rattle.std.specs.FinMap as map;
-ghost use Rattle.prefix_trie.specs.Width.{width};
+ghost use Rattle.register_interest.specs.Width.{width};
 ghost use Rattle.addr4.specs.Prefixes.{block};
 ghost use Rattle.register_interest.specs.Covers.{longest, matched, IsFree, IsSubnet};
 ghost use Rattle.register_interest.specs.Matches.{lent_match};

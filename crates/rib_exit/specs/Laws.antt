@@ -3,7 +3,7 @@ use Rattle.std.specs.Prelude.{◌≡◌, ◌≢◌, ◌↔◌, ℕ, ◌+◌, ◌
 use Rattle.std.specs.List.{Contains}
 use Rattle.std.specs.FinMap as map
 use Rattle.addr4.specs.Prefixes.{Network}
-use Rattle.prefix_trie.specs.Width.{width}
+use Rattle.register_interest.specs.Width.{width}
 use Rattle.bgp_attr.specs.declared.route.Route.{Route}
 use Rattle.link_change.specs.Rows.{Rows, Candidates, no_rows, CoversRows}
 use Rattle.rib_route.specs.declared.rows.Interior.{Interior}

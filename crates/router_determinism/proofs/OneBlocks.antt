@@ -5,7 +5,7 @@ use Rattle.std.specs.FinMap as tables
 use Rattle.journal_text.specs.declared.line.Line.TheVariants as lines
 use Rattle.event_text.specs.declared.event.Event.TheVariants.{Nothing, As4, Revised, Reflect, Local, Peer, Up, Down, Bgp, FilterIn, FilterOut, RouteAdd, RouteDel, Lose, Redist, Cover, Settled, Idle, Work, Ask, Show}
 use Rattle.bgp_wire.specs.Grammar.{EachHasOne}
-use Rattle.prefix_trie.specs.Width.{width}
+use Rattle.register_interest.specs.Width.{width}
 use Rattle.rib_tree.specs.Steps.{lost_tree, tree_loss_entries}
 use Rattle.register_interest.specs.Covers.{matched}
 use Rattle.router_moments.specs.Phases.{all_phases}

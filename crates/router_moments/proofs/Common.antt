@@ -94,7 +94,7 @@ pub use Rattle.peer_side.proofs.PutLemmas.{put_each}
 pub use Rattle.peer_side.proofs.WeldLemmas.{adds_both}
 pub use Rattle.peer_side.specs.Peers.{chain_at, Chains, filt_at, filt_by, put_chain, rows_in, peer_links, lost_in, overdue_at, has_turn_in, routes_of, rules_of}
 pub use Rattle.policy_rules.specs.declared.rule.Rule.{Rule}
-pub use Rattle.prefix_trie.specs.Width.{width}
+pub use Rattle.register_interest.specs.Width.{width}
 pub use Rattle.redist.specs.Local.{redistributed}
 pub use Rattle.redist.specs.Protocols.{has}
 pub use Rattle.redist.specs.declared.protos.Protos.{Protos}

@@ -29,7 +29,7 @@ use Rattle.std.specs.FinMap as tables
 use Rattle.rib_route.specs.declared.Proto.{Proto}
 use Rattle.rib_route.specs.declared.Proto.TheVariants.{Connected, Static, Ospf, Rip}
 use Rattle.rib_route.specs.declared.rows.Interior.{Interior}
-use Rattle.prefix_trie.specs.Width.{width}
+use Rattle.register_interest.specs.Width.{width}
 use Rattle.register_interest.specs.Covers.{matched, IsCover}
 use Rattle.rib_tree.specs.Trees.{branch_of, int_rows}
 use Rattle.rib_tree.specs.Steps.{fed_tree, lost_tree, tree_overdue, tree_loss_entries}

@@ -34,7 +34,7 @@ use Rattle.loss_chain.specs.Steps.{table_of}
 use Rattle.rib_tree.specs.Trees.{Treed, branch_of, int_rows, int_candidates, tree_count, tree_tasks, IsTree, IsFull}
 use Rattle.rib_tree.specs.Steps.{welded_tree, swept_tree, tree_weld_entries, has_tree_turn}
 use Rattle.rib_tree.specs.Falls.{FallsTree, way_of_sweep, LeadsTree}
-use Rattle.prefix_trie.specs.Width.{width}
+use Rattle.register_interest.specs.Width.{width}
 use Rattle.register_interest.specs.declared.interests.Interest.{Interest}
 use Rattle.register_interest.specs.Interests.{AreReached, without}
 use Rattle.register_interest.specs.Registers.{Registry, KeepsAnswers, put_row}

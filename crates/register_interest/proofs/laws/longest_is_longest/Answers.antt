@@ -1,4 +1,4 @@
-use Rattle.prefix_trie.specs.Width.{width}
+use Rattle.register_interest.specs.Width.{width}
 use Rattle.register_interest.proofs.CoverLemmas.{longest_is}
 use Rattle.register_interest.proofs.laws.longest_is_longest.Goals as goal
 

@@ -1,4 +1,4 @@
-use Rattle.prefix_trie.specs.Width.{width}
+use Rattle.register_interest.specs.Width.{width}
 use Rattle.register_interest.proofs.CoverLemmas.{not_hit}
 use Rattle.register_interest.proofs.laws.not_hit.Goals as goal
 

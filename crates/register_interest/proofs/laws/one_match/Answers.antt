@@ -1,4 +1,4 @@
-use Rattle.prefix_trie.specs.Width.{width}
+use Rattle.register_interest.specs.Width.{width}
 use Rattle.register_interest.proofs.CoverLemmas.{cover_match}
 use Rattle.register_interest.proofs.laws.one_match.Goals as goal
 

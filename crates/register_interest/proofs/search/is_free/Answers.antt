@@ -1,5 +1,5 @@
 use Rattle.std.specs.FinMap as map
-use Rattle.prefix_trie.specs.Width.{width}
+use Rattle.register_interest.specs.Width.{width}
 use Rattle.register_interest.proofs.SearchLemmas.{block_free_last, block_told_free}
 use Rattle.register_interest.proofs.search.is_free.Goals as goal
 

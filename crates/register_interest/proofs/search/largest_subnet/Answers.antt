@@ -1,6 +1,6 @@
 use Rattle.std.proofs.Common.{◌≡◌, true, false, arith, refl, sym, ◌∙◌, ◌+◌, ◌/◌}
 use Rattle.std.specs.FinMap as map
-use Rattle.prefix_trie.specs.Width.{width}
+use Rattle.register_interest.specs.Width.{width}
 use Rattle.register_interest.proofs.SearchLemmas.{halved_first, halved_up, halved_last}
 use Rattle.register_interest.proofs.search.largest_subnet.Goals as goal
 

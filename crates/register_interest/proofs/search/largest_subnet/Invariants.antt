@@ -1,6 +1,6 @@
 use Rattle.std.proofs.Common.{◌-◌}
 use Rattle.std.specs.FinMap as map
-use Rattle.prefix_trie.specs.Width.{width}
+use Rattle.register_interest.specs.Width.{width}
 use Rattle.register_interest.proofs.SearchLemmas.{IsHalved}
 use Rattle.register_interest.proofs.search.largest_subnet.Given as goal
 

@@ -1,4 +1,4 @@
-use Rattle.prefix_trie.specs.Width.{width}
+use Rattle.register_interest.specs.Width.{width}
 use Rattle.register_interest.proofs.SearchLemmas.{longest_none, longest_some}
 use Rattle.register_interest.proofs.search.longest_row.Goals as goal
 

@@ -1,5 +1,5 @@
 use Rattle.std.proofs.lemmas.Result.{on_ok_weaker}
-use Rattle.prefix_trie.specs.Width.{width}
+use Rattle.register_interest.specs.Width.{width}
 use Rattle.register_interest.proofs.InterestLemmas.{at_forward, at_subnet}
 use Rattle.register_interest.proofs.interests.Interests.push_at.Goals as goal
 

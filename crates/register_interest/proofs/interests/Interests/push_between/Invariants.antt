@@ -1,6 +1,6 @@
 use Rattle.std.proofs.Common.{map}
 use Rattle.std.specs.Map.Iter.{deref_pair}
-use Rattle.prefix_trie.specs.Width.{width}
+use Rattle.register_interest.specs.Width.{width}
 use Rattle.register_interest.proofs.InterestLemmas.{IsHitsOf}
 use Rattle.register_interest.proofs.interests.Interests.push_between.Given as goal
 

@@ -1,5 +1,5 @@
 use Rattle.std.proofs.lemmas.Result.{on_ok_weaker}
-use Rattle.prefix_trie.specs.Width.{width}
+use Rattle.register_interest.specs.Width.{width}
 use Rattle.register_interest.proofs.InterestLemmas.{within_forward, within_subnets}
 use Rattle.register_interest.proofs.interests.Interests.push_within.Goals as goal
 

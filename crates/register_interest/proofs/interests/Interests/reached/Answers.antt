@@ -1,7 +1,7 @@
 use Rattle.std.proofs.Common.{◌≡◌, arith, subst, ap, ◌∙◌}
 use Rattle.std.specs.FinMap as map
 use Rattle.addr4.specs.Prefixes.{Network, block}
-use Rattle.prefix_trie.specs.Width.{width}
+use Rattle.register_interest.specs.Width.{width}
 use Rattle.register_interest.specs.Interests.{Appends}
 use Rattle.register_interest.proofs.InterestLemmas.{above_first, above_more, above_all, none_reached}
 use Rattle.register_interest.proofs.interests.Interests.reached.Goals as goal

@@ -1,6 +1,6 @@
 use Rattle.std.proofs.Common.{[]}
 use Rattle.std.specs.FinMap as map
-use Rattle.prefix_trie.specs.Width.{width}
+use Rattle.register_interest.specs.Width.{width}
 use Rattle.register_interest.specs.Interests.{Appends}
 use Rattle.register_interest.proofs.InterestLemmas.{IsAbove}
 use Rattle.register_interest.proofs.interests.Interests.reached.Given as goal

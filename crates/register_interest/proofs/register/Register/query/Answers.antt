@@ -1,7 +1,7 @@
 use Rattle.std.proofs.Common.{Option, subst, arith}
 use Rattle.std.specs.FinMap as map
 use Rattle.addr4.specs.Prefixes.{Network}
-use Rattle.prefix_trie.specs.Width.{width}
+use Rattle.register_interest.specs.Width.{width}
 use Rattle.register_interest.specs.Covers.{matched, IsSubnet}
 use Rattle.register_interest.specs.Matches.{lent_match}
 use Rattle.register_interest.proofs.RegisterLemmas.{added_stands}
