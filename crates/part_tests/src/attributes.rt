@@ -17,13 +17,21 @@ fn cluster() -> Addr {
     Addr::new(0xc000_02fe)
 }
 
-/// The path (65001), an attribute that isn't recognized, and what one reflector added.
-fn attrs(alloc: Global) -> Result<Attrs, Memory> {
-    let item = Unrecognized {
-        kind: 99,
+/// An attribute of this kind that isn't recognized.
+fn unrecognized(alloc: Global, kind: u8) -> Result<Unrecognized, Memory> {
+    Ok(Unrecognized {
+        kind,
         value: Octets::from_vec(Vec::from_slice(alloc, &[7, 8])?),
-    };
-    let unrecognized = UnrecognizedAttrs::from_vec(alloc, vec![in alloc; item]?)?;
+    })
+}
+
+/// The path (65001), attributes of these kinds that aren't recognized, and what one reflector added.
+fn attrs(alloc: Global, kinds: &[u8]) -> Result<Attrs, Memory> {
+    let mut items = Vec::new(alloc);
+    for kind in kinds {
+        items.push(unrecognized(alloc, *kind)?)?;
+    }
+    let unrecognized = UnrecognizedAttrs::from_vec(alloc, items)?;
     let reflection = Reflection::none().reflected(alloc, sender(), cluster())?;
     Ok(Attrs {
         origin: Origin::Igp,
@@ -38,16 +46,18 @@ fn attrs(alloc: Global) -> Result<Attrs, Memory> {
     })
 }
 
-/// Whether a copy of them is the same.
-fn is_same(alloc: Global) -> Result<bool, Memory> {
-    let attrs = attrs(alloc)?;
+/// Whether a copy of them is the same, and has as many that aren't recognized.
+fn is_same(alloc: Global, kinds: &[u8]) -> Result<bool, Memory> {
+    let attrs = attrs(alloc, kinds)?;
     let copy = attrs.copy()?;
-    Ok(copy.same(&attrs))
+    Ok(copy.same(&attrs) && copy.unrecognized.as_slice().len() == kinds.len())
 }
 
 #[test]
 fn a_copy_is_the_same(rt: HostRuntime) -> Result<(), Fail> {
-    assert!(rt; is_same(rt.alloc())?);
+    assert!(rt; is_same(rt.alloc(), &[])?);
+    assert!(rt; is_same(rt.alloc(), &[99])?);
+    assert!(rt; is_same(rt.alloc(), &[99, 100])?);
     Ok(())
 }
 
