@@ -13,7 +13,7 @@
 //! A leaf keeps its key in the slab as long as it stands. Whoever remembers the key hands it in, and the leaf is found
 //! without a descent. What lies there is compared first, so a key that is out of date costs a descent and changes no answer.
 //!
-//! `safe_table` keeps its rows in one. Longest matches are asked of a `prefix_trie`.
+//! `safe_table` keeps its rows in one.
 #![tactic(auto)]
 
 mod branch;

@@ -180,7 +180,8 @@ pub fn announcement_length(profile: Profile, prefix: Prefix, attrs: &LentAttrs<'
 /// Whether an announcement of the prefix with attributes of so many octets ([`attributes_length`]) fits into a message, which
 /// has at most 4,096 octets (RFC 4271, section 4.1).
 pub fn announcement_fits(prefix: Prefix, attributes: u128) -> bool
-    ensures { (as4 : Bool) (a : Route) → attributes_length as4 a ≡ attributes → result ≡ nat_le (announcement_length as4 prefix a) 4096 }
+    ensures room { result ≡ nat_le (23 + length (prefix_octets prefix) + attributes) 4096 }
+    ensures fits { (as4 : Bool) (a : Route) → attributes_length as4 a ≡ attributes → result ≡ nat_le (announcement_length as4 prefix a) 4096 }
 {
     attributes <= (LONGEST - 23 - prefix_length(prefix)) as u128
 }
