@@ -11,7 +11,7 @@ ghost use Rattle.nexthop_resolver.specs.Kept.{way_of};
 ghost use Rattle.nexthop_resolver.specs.Left.{TellsAlike, hop_lags};
 ghost use Rattle.nexthop_resolver.specs.Resolving.{nothing_known, AreNamed};
 ghost use Rattle.nexthop_resolver.specs.Registered.{Agrees, KeepsOthers, told_of};
-ghost use Rattle.nexthop_resolver.specs.Takes.{Keeps, Invalidates};
+ghost use Rattle.nexthop_resolver.specs.Takes.{Keeps, Invalidates, PartlyInvalidates};
 ghost use Rattle.nexthop_resolver.specs.Turns.{Rests, HasWork};
 ghost use Rattle.ext_int.specs.Fibs.{resolved_rows, fib_table, FollowsInt, FollowsTurn, TakesExt, TakesTurn, StopsInTurn};
 
@@ -101,11 +101,13 @@ impl ExtInt {
         self.hops.holds_up(hop, prefix)
     }
 
-    /// The answers that came with the subnet are stale: the register gave up the interest in it. Takes no memory.
-    pub fn invalidate(&mut self, subnet: Prefix)
-        ensures { Invalidates subnet self.old self.new }
+    /// The answers that came with the subnet are stale: the register gave up the interest in it. For want of memory some of them
+    /// are stale, and the others as they were.
+    pub fn invalidate(&mut self, subnet: Prefix) -> Result<(), Memory>
+        ensures stale { OnOk result (Invalidates subnet self.old self.new) }
+        ensures memory { OnErr result (PartlyInvalidates subnet self.old self.new) }
     {
-        self.hops.invalidate(subnet);
+        self.hops.invalidate(subnet)
     }
 
     /// A change of `int`, as it goes on below. None exactly where the row of the forwarding table stays the same. Memory only

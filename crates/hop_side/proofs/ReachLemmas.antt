@@ -19,7 +19,7 @@ use Rattle.journal_text.specs.declared.link.Link.{Link}
 use Rattle.journal_text.specs.declared.link.Link.TheVariants.{Res}
 use Rattle.journal_text.specs.Values.{route_rows}
 use Rattle.hop_side.specs.Resolvers.{Resolvers, resolver_at, put_resolver, PeerRows, rows_by, link_by, hop_links, IsHops, known_of, known_in}
-use Rattle.hop_side.specs.Steps.{AtPeer, AllReached, StaysBelow, ReachesOne, ReachesBelow}
+use Rattle.hop_side.specs.Steps.{AtPeer, AllReached, HaveSamePeers, StaysBelow, ReachesOne, ReachesBelow}
 use Rattle.hop_side.proofs.PutLemmas.{by_bool, equal_by, same_by, put_here, put_other}
 
 abbrev Resolved : Type 0
@@ -49,6 +49,9 @@ none_reached a k = same_peer (IsReached [] k) (reached_none k) (resolver_at k a)
 pub one_more_reached : (out : List Interest) (i : Interest) (a b c : Resolvers) → AllReached out a b → ReachesOne i b c → AllReached (out ++ i ∷ []) a c
 one_more_reached out i a b c first next k =
     then_peer (IsReached out k) (IsReachedBy i k) (IsReached (out ++ i ∷ []) k) (λ x y z r step. reached_then out i k x y z r step) (resolver_at k a) (resolver_at k b) (resolver_at k c) (first k) (next k)
+
+pub same_peers : (out : List Interest) (a b c : Resolvers) → AllReached out a b → HaveSamePeers b c → HaveSamePeers a c
+same_peers out a b c reached same k = same k ∙ by_peer (IsReached out k) (λ (o n : Option Resolved). is_some n ≡ is_some o) refl (λ x y r. refl) (resolver_at k a) (resolver_at k b) (reached k)
 
 other_stays : (i : Interest) (j : ℕ) → nat_eq i.client j ≡ false → (s : Resolved) → IsReachedBy i j s s
 other_stays i j e s = subst (λ (b : Bool). MatchBool b (Invalidates i.subnet s s) (s ≡ s)) (sym e) refl
@@ -105,7 +108,7 @@ module _ (out : List Interest) (a b : Resolvers) (reached : AllReached out a b) 
     links = λ uppers. same_function _ _ (same_link uppers);
     counted = λ uppers counted k t at. let w = was_there k t at in subst (AreCounted (named_by route_hop (uppers k))) (sym w.2.counts) (counted k w.0 w.1);
     known = same_known;
-    peers = λ k. by_peer (IsReached out k) (λ (o n : Option Resolved). is_some n ≡ is_some o) refl (λ x y r. refl) (resolver_at k a) (resolver_at k b) (reached k);
+    peers = same_peers out a b b reached (λ k. refl);
   }
 
   pub reaches_below : IsHops a → ReachesBelow out a b

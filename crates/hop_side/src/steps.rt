@@ -1,10 +1,10 @@
 //! What comes from above, and from the register; and turns of background work.
 
-ghost use Rattle.std.specs.Prelude.{◌≡◌, IfOk, OnErr, IsSome};
+ghost use Rattle.std.specs.Prelude.{◌≡◌, IfOk, OnOk, OnErr, IsSome};
 ghost use Rattle.nexthop_resolver.specs.Registered.{KeepsOthers};
 ghost use Rattle.journal_text.specs.Journals.{Adds};
 ghost use Rattle.hop_side.specs.Resolvers.{resolver_at, IsHops, AllAgree};
-ghost use Rattle.hop_side.specs.Steps.{TakesBelow, ComesBelow, ReachesOne, ReachesBelow};
+ghost use Rattle.hop_side.specs.Steps.{TakesBelow, ComesBelow, ReachesOne, ReachesBelow, HaveSamePeers};
 
 use crate::hops::NextHops;
 use addr4::Memory;
@@ -41,25 +41,28 @@ impl NextHops {
     }
 
     /// The register gave up these interests with a change of the interior routes: the answers that came with them are stale. No
-    /// row changes, and nothing is said. Takes no memory.
-    pub fn reach(&mut self, reached: &[Interest])
+    /// row changes, and nothing is said. For want of memory only some of them are stale, and the same peers have resolvers.
+    pub fn reach(&mut self, reached: &[Interest]) -> Result<(), Memory>
         requires sound { IsHops self.old }
-        ensures { ReachesBelow reached.now self.old self.new }
+        ensures stale { OnOk result (ReachesBelow reached.now self.old self.new) }
+        ensures memory { OnErr result (HaveSamePeers self.old self.new) }
     {
         for interest in reached {
-            self.reach_one(*interest);
+            self.reach_one(*interest)?;
         }
+        Ok(())
     }
 
     // The answers that came with one interest are stale.
-    fn reach_one(&mut self, interest: Interest)
-        ensures { ReachesOne interest self.old self.new }
+    fn reach_one(&mut self, interest: Interest) -> Result<(), Memory>
+        ensures stale { OnOk result (ReachesOne interest self.old self.new) }
+        ensures memory { OnErr result (HaveSamePeers self.old self.new) }
     {
         let number = u32::from(interest.client);
         let Some(resolver) = self.resolvers.get_mut(&number) else {
-            return;
+            return Ok(());
         };
-        resolver.invalidate(interest.subnet);
+        resolver.invalidate(interest.subnet)
     }
 
     /// One turn of the next hops of a peer, over its link `filt.K` (`Resolver::unit`): a walk goes to the next candidate, or

@@ -1,8 +1,8 @@
 -- What the fields of the known next hops mean for the map that contracts see.
-use Rattle.std.proofs.Common.{◌≡◌, ◌↔◌, ℕ, ◌<◌, Bool, true, false, not, ◌&&◌, ◌||◌, List, [], ◌∷◌, length, arith, refl, sym, ap, ◌∙◌, subst, inl, inr, Option, Some, None, is_some, MatchBool, MatchOption}
+use Rattle.std.proofs.Common.{◌≡◌, ◌↔◌, ℕ, ◌<◌, ◌≤◌, Bool, true, false, not, ◌||◌, List, [], ◌∷◌, length, arith, refl, sym, ap, ◌∙◌, subst, inl, inr, Option, Some, None, is_some, MatchBool, MatchOption}
 use Rattle.std.specs.Option.{option_map}
 use Rattle.std.specs.List.{list_any}
-use Rattle.std.specs.Ordering.{nat_cmp, is_eq}
+use Rattle.std.specs.Ordering.{nat_cmp, is_eq, is_gt}
 use Rattle.std.specs.Cmp.{nat_cmp_total, tied_itself}
 use Rattle.std.specs.BTreeMap.{BTreeMap, is_at}
 use Rattle.std.specs.BTreeMap as tree
@@ -10,21 +10,22 @@ use Rattle.std.specs.BTreeSet.{BTreeSet, btree_set_len}
 use Rattle.std.specs.BTreeSet as set
 use Rattle.std.specs.FinMap.{from_entries}
 use Rattle.std.specs.FinMap as map
-use Rattle.std.proofs.lemmas.Bool.{cases_lt, and_parts}
-use Rattle.addr4.specs.Places.{IsNextRow}
+use Rattle.std.proofs.lemmas.Bool.Decides.{nat_tests}
 use Rattle.addr4.specs.Prefixes.{Network}
 use Rattle.link_change.proofs.MapLemmas.{map_read, read_in}
 use Rattle.nexthop_known.specs.declared.answer.Hop.{Hop}
 use Rattle.nexthop_known.specs.declared.index.Holding.{Holding}
-use Rattle.nexthop_known.specs.Hops.{Hops, is_with, came_at, is_stale_at, IsWithSome, IsWithNone, IsMapped, IsLeastStale, IsSettled, IsDiffering, IsUnshared, IsSettledAt, IsDifferingAt}
-use Rattle.nexthop_known.specs.Ties.{holding_cmp, AreTied, AreTold, Marks, host, is_host, Maps, IsFreed, IsHeldByNone}
+use Rattle.nexthop_known.specs.Hops.{Hops, is_with, came_at, is_stale_at, IsWithSome, IsWithNone, IsMapped, IsPartlyMapped, IsLeastStale, IsSettled, IsDiffering, IsUnshared, IsSettledAt, IsDifferingAt}
+use Rattle.nexthop_known.specs.Ties.{holding_cmp, AreTied, AreTold, Maps, PartlyMaps, IsFreed, IsHeldByNone}
 use Rattle.nexthop_known.proofs.HopLemmas.{same_self}
-use Rattle.nexthop_known.proofs.MarkLemmas.{host_is, host_before}
 use Rattle.nexthop_known.proofs.TieLemmas.{found_with}
 
 none_listed : (ks : List ℕ) (a : ℕ) → (0 < length ks → ⊥) → list_any (is_at (nat_cmp a)) ks ≡ false
 none_listed [] a none = refl
 none_listed (k ∷ ks) a none = absurd (none (omega arith))
+
+not_above : (a q : ℕ) → is_gt (nat_cmp a q) ≡ false → a ≤ q
+not_above a q e = grind (arith, nat_tests)
 
 some_listed : (ks : List ℕ) → (length ks ≡ 0 → ⊥) → (k : ℕ) × (list_any (is_at (nat_cmp k)) ks ≡ true)
 some_listed [] some = absurd (some refl)
@@ -34,9 +35,15 @@ module _ {A : Type 0} where
   pub mapped : (f : Hop A → Hop A) (m n : BTreeMap ℕ (Hop A)) (now : Hops A) → from_entries m.entries ≡ now → Maps f m n → IsMapped f now (from_entries n.entries)
   mapped f m n now view maps = λ a. map_read nat_cmp_total n.entries a ∙ maps a ∙ ap (option_map f) (sym (read_in nat_cmp_total m now a view))
 
+  pub partly_mapped : (f : Hop A → Hop A) (m n : BTreeMap ℕ (Hop A)) (now : Hops A) → from_entries m.entries ≡ now → PartlyMaps f m n → IsPartlyMapped f now (from_entries n.entries)
+  partly_mapped f m n now view maps = λ a. elim (maps a) [
+    | inl e ↦ inl (map_read nat_cmp_total n.entries a ∙ e ∙ sym (read_in nat_cmp_total m now a view))
+    | inr e ↦ inr (map_read nat_cmp_total n.entries a ∙ e ∙ ap (option_map f) (sym (read_in nat_cmp_total m now a view)))
+  ]
+
   -- ---- a subnet given up
 
-  pub freed : (n : BTreeMap ℕ (Hop A)) (stale : Marks) (held : BTreeSet Holding) (came result : Option Network) → AreTied n stale held → IsFreed held came result → IsUnshared (map.get (from_entries {R = nat_cmp} n.entries)) came result
+  pub freed : (n : BTreeMap ℕ (Hop A)) (stale : BTreeSet ℕ) (held : BTreeSet Holding) (came result : Option Network) → AreTied n stale held → IsFreed held came result → IsUnshared (map.get (from_entries {R = nat_cmp} n.entries)) came result
   freed n stale held came None tied (inl e) = inl e
   freed n stale held came None tied (inr has) =
       let found = found_with has.0 (tree.get nat_cmp n has.2) (sym (tied.held_is (record { subnet = has.0; hop = has.2 })) ∙ has.3) in
@@ -51,19 +58,19 @@ module _ {A : Type 0} where
 
   -- ---- whether the answer of one came with a subnet
 
-  none_with : (m : BTreeMap ℕ (Hop A)) (stale : Marks) (held : BTreeSet Holding) (now : Hops A) (s : Network) → AreTied m stale held → from_entries m.entries ≡ now → IsHeldByNone held s → IsWithNone (map.get now) s
+  none_with : (m : BTreeMap ℕ (Hop A)) (stale : BTreeSet ℕ) (held : BTreeSet Holding) (now : Hops A) (s : Network) → AreTied m stale held → from_entries m.entries ≡ now → IsHeldByNone held s → IsWithNone (map.get now) s
   none_with m stale held now s tied view none = λ a h e with_s.
       let here : tree.get nat_cmp m a ≡ Some h = sym (read_in nat_cmp_total m now a view) ∙ e in
       let told = sym (none a) ∙ tied.held_is (record { subnet = s; hop = a }) ∙ ap (λ o. is_with s (came_at o)) here ∙ ap (is_with s) with_s ∙ same_self s in
       let clash : false ≡ true = told in cc
 
-  some_with : (m : BTreeMap ℕ (Hop A)) (stale : Marks) (held : BTreeSet Holding) (now : Hops A) (s : Network) (a : ℕ) → AreTied m stale held → from_entries m.entries ≡ now
+  some_with : (m : BTreeMap ℕ (Hop A)) (stale : BTreeSet ℕ) (held : BTreeSet Holding) (now : Hops A) (s : Network) (a : ℕ) → AreTied m stale held → from_entries m.entries ≡ now
       → set.contains holding_cmp held (record { subnet = s; hop = a }) ≡ true → IsWithSome (map.get now) s
   some_with m stale held now s a tied view has =
       let found = found_with s (tree.get nat_cmp m a) (sym (tied.held_is (record { subnet = s; hop = a })) ∙ has) in
       (a, found.0, read_in nat_cmp_total m now a view ∙ found.1, found.2)
 
-  pub told_with : (m : BTreeMap ℕ (Hop A)) (stale : Marks) (held : BTreeSet Holding) (now : Hops A) (s : Network) (o : Option ℕ) → AreTied m stale held → from_entries m.entries ≡ now
+  pub told_with : (m : BTreeMap ℕ (Hop A)) (stale : BTreeSet ℕ) (held : BTreeSet Holding) (now : Hops A) (s : Network) (o : Option ℕ) → AreTied m stale held → from_entries m.entries ≡ now
       → MatchOption o (IsHeldByNone held s) (λ a. set.contains holding_cmp held (record { subnet = s; hop = a }) ≡ true) → MatchBool (is_some o) (IsWithSome (map.get now) s) (IsWithNone (map.get now) s)
   told_with m stale held now s None tied view none = none_with m stale held now s tied view none
   told_with m stale held now s (Some a) tied view has = some_with m stale held now s a tied view has
@@ -81,21 +88,17 @@ module _ {A : Type 0} where
       none None e = refl
       none (Some s) e = absurd (cc)
 
-  told_stale : (m : BTreeMap ℕ (Hop A)) (stale : Marks) (held : BTreeSet Holding) (now : Hops A) (a : ℕ) (h : Hop A) → AreTied m stale held → from_entries m.entries ≡ now → map.get now a ≡ Some h → h.came ≡ None → map.contains_key stale (host a) ≡ true
-  told_stale m stale held now a h tied view e none =
-      tied.stale_is (host a) ∙ ap (λ b. b && is_stale_at (tree.get nat_cmp m a)) (host_is a) ∙ ap is_stale_at (sym (read_in nat_cmp_total m now a view) ∙ e) ∙ ap (λ c. not (is_some c)) none
+  told_stale : (m : BTreeMap ℕ (Hop A)) (stale : BTreeSet ℕ) (held : BTreeSet Holding) (now : Hops A) (a : ℕ) (h : Hop A) → AreTied m stale held → from_entries m.entries ≡ now → map.get now a ≡ Some h → h.came ≡ None → set.contains nat_cmp stale a ≡ true
+  told_stale m stale held now a h tied view e none = tied.stale_is a ∙ ap is_stale_at (sym (read_in nat_cmp_total m now a view) ∙ e) ∙ ap (λ c. not (is_some c)) none
 
-  pub none_stale : (m : BTreeMap ℕ (Hop A)) (stale : Marks) (held : BTreeSet Holding) (now : Hops A) → AreTied m stale held → from_entries m.entries ≡ now → IsNextRow (map.get stale) None None → IsLeastStale (map.get now) None
-  none_stale m stale held now tied view none = λ a h e is. let clash : true ≡ false = sym (told_stale m stale held now a h tied view e is) ∙ ap is_some (none (host a) tt) in cc
+  pub none_stale : (m : BTreeMap ℕ (Hop A)) (stale : BTreeSet ℕ) (held : BTreeSet Holding) (now : Hops A) → AreTied m stale held → from_entries m.entries ≡ now → (0 < btree_set_len stale → ⊥) → IsLeastStale (map.get now) None
+  none_stale m stale held now tied view none = λ a h e is. let clash : true ≡ false = sym (told_stale m stale held now a h tied view e is) ∙ none_listed stale.keys a none in cc
 
-  pub least_stale : (m : BTreeMap ℕ (Hop A)) (stale : Marks) (held : BTreeSet Holding) (now : Hops A) (p : Network) → AreTied m stale held → from_entries m.entries ≡ now → IsNextRow (map.get stale) None (Some p) → IsLeastStale (map.get now) (Some p.address)
-  least_stale m stale held now p tied view next =
-      let found = stale_told (tree.get nat_cmp m p.address) (and_parts (is_host p) (is_stale_at (tree.get nat_cmp m p.address)) (sym (tied.stale_is p) ∙ next.1)).1 in (
-        (found.0, read_in nat_cmp_total m now p.address view ∙ found.1, found.2),
-        λ q h e is. elim (cases_lt q p.address) [
-          | inl less ↦ absurd (let clash : true ≡ false = sym (told_stale m stale held now q h tied view e is) ∙ ap is_some (next.2 (host q) tt (host_before q p less)) in cc)
-          | inr le ↦ le
-        ],
+  pub least_stale : (m : BTreeMap ℕ (Hop A)) (stale : BTreeSet ℕ) (held : BTreeSet Holding) (now : Hops A) (a : ℕ) → AreTied m stale held → from_entries m.entries ≡ now → set.contains nat_cmp stale a ≡ true → set.IsLowerBound nat_cmp stale a → IsLeastStale (map.get now) (Some a)
+  least_stale m stale held now a tied view has least =
+      let found = stale_told (tree.get nat_cmp m a) (sym (tied.stale_is a) ∙ has) in (
+        (found.0, read_in nat_cmp_total m now a view ∙ found.1, found.2),
+        λ q h e is. not_above a q (least q (told_stale m stale held now q h tied view e is)),
       )
 
   -- ---- whether some differ

@@ -1,5 +1,4 @@
 pub mod HopLemmas
-pub mod MarkLemmas
 pub mod TieLemmas
 pub mod KnownLemmas
 pub mod CountLemmas

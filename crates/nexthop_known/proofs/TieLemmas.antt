@@ -13,17 +13,15 @@ use Rattle.std.specs.Map.{lookup}
 use Rattle.std.specs.BTreeMap.Range.{IsLeBy}
 use Rattle.std.specs.BTreeSet.{BTreeSet, IsKeyRangeOf, IsKeyInRange}
 use Rattle.std.specs.BTreeSet as set
-use Rattle.std.specs.FinMap as map
 use Rattle.std.proofs.lemmas.Map.Lookups.{exact_unsigned}
 use Rattle.std.proofs.lemmas.Bool.Decides.{nat_tests}
 use Rattle.addr4.specs.Prefixes.{Network, prefix_cmp, same_prefix}
 use Rattle.addr4.proofs.PrefixOrder.{exact_prefixes, itself, comes_after}
-use Rattle.nexthop_known.proofs.MarkLemmas.{noted, cleared, nothing_marked}
 use Rattle.nexthop_known.proofs.HopLemmas.{both_equal, same_is, same_told, same_self, with_told}
 use Rattle.nexthop_known.specs.declared.answer.Hop.{Hop}
 use Rattle.nexthop_known.specs.declared.index.Holding.{Holding}
 use Rattle.nexthop_known.specs.Hops.{is_with, staled, came_at, is_stale_at, IsSettledAt}
-use Rattle.nexthop_known.specs.Ties.{holding_cmp, is_own, other_than, let_go, Marks, host, is_host, AreTied, AreTold, Puts, IsHeldByNone, Maps, PartlyMaps}
+use Rattle.nexthop_known.specs.Ties.{holding_cmp, is_own, other_than, let_go, AreTied, AreTold, Puts, Sets, IsHeldByNone, Maps, PartlyMaps}
 
 -- ---- orders
 
@@ -143,10 +141,9 @@ back false true was none = refl
 back false false was none = refl
 
 module _ {A : Type 0} where
-  stale_put : (b h was : Bool) (o : Option (Hop A)) (row : Hop A) (s : Network) → row.came ≡ Some s → was ≡ (h && is_stale_at o) → cond (b && h) false was ≡ (h && is_stale_at (cond b (Some row) o))
-  stale_put true true was o row s e is = sym (ap (λ (c : Option Network). not (is_some c)) e)
-  stale_put true false was o row s e is = is
-  stale_put false h was o row s e is = is
+  stale_put : (b was : Bool) (o : Option (Hop A)) (row : Hop A) (s : Network) → row.came ≡ Some s → was ≡ is_stale_at o → cond b false was ≡ is_stale_at (cond b (Some row) o)
+  stale_put true was o row s e is = sym (ap (λ (c : Option Network). not (is_some c)) e)
+  stale_put false was o row s e is = is
 
   held_put : (b : Bool) (s q : Network) (was : Bool) (at before : Option (Hop A)) (row : Hop A) → row.came ≡ Some s → (b ≡ true → at ≡ before) → was ≡ is_with q (came_at at)
       → cond (owns b q (other_than s (came_at before))) false (cond (same_prefix s q && b) true was) ≡ is_with q (came_at (cond b (Some row) at))
@@ -155,16 +152,14 @@ module _ {A : Type 0} where
       ∙ here s q (came_at before) ∙ sym (ap (is_with q) e)
   held_put false s q was at before row e same is = elsewhere s q (other_than s (came_at before)) was ∙ is
 
-  pub put_tied : (hops hops' : BTreeMap ℕ (Hop A)) (stale stale' : Marks) (held added held' : BTreeSet Holding) (a : ℕ) (s : Network) (row : Hop A) → row.came ≡ Some s → AreTied hops stale held
+  pub put_tied : (hops hops' : BTreeMap ℕ (Hop A)) (stale stale' : BTreeSet ℕ) (held added held' : BTreeSet Holding) (a : ℕ) (s : Network) (row : Hop A) → row.came ≡ Some s → AreTied hops stale held
       → Puts hops hops' a (Some row)
-      → stale' ≡ map.remove stale (host a)
+      → Sets nat_cmp (is_at (nat_cmp a)) false stale stale'
       → ((k : Holding) → set.contains holding_cmp added k ≡ cond (is_at (holding_cmp (record { subnet = s; hop = a })) k) true (set.contains holding_cmp held k))
       → ((k : Holding) → set.contains holding_cmp held' k ≡ cond (is_own a (other_than s (came_at (tree.get nat_cmp hops a))) k) false (set.contains holding_cmp added k))
       → AreTied hops' stale' held'
   put_tied hops hops' stale stale' held added held' a s row e tied puts takes adds leaves = record {
-    stale_is = λ p.
-        cleared stale stale' a takes p ∙ stale_put (is_at (nat_cmp a) p.address) (is_host p) (map.contains_key stale p) (tree.get nat_cmp hops p.address) row s e (tied.stale_is p)
-        ∙ sym (ap (λ o. is_host p && is_stale_at o) (puts p.address));
+    stale_is = λ q. takes q ∙ stale_put (is_at (nat_cmp a) q) (set.contains nat_cmp stale q) (tree.get nat_cmp hops q) row s e (tied.stale_is q) ∙ sym (ap is_stale_at (puts q));
     held_is = λ k.
         let b = is_at (nat_cmp a) k.hop in
         let o = other_than s (came_at (tree.get nat_cmp hops a)) in
@@ -174,12 +169,12 @@ module _ {A : Type 0} where
         ∙ sym (ap (λ x. is_with k.subnet (came_at x)) (puts k.hop));
   }
 
-  pub back_tied : (hops hops' : BTreeMap ℕ (Hop A)) (stale stale' : Marks) (held added held' : BTreeSet Holding) (a : ℕ) (s : Network) → AreTied hops stale held → stale' ≡ stale → hops'.entries ≡ hops.entries → tree.get nat_cmp hops a ≡ None
+  pub back_tied : (hops hops' : BTreeMap ℕ (Hop A)) (stale : BTreeSet ℕ) (held added held' : BTreeSet Holding) (a : ℕ) (s : Network) → AreTied hops stale held → hops'.entries ≡ hops.entries → tree.get nat_cmp hops a ≡ None
       → ((k : Holding) → set.contains holding_cmp added k ≡ cond (is_at (holding_cmp (record { subnet = s; hop = a })) k) true (set.contains holding_cmp held k))
       → ((k : Holding) → set.contains holding_cmp held' k ≡ cond (is_at (holding_cmp (record { subnet = s; hop = a })) k) false (set.contains holding_cmp added k))
-      → AreTied hops' stale' held'
-  back_tied hops hops' stale stale' held added held' a s tied kept same none adds takes = record {
-    stale_is = λ p. ap (λ (m : Marks). map.contains_key m p) kept ∙ tied.stale_is p ∙ sym (ap (λ o. is_host p && is_stale_at o) (got p.address));
+      → AreTied hops' stale held'
+  back_tied hops hops' stale held added held' a s tied same none adds takes = record {
+    stale_is = λ q. tied.stale_is q ∙ sym (ap is_stale_at (got q));
     held_is = λ k.
         let b = is_at (nat_cmp a) k.hop in
         takes k ∙ (λ i. cond (own_parts s a k i) false (adds k i)) ∙ ap (λ c. cond (same_prefix s k.subnet && b) false (cond c true (set.contains holding_cmp held k))) (own_parts s a k)
@@ -190,9 +185,9 @@ module _ {A : Type 0} where
       got : (q : ℕ) → tree.get nat_cmp hops' q ≡ tree.get nat_cmp hops q
       got q = ap (λ (es : List (ℕ × Hop A)). lookup (is_at (nat_cmp q)) es) same
 
-  pub none_tied : (hops : BTreeMap ℕ (Hop A)) (stale : Marks) (held : BTreeSet Holding) → hops.entries ≡ [] → stale ≡ map.empty → held.keys ≡ [] → AreTied hops stale held
+  pub none_tied : (hops : BTreeMap ℕ (Hop A)) (stale : BTreeSet ℕ) (held : BTreeSet Holding) → hops.entries ≡ [] → stale.keys ≡ [] → held.keys ≡ [] → AreTied hops stale held
   none_tied hops stale held no_hop no_stale no_held = record {
-    stale_is = λ p. nothing_marked stale no_stale p ∙ sym (ap (λ (es : List (ℕ × Hop A)). is_host p && is_stale_at (lookup (is_at (nat_cmp p.address)) es)) no_hop ∙ and_false (is_host p));
+    stale_is = λ q. ap (λ (ks : List ℕ). list_any (is_at (nat_cmp q)) ks) no_stale ∙ sym (ap (λ (es : List (ℕ × Hop A)). is_stale_at (lookup (is_at (nat_cmp q)) es)) no_hop);
     held_is = λ k.
         ap (λ (ks : List Holding). list_any (is_at (holding_cmp k)) ks) no_held
         ∙ sym (ap (λ (es : List (ℕ × Hop A)). is_with k.subnet (came_at (lookup (is_at (nat_cmp k.hop)) es))) no_hop);
@@ -206,24 +201,21 @@ module _ {A : Type 0} where
 
   -- ---- one taken out
 
-  stale_taken : (b h was : Bool) (o : Option (Hop A)) → was ≡ (h && is_stale_at o) → cond (b && h) false was ≡ (h && is_stale_at (cond b None o))
-  stale_taken true true was o is = refl
-  stale_taken true false was o is = is
-  stale_taken false h was o is = is
+  stale_taken : (b was : Bool) (o : Option (Hop A)) → was ≡ is_stale_at o → cond b false was ≡ is_stale_at (cond b None o)
+  stale_taken true was o is = refl
+  stale_taken false was o is = is
 
   held_taken : (b : Bool) (q : Network) (was : Bool) (at before : Option (Hop A)) → (b ≡ true → at ≡ before) → was ≡ is_with q (came_at at) → cond (owns b q (came_at before)) false was ≡ is_with q (came_at (cond b None at))
   held_taken true q was at before same is = ap (λ w. cond (owns true q (came_at before)) false w) (is ∙ ap (λ o. is_with q (came_at o)) (same refl)) ∙ own_gone q (came_at before)
   held_taken false q was at before same is = ap (λ b. cond b false was) (none_own q (came_at before)) ∙ is
 
-  pub taken_tied : (hops hops' : BTreeMap ℕ (Hop A)) (stale stale' : Marks) (held held' : BTreeSet Holding) (a : ℕ) → AreTied hops stale held
+  pub taken_tied : (hops hops' : BTreeMap ℕ (Hop A)) (stale stale' : BTreeSet ℕ) (held held' : BTreeSet Holding) (a : ℕ) → AreTied hops stale held
       → Puts hops hops' a None
-      → stale' ≡ map.remove stale (host a)
+      → Sets nat_cmp (is_at (nat_cmp a)) false stale stale'
       → ((k : Holding) → set.contains holding_cmp held' k ≡ cond (is_own a (came_at (tree.get nat_cmp hops a)) k) false (set.contains holding_cmp held k))
       → AreTied hops' stale' held'
   taken_tied hops hops' stale stale' held held' a tied puts takes leaves = record {
-    stale_is = λ p.
-        cleared stale stale' a takes p ∙ stale_taken (is_at (nat_cmp a) p.address) (is_host p) (map.contains_key stale p) (tree.get nat_cmp hops p.address) (tied.stale_is p)
-        ∙ sym (ap (λ o. is_host p && is_stale_at o) (puts p.address));
+    stale_is = λ q. takes q ∙ stale_taken (is_at (nat_cmp a) q) (set.contains nat_cmp stale q) (tree.get nat_cmp hops q) (tied.stale_is q) ∙ sym (ap is_stale_at (puts q));
     held_is = λ k.
         let b = is_at (nat_cmp a) k.hop in
         leaves k ∙ ap (λ c. cond c false (set.contains holding_cmp held k)) (own_is a (came_at (tree.get nat_cmp hops a)) k)
@@ -237,10 +229,9 @@ module _ {A : Type 0} where
   found_with s None e = absurd (cc)
   found_with s (Some h) e = (h, refl, with_told s h.came e)
 
-  stale_more : (b one was : Bool) (o at : Option (Hop A)) (h : Hop A) → o ≡ Some h → was ≡ (one && is_stale_at at) → cond (b && one) true was ≡ (one && is_stale_at (cond b (option_map let_go o) at))
-  stale_more true true was o at h e is = sym (ap (λ x. is_stale_at (option_map let_go x)) e)
-  stale_more true false was o at h e is = is
-  stale_more false one was o at h e is = is
+  stale_more : (b was : Bool) (o at : Option (Hop A)) (h : Hop A) → o ≡ Some h → was ≡ is_stale_at at → cond b true was ≡ is_stale_at (cond b (option_map let_go o) at)
+  stale_more true was o at h e is = sym (ap (λ x. is_stale_at (option_map let_go x)) e)
+  stale_more false was o at h e is = is
 
   held_less : (b same was : Bool) (q : Network) (o at : Option (Hop A)) (h : Hop A) → o ≡ Some h → (b ≡ true → was ≡ same) → was ≡ is_with q (came_at at) → cond (same && b) false was ≡ is_with q (came_at (cond b (option_map let_go o) at))
   held_less true true was q o at h e here is = sym (ap (λ x. is_with q (came_at (option_map let_go x))) e)
@@ -248,18 +239,16 @@ module _ {A : Type 0} where
   held_less false true was q o at h e here is = is
   held_less false false was q o at h e here is = is
 
-  pub stale_tied : (hops hops' : BTreeMap ℕ (Hop A)) (stale stale' : Marks) (held held' : BTreeSet Holding) (a : ℕ) (s : Network) → AreTied hops stale held → set.contains holding_cmp held (record { subnet = s; hop = a }) ≡ true
+  pub stale_tied : (hops hops' : BTreeMap ℕ (Hop A)) (stale stale' : BTreeSet ℕ) (held held' : BTreeSet Holding) (a : ℕ) (s : Network) → AreTied hops stale held → set.contains holding_cmp held (record { subnet = s; hop = a }) ≡ true
       → Puts hops hops' a (option_map let_go (tree.get nat_cmp hops a))
-      → stale' ≡ map.insert stale (host a) tt
+      → Sets nat_cmp (is_at (nat_cmp a)) true stale stale'
       → ((k : Holding) → set.contains holding_cmp held' k ≡ cond (is_at (holding_cmp (record { subnet = s; hop = a })) k) false (set.contains holding_cmp held k))
       → AreTied hops' stale' held'
   stale_tied hops hops' stale stale' held held' a s tied has puts adds takes =
       let found = found_with s (tree.get nat_cmp hops a) (sym (tied.held_is (record { subnet = s; hop = a })) ∙ has) in
       record {
-        stale_is = λ p.
-            noted stale stale' a adds p
-            ∙ stale_more (is_at (nat_cmp a) p.address) (is_host p) (map.contains_key stale p) (tree.get nat_cmp hops a) (tree.get nat_cmp hops p.address) found.0 found.1 (tied.stale_is p)
-            ∙ sym (ap (λ o. is_host p && is_stale_at o) (puts p.address));
+        stale_is = λ q.
+            adds q ∙ stale_more (is_at (nat_cmp a) q) (set.contains nat_cmp stale q) (tree.get nat_cmp hops a) (tree.get nat_cmp hops q) found.0 found.1 (tied.stale_is q) ∙ sym (ap is_stale_at (puts q));
         held_is = λ k.
             takes k ∙ ap (λ c. cond c false (set.contains holding_cmp held k)) (own_parts s a k)
             ∙ held_less (is_at (nat_cmp a) k.hop) (same_prefix s k.subnet) (set.contains holding_cmp held k) k.subnet (tree.get nat_cmp hops a) (tree.get nat_cmp hops k.hop) found.0 found.1
@@ -287,7 +276,7 @@ module _ {A : Type 0} where
   stale_one false s first old o was new e same is (inl x) = inl (is ∙ x)
   stale_one false s first old o was new e same is (inr x) = inr (is ∙ x)
 
-  pub stale_more_of : (first hops hops' : BTreeMap ℕ (Hop A)) (stale : Marks) (held : BTreeSet Holding) (a : ℕ) (s : Network) → AreTied hops stale held → set.contains holding_cmp held (record { subnet = s; hop = a }) ≡ true
+  pub stale_more_of : (first hops hops' : BTreeMap ℕ (Hop A)) (stale : BTreeSet ℕ) (held : BTreeSet Holding) (a : ℕ) (s : Network) → AreTied hops stale held → set.contains holding_cmp held (record { subnet = s; hop = a }) ≡ true
       → Puts hops hops' a (option_map let_go (tree.get nat_cmp hops a)) → PartlyMaps (staled s) first hops → PartlyMaps (staled s) first hops'
   stale_more_of first hops hops' stale held a s tied has puts partly = λ q.
       stale_one (is_at (nat_cmp a) q) s (tree.get nat_cmp first q) (tree.get nat_cmp hops q) (tree.get nat_cmp hops a) (tree.get nat_cmp first a) (tree.get nat_cmp hops' q)
@@ -299,9 +288,8 @@ module _ {A : Type 0} where
   kept s None e = refl
   kept s (Some h) e = ap (λ b. Some (record { in_force = h.in_force; fresh = h.fresh; came = cond b None h.came })) (sym e)
 
-  pub all_stale : (first hops : BTreeMap ℕ (Hop A)) (stale : Marks) (held : BTreeSet Holding) (s : Network) → AreTied hops stale held → IsHeldByNone held s → PartlyMaps (staled s) first hops → Maps (staled s) first hops
+  pub all_stale : (first hops : BTreeMap ℕ (Hop A)) (stale : BTreeSet ℕ) (held : BTreeSet Holding) (s : Network) → AreTied hops stale held → IsHeldByNone held s → PartlyMaps (staled s) first hops → Maps (staled s) first hops
   all_stale first hops stale held s tied none partly = λ q. elim (partly q) [
     | inl e ↦ e ∙ kept s (tree.get nat_cmp first q) (ap (λ x. is_with s (came_at x)) (sym e) ∙ sym (tied.held_is (record { subnet = s; hop = q })) ∙ none q)
     | inr e ↦ e
   ]
-  -- ---- one put in force

@@ -50,6 +50,10 @@ module _ {A : Type 0} where
   abbrev pub IsMapped : (Hop A → Hop A) → Hops A → Hops A → Type 0
   IsMapped f old new = (a : ℕ) → map.get new a ≡ option_map f (map.get old a)
 
+  -- the same next hops, each as it was or changed by f
+  abbrev pub IsPartlyMapped : (Hop A → Hop A) → Hops A → Hops A → Type 0
+  IsPartlyMapped f old new = (a : ℕ) → (map.get new a ≡ map.get old a) ⊎ (map.get new a ≡ option_map f (map.get old a))
+
   -- a first answer, in force at once
   abbrev pub learnt : Network → A → Hop A
   learnt s answer = record { in_force = answer; fresh = answer; came = Some s }

@@ -1,5 +1,5 @@
 -- What the fields of the known next hops keep true.
-use Rattle.std.specs.Prelude.{◌≡◌, ◌↔◌, ◌⊎◌, ℕ, ◌≤◌, Bool, true, false, ◌&&◌, cond, Option, Some, None}
+use Rattle.std.specs.Prelude.{◌≡◌, ◌↔◌, ◌⊎◌, ℕ, Bool, true, false, cond, Option, Some, None}
 use Rattle.std.specs.Option.{option_map}
 use Rattle.std.specs.declared.cmp.Ordering.{Ordering}
 use Rattle.std.specs.Ordering.{nat_cmp, ordering_then}
@@ -7,25 +7,10 @@ use Rattle.std.specs.BTreeMap.{BTreeMap, is_at}
 use Rattle.std.specs.BTreeMap as tree
 use Rattle.std.specs.BTreeSet.{BTreeSet}
 use Rattle.std.specs.BTreeSet as set
-use Rattle.std.specs.FinMap as map
 use Rattle.addr4.specs.Prefixes.{Network, prefix_cmp}
-use Rattle.prefix_trie.specs.Contents.{Contents}
-use Rattle.register_interest.specs.Width.{width}
 use Rattle.nexthop_known.specs.declared.answer.Hop.{Hop}
 use Rattle.nexthop_known.specs.declared.index.Holding.{Holding}
 use Rattle.nexthop_known.specs.Hops.{is_with, came_at, is_stale_at, IsSettledAt}
-
--- a set of prefixes
-abbrev pub Marks : Type 0
-Marks = map.FinMap prefix_cmp (Unit {0})
-
--- the prefix of one address alone
-abbrev pub host : ℕ → Network
-host a = record { address = a; length = width }
-
--- whether the prefix is that of one address
-abbrev pub is_host : Network → Bool
-is_host p = is_at (nat_cmp width) p.length
 
 -- by subnet, then address
 abbrev pub holding_cmp : Holding → Holding → Ordering
@@ -49,20 +34,18 @@ abbrev pub IsHeldByNone : BTreeSet Holding → Network → Type 0
 IsHeldByNone held s = (a : ℕ) → set.contains holding_cmp held (record { subnet = s; hop = a }) ≡ false
 
 module _ {A : Type 0} where
-  -- the stale ones are in one set, by the prefixes of their addresses, and the others in another with their subnets
-  pub record AreTied (hops : BTreeMap ℕ (Hop A)) (stale : Marks) (held : BTreeSet Holding) : Type 0 where
-    pub stale_is : (p : Network) → map.contains_key stale p ≡ (is_host p && is_stale_at (tree.get nat_cmp hops p.address))
+  -- the stale ones are in one set, and the others in another with their subnets
+  pub record AreTied (hops : BTreeMap ℕ (Hop A)) (stale : BTreeSet ℕ) (held : BTreeSet Holding) : Type 0 where
+    pub stale_is : (a : ℕ) → set.contains nat_cmp stale a ≡ is_stale_at (tree.get nat_cmp hops a)
     pub held_is : (k : Holding) → set.contains holding_cmp held k ≡ is_with k.subnet (came_at (tree.get nat_cmp hops k.hop))
 
   -- those whose fresh answer differs from the one in force are in a set
   abbrev pub AreTold : BTreeMap ℕ (Hop A) → BTreeSet ℕ → Type 0
   AreTold hops differing = (a : ℕ) → (set.contains nat_cmp differing a ≡ false) ↔ IsSettledAt (tree.get nat_cmp hops a)
 
-  -- each one that isn't stale has room among the stale ones
-  pub record AreIndexed (hops : BTreeMap ℕ (Hop A)) (stale : Contents (Unit {0})) (differing : BTreeSet ℕ) (held : BTreeSet Holding) : Type 0 where
-    pub tied : AreTied hops stale.rows held
+  pub record AreIndexed (hops : BTreeMap ℕ (Hop A)) (stale differing : BTreeSet ℕ) (held : BTreeSet Holding) : Type 0 where
+    pub tied : AreTied hops stale held
     pub told : AreTold hops differing
-    pub room : set.btree_set_len held ≤ stale.spare
 
   -- the map has this at the address, or nothing, and at the others what it had
   abbrev pub Puts : BTreeMap ℕ (Hop A) → BTreeMap ℕ (Hop A) → ℕ → Option (Hop A) → Type 0

@@ -1,18 +1,16 @@
 //! The next hops by address, and beside them which are stale, and with which subnets the answers of the others came.
 
-ghost use Rattle.std.specs.Prelude.{◌≡◌, ◌+◌, ◌<◌, ◌≤◌, not, ◌&&◌, true, false, Some, OnOk, OnErr, IfOk, MatchOption};
+ghost use Rattle.std.specs.Prelude.{◌≡◌, not, ◌&&◌, true, false, Some, OnOk, OnErr, IfOk, MatchOption};
 ghost use Rattle.std.specs.Option.{option_map};
 ghost use Rattle.std.specs.Ordering.{nat_cmp};
 ghost use Rattle.std.specs.BTreeMap as tree;
 ghost use Rattle.std.specs.BTreeMap.{is_at};
 ghost use Rattle.std.specs.BTreeSet as set;
-ghost use Rattle.std.specs.FinMap as map;
 ghost use Rattle.nexthop_known.specs.Hops.{came_at, is_stale_at, in_force_or, staled, settled};
-ghost use Rattle.nexthop_known.specs.Ties.{holding_cmp, is_own, other_than, host, let_go, AreTied, AreTold, Puts, IsFreed, IsHeldByNone, Sets, Maps};
+ghost use Rattle.nexthop_known.specs.Ties.{holding_cmp, is_own, other_than, let_go, AreTied, AreTold, Puts, IsFreed, IsHeldByNone, Sets, Maps, PartlyMaps};
 
 use crate::answer::{Answer, Hop};
 use addr4::{Addr, Memory, Prefix};
-use prefix_trie::Trie;
 use std::collections::{BTreeMap, BTreeSet};
 use std::ops::Bound;
 
@@ -21,13 +19,6 @@ use std::ops::Bound;
 pub(crate) struct Holding {
     pub(crate) subnet: Prefix,
     pub(crate) hop: Addr,
-}
-
-// The prefix of one address alone.
-pub(crate) fn host(hop: Addr) -> Prefix
-    ensures { result ≡ host hop }
-{
-    Prefix::new(hop, 32).unwrap()
 }
 
 fn copied(address: &Addr) -> Addr
@@ -97,8 +88,7 @@ fn other_than(subnet: Prefix, came: &Option<Prefix>) -> Option<Prefix>
 
 // Takes out the holding of a next hop, if its answer came with a subnet.
 fn leave(held: &mut BTreeSet<Holding>, hop: Addr, came: &Option<Prefix>)
-    ensures left { Sets holding_cmp (is_own hop came.now) false held.old held.new }
-    ensures fewer { set.btree_set_len held.new ≤ set.btree_set_len held.old }
+    ensures { Sets holding_cmp (is_own hop came.now) false held.old held.new }
 {
     if let Some(subnet) = came {
         let holding = Holding {
@@ -107,32 +97,6 @@ fn leave(held: &mut BTreeSet<Holding>, hop: Addr, came: &Option<Prefix>)
         };
         held.remove(&holding);
     }
-}
-
-// Makes room for each next hop that isn't stale, and one more, to become stale.
-fn make_room(stale: &mut Trie<()>, held: &BTreeSet<Holding>) -> Result<(), Memory>
-    ensures room { OnOk result (set.btree_set_len held.now + 1 ≤ stale.new.spare) }
-    ensures rows { stale.new.rows ≡ stale.old.rows }
-    ensures spare { stale.old.spare ≤ stale.new.spare }
-{
-    stale.reserve(held.len() + 1)
-}
-
-// Notes a next hop as stale, for which there is room.
-fn note_stale(stale: &mut Trie<()>, hop: Addr)
-    requires { 0 < stale.old.spare }
-    ensures rows { stale.new.rows ≡ map.insert stale.old.rows (host hop) tt }
-    ensures spare { stale.old.spare ≤ stale.new.spare + 1 }
-{
-    let _before = stale.insert(host(hop), ()).unwrap();
-}
-
-// Takes a next hop from the stale ones, if it is one.
-fn clear_stale(stale: &mut Trie<()>, hop: Addr)
-    ensures rows { stale.new.rows ≡ map.remove stale.old.rows (host hop) }
-    ensures spare { stale.old.spare ≤ stale.new.spare }
-{
-    stale.remove(host(hop));
 }
 
 // The least next hop whose answer came with the subnet.
@@ -158,23 +122,20 @@ pub(crate) fn first_with(held: &BTreeSet<Holding>, subnet: Prefix) -> Option<Add
 // Puts a row whose answer came with the subnet. For want of memory nothing changes.
 pub(crate) fn put<A: Answer>(
     hops: &mut BTreeMap<Addr, Hop<A>>,
-    stale: &mut Trie<()>,
+    stale: &mut BTreeSet<Addr>,
     held: &mut BTreeSet<Holding>,
     hop: Addr,
     subnet: Prefix,
     row: Hop<A>,
 ) -> Result<(), Memory>
-    requires tied { AreTied hops.old stale.old.rows held.old }
-    requires room { set.btree_set_len held.old ≤ stale.old.spare }
+    requires tied { AreTied hops.old stale.old held.old }
     requires came { row.came ≡ Some subnet }
-    ensures tied { AreTied hops.new stale.new.rows held.new }
-    ensures room { set.btree_set_len held.new ≤ stale.new.spare }
+    ensures tied { AreTied hops.new stale.new held.new }
     ensures ok { OnOk result (Puts hops.old hops.new hop (Some row)) }
     ensures err { OnErr result (hops.new.entries ≡ hops.old.entries) }
 {
     let before = came_at(hops, hop);
     let holding = Holding { subnet, hop };
-    make_room(stale, held)?;
     held.insert(holding)?;
     match hops.insert(hop, row) {
         Err(_row) => {
@@ -182,7 +143,7 @@ pub(crate) fn put<A: Answer>(
             Err(Memory)
         }
         Ok(_before) => {
-            clear_stale(stale, hop);
+            stale.remove(&hop);
             leave(held, hop, &other_than(subnet, &before));
             Ok(())
         }
@@ -192,20 +153,18 @@ pub(crate) fn put<A: Answer>(
 // Takes a known next hop out.
 pub(crate) fn take_out<A: Answer>(
     hops: &mut BTreeMap<Addr, Hop<A>>,
-    stale: &mut Trie<()>,
+    stale: &mut BTreeSet<Addr>,
     held: &mut BTreeSet<Holding>,
     hop: Addr,
 ) -> Option<Prefix>
-    requires tied { AreTied hops.old stale.old.rows held.old }
-    requires room { set.btree_set_len held.old ≤ stale.old.spare }
-    ensures tied { AreTied hops.new stale.new.rows held.new }
-    ensures room { set.btree_set_len held.new ≤ stale.new.spare }
+    requires tied { AreTied hops.old stale.old held.old }
+    ensures tied { AreTied hops.new stale.new held.new }
     ensures removed { Puts hops.old hops.new hop None }
     ensures came { result ≡ came_at (tree.get nat_cmp hops.old hop) }
 {
     let came = came_at(hops, hop);
     hops.remove(&hop);
-    clear_stale(stale, hop);
+    stale.remove(&hop);
     leave(held, hop, &came);
     came
 }
@@ -265,24 +224,25 @@ fn put_in_force<A: Answer>(hops: &mut BTreeMap<Addr, Hop<A>>, hop: Addr)
     }
 }
 
-// Makes stale the next hops whose answer came with the subnet.
+// Makes stale the next hops whose answer came with the subnet. For want of memory some of them are stale, and the others as
+// they were.
 pub(crate) fn make_all_stale<A: Answer>(
     hops: &mut BTreeMap<Addr, Hop<A>>,
-    stale: &mut Trie<()>,
+    stale: &mut BTreeSet<Addr>,
     held: &mut BTreeSet<Holding>,
     subnet: Prefix,
-)
-    requires tied { AreTied hops.old stale.old.rows held.old }
-    requires room { set.btree_set_len held.old ≤ stale.old.spare }
-    ensures tied { AreTied hops.new stale.new.rows held.new }
-    ensures room { set.btree_set_len held.new ≤ stale.new.spare }
-    ensures mapped { Maps (staled subnet) hops.old hops.new }
+) -> Result<(), Memory>
+    requires tied { AreTied hops.old stale.old held.old }
+    ensures tied { AreTied hops.new stale.new held.new }
+    ensures ok { OnOk result (Maps (staled subnet) hops.old hops.new) }
+    ensures err { OnErr result (PartlyMaps (staled subnet) hops.old hops.new) }
 {
     while let Some(hop) = first_with(held, subnet) {
-        note_stale(stale, hop);
+        stale.insert(hop)?;
         make_stale(hops, hop);
         held.remove(&Holding { subnet, hop });
     }
+    Ok(())
 }
 
 // Puts each fresh answer in force.

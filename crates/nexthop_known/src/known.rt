@@ -3,15 +3,14 @@
 ghost use Rattle.std.specs.Prelude.{◌≡◌, true, OnOk, OnErr, IsNone, IsSome, MatchBool};
 ghost use Rattle.std.specs.Option.{option_map};
 ghost use Rattle.std.specs.FinMap as map;
-ghost use Rattle.nexthop_known.specs.Hops.{learnt, staled, settled, is_stale_at, IsMapped, IsLeastStale, IsSettled, IsSettledAt, IsDiffering, IsDifferingAt, IsGivenUp, IsRenewed, IsWithSome, IsWithNone};
+ghost use Rattle.nexthop_known.specs.Hops.{learnt, staled, settled, is_stale_at, IsMapped, IsPartlyMapped, IsLeastStale, IsSettled, IsSettledAt, IsDiffering, IsDifferingAt, IsGivenUp, IsRenewed, IsWithSome, IsWithNone};
 
 use crate::answer::{Answer, Hop};
 use crate::index::{
     Holding, first_with, fresh_of, in_force_of, in_force_or, is_stale, make_all_stale, mark, put,
     put_all_in_force, take_out, unmark, unshared,
 };
-use addr4::{Addr, Memory, Place, Prefix};
-use prefix_trie::Trie;
+use addr4::{Addr, Memory, Prefix};
 use std::alloc::Global;
 use std::collections::{BTreeMap, BTreeSet};
 use std::marker::Model;
@@ -22,8 +21,8 @@ use std::marker::Model;
 #[derive(Drop)]
 pub struct Known<A> {
     hops: BTreeMap<Addr, Hop<A>>,
-    // Those whose answer is stale, each as the prefix of its address alone. There is room in it for those that are held.
-    stale: Trie<()>,
+    // Those whose answer is stale.
+    stale: BTreeSet<Addr>,
     // Those whose fresh answer differs from the one in force.
     differing: BTreeSet<Addr>,
     // Those whose answer isn't stale, by the subnet with which it came.
@@ -52,7 +51,7 @@ impl<A: Answer> Known<A> {
     {
         Known {
             hops: BTreeMap::new(alloc),
-            stale: Trie::new(alloc),
+            stale: BTreeSet::new(alloc),
             differing: BTreeSet::new(alloc),
             held: BTreeSet::new(alloc),
         }
@@ -142,11 +141,13 @@ impl<A: Answer> Known<A> {
         first_with(&self.held, subnet).is_some()
     }
 
-    /// Makes stale the known next hops whose answer came with the subnet. Takes no memory.
-    pub fn stale(&mut self, subnet: Prefix)
-        ensures { IsMapped (staled subnet) self.old self.new }
+    /// Makes stale the known next hops whose answer came with the subnet. For want of memory some of them are stale, and the
+    /// others as they were.
+    pub fn stale(&mut self, subnet: Prefix) -> Result<(), Memory>
+        ensures ok { OnOk result (IsMapped (staled subnet) self.old self.new) }
+        ensures err { OnErr result (IsPartlyMapped (staled subnet) self.old self.new) }
     {
-        make_all_stale(&mut self.hops, &mut self.stale, &mut self.held, subnet);
+        make_all_stale(&mut self.hops, &mut self.stale, &mut self.held, subnet)
     }
 
     /// Whether the next hop is known and stale.
@@ -163,9 +164,9 @@ impl<A: Answer> Known<A> {
     pub fn next_stale(&self) -> Option<Addr>
         ensures { IsLeastStale (map.get self.now) result }
     {
-        match self.stale.next_after(Place::Before) {
+        match self.stale.first() {
             None => None,
-            Some(host) => Some(host.address()),
+            Some(hop) => Some(*hop),
         }
     }
 

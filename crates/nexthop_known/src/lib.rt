@@ -7,13 +7,12 @@
 //! again. Where no answer is stale and some fresh one differs from the one in force, it lets all come into force at once.
 //!
 //! What is kept true: a next hop that isn't stale stands in an index under the subnet with which its fresh answer came, and one
-//! that is stale in a trie, as the prefix of its address alone; those whose two answers differ are in a set. So no call looks
-//! at all known next hops. To learn, answer anew, forget or find one takes a time that grows with the logarithm of their
-//! number, beside what the trie takes where it is moved to more room; to make a subnet's stale, as much for each whose answer
-//! came with it; and to settle, as much for each that differs.
+//! that is stale in a set; those whose two answers differ are in another. So no call looks at all known next hops. To learn,
+//! answer anew, forget or find one takes a time that grows with the logarithm of their number; to make a subnet's stale, as much
+//! for each whose answer came with it; and to settle, as much for each that differs.
 //!
-//! Only [`learn`](Known::learn) and [`fresh`](Known::fresh) take memory, and for want of it they change nothing. They also make
-//! room in the trie: it has enough for each next hop that isn't stale, so that [`stale`](Known::stale) can't fail.
+//! Only [`learn`](Known::learn), [`fresh`](Known::fresh) and [`stale`](Known::stale) take memory. For want of it the first two
+//! change nothing; the third stops between two next hops, of which some are stale then and the others as they were.
 //!
 //! Contracts see one finite map from addresses to [`Hop`], and say nothing of the sets. The resolver uses this crate, with a
 //! value that is an [`Answer`]: what it needs of the interior route that holds a next hop.

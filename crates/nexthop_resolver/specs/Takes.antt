@@ -6,7 +6,7 @@ use Rattle.link_change.specs.Rows.{Rows}
 use Rattle.link_change.specs.Changes.{IsSent}
 use Rattle.link_change.specs.declared.change.Change.{Change}
 use Rattle.nexthop_known.specs.declared.answer.Hop.{Hop}
-use Rattle.nexthop_known.specs.Hops.{Hops, IsMapped, staled}
+use Rattle.nexthop_known.specs.Hops.{Hops, IsMapped, IsPartlyMapped, staled}
 use Rattle.nexthop_known.specs.Counts.{AreCounted, Recounts}
 use Rattle.nexthop_resolver.specs.Resolving.{Resolving, named_by, res_rows}
 
@@ -43,6 +43,13 @@ module _ {A : Type 0} where
     pub walk : new.walk ≡ old.walk
     pub counts : new.counts ≡ old.counts
     pub known : IsMapped (staled s) old.known new.known
+
+  -- some of the answers that came with the subnet are stale, and all else is as it was
+  pub record PartlyInvalidates (s : Network) (old new : Resolving A) : Type 0 where
+    pub client : new.client ≡ old.client
+    pub walk : new.walk ≡ old.walk
+    pub counts : new.counts ≡ old.counts
+    pub known : IsPartlyMapped (staled s) old.known new.known
 
 module _ {A R L : Type 0} (hop : R → ℕ) (made : R → A → Option L) where
   -- The next hops of the rows above are counted, and the rows below led from the old ones to the new ones.

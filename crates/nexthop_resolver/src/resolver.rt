@@ -9,7 +9,7 @@ ghost use Rattle.pass_core.specs.Passed.{function_at};
 ghost use Rattle.pass_core.specs.Turns.{passed};
 ghost use Rattle.nexthop_resolver.specs.Resolving.{AreNamed, nothing_known, in_force_by, fresh_by, passes, made_by, goes_on, resolved, res_rows, at_place, is_in_force};
 ghost use Rattle.nexthop_resolver.specs.Registered.{Agrees, KeepsOthers, told_of};
-ghost use Rattle.nexthop_resolver.specs.Takes.{Moves, Keeps, KeepsOnly, Invalidates, TakesIn};
+ghost use Rattle.nexthop_resolver.specs.Takes.{Moves, Keeps, KeepsOnly, Invalidates, PartlyInvalidates, TakesIn};
 ghost use Rattle.nexthop_resolver.specs.Left.{TellsAlike, hop_lags};
 ghost use Rattle.nexthop_resolver.specs.Turns.{Rests, HasWork, IsStep, IsTurn};
 
@@ -142,11 +142,14 @@ impl<A: FromMatch> Resolver<A> {
         self.known.differs_at(hop)
     }
 
-    /// The answers that came with the subnet are stale: the register gave up the interest in it. Takes no memory.
-    pub fn invalidate(&mut self, subnet: Prefix)
-        ensures { Invalidates subnet self.old self.new }
+    /// The answers that came with the subnet are stale: the register gave up the interest in it. For want of memory some of them
+    /// are stale, and the others as they were.
+    pub fn invalidate(&mut self, subnet: Prefix) -> Result<(), Memory>
+        ensures stale { OnOk result (Invalidates subnet self.old self.new) }
+        ensures memory { OnErr result (PartlyInvalidates subnet self.old self.new) }
     {
-        self.known.stale(subnet);
+        self.known.stale(subnet)?;
+        Ok(())
     }
 
     // What a row goes on as by the answers in force.

@@ -1,6 +1,6 @@
 //! What comes from above, and from the register; and turns of background work.
 
-ghost use Rattle.std.specs.Prelude.{◌≡◌, IfOk, OnErr};
+ghost use Rattle.std.specs.Prelude.{◌≡◌, IfOk, OnOk, OnErr};
 ghost use Rattle.nexthop_resolver.specs.Registered.{KeepsOthers};
 ghost use Rattle.journal_text.specs.Journals.{Adds};
 ghost use Rattle.rib_exit.specs.Exits.{IsExit, AgreesWith};
@@ -71,27 +71,32 @@ impl RibExit {
     }
 
     /// The register gave up these interests with a change of the interior routes: the answers that came with those of the
-    /// exit are stale. No row changes, and nothing is said. Takes no memory.
-    pub fn reach(&mut self, reached: &[Interest])
+    /// exit are stale. No row changes, and nothing is said. For want of memory only some of them are stale, and the rows of
+    /// `ebgp` and `ibgp` are as they were.
+    pub fn reach(&mut self, reached: &[Interest]) -> Result<(), Memory>
         requires sound { IsExit self.old }
-        ensures { ReachesExit reached.now self.old self.new }
+        ensures stale { OnOk result (ReachesExit reached.now self.old self.new) }
+        ensures memory { OnErr result (self.new.splitter ≡ self.old.splitter) }
     {
         for interest in reached {
             let own = interest.client == 0;
             if own {
-                self.invalidate(interest.subnet);
+                self.invalidate(interest.subnet)?;
             }
         }
+        Ok(())
     }
 
     /// The answers that came with the subnet are stale: the register gave up the interest in it. No row changes, and nothing
-    /// is said. Takes no memory.
-    pub fn invalidate(&mut self, subnet: Prefix)
+    /// is said. For want of memory only some of them are stale, and the rows of `ebgp` and `ibgp` are as they were.
+    pub fn invalidate(&mut self, subnet: Prefix) -> Result<(), Memory>
         requires sound { IsExit self.old }
-        ensures { Stales subnet self.old self.new }
+        ensures stale { OnOk result (Stales subnet self.old self.new) }
+        ensures memory { OnErr result (self.new.splitter ≡ self.old.splitter) }
     {
-        self.forwarding.invalidate(subnet);
+        self.forwarding.invalidate(subnet)?;
         self.forwarding.are_named();
+        Ok(())
     }
 
     /// One turn of the task `ext` (`ExtInt::unit`): a walk goes to the next candidate of `ext`, or ends; else the least stale

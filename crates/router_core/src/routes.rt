@@ -201,8 +201,8 @@ impl Network {
         ensures { OnOk result (Informs change.now self.old self.new) }
     {
         let reached = register(&mut self.registry, self.alloc, change)?;
-        self.hops.reach(reached.as_slice());
-        self.rib.reach(reached.as_slice());
+        self.hops.reach(reached.as_slice())?;
+        self.rib.reach(reached.as_slice())?;
         Ok(())
     }
 

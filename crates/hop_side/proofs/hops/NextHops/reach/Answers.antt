@@ -2,7 +2,8 @@ use Rattle.std.proofs.Common.{List, take, ◌++◌, ◌∷◌, [], sym, ap, subs
 use Rattle.std.proofs.lemmas.List.{take_all, take_more}
 use Rattle.register_interest.specs.declared.interests.Interest.{Interest}
 use Rattle.hop_side.specs.Steps.{AllReached}
-use Rattle.hop_side.proofs.ReachLemmas.{none_reached, one_more_reached, reaches_below}
+use Rattle.hop_side.proofs.ReachLemmas.{none_reached, one_more_reached, same_peers, reaches_below}
+use Rattle.hop_side.proofs.StepLemmas.{on_err}
 use Rattle.hop_side.proofs.hops.NextHops.reach.Goals as goal
 
 pub loop-interest-init : goal.loop-interest-init
@@ -15,10 +16,14 @@ loop-interest-preserved c =
     let i = c.interest-item.result in
     subst (λ (l : List Interest). AllReached l c.args.self.now c.reach_one.new.self)
     (sym (take_more out n i c.loop-interest-test.true ∙ ap (λ (x : Interest). take n out ++ x ∷ []) (sym c.interest-item.is)))
-    (one_more_reached (take n out) i c.args.self.now c.loop-interest.self c.reach_one.new.self c.loop-interest.invariant c.reach_one.ensures)
+    (one_more_reached (take n out) i c.args.self.now c.loop-interest.self c.reach_one.new.self c.loop-interest.invariant c.in_ok-reach_one.ensures.stale)
 
-pub returns : goal.returns
-returns c =
+pub returns-in_err-reach_one-clause-memory : goal.returns-in_err-reach_one-clause-memory
+returns-in_err-reach_one-clause-memory c =
+    on_err c.from_residual.result _ (same_peers (take c.loop-interest.interest-index c.args.reached.now) c.args.self.now c.loop-interest.self c.reach_one.new.self c.loop-interest.invariant c.in_err-reach_one.ensures.memory)
+
+pub returns-clause-stale : goal.returns-clause-stale
+returns-clause-stale c =
     let out = c.args.reached.now in
     let a = c.args.self.now in
     let b = c.loop-interest.self in

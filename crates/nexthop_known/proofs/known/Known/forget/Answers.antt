@@ -12,5 +12,5 @@ returns-clause-removed g c = map_removed nat_cmp_total nat_cmp-IsAntisymmetric c
 
 pub returns-clause-answer : goal.returns-clause-answer
 returns-clause-answer g c = λ h e.
-    freed c.take_out-came.new.hops c.take_out-came.new.stale.rows c.take_out-came.new.held h.came c.unshared.result c.take_out-came.ensures.tied
+    freed c.take_out-came.new.hops c.take_out-came.new.stale c.take_out-came.new.held h.came c.unshared.result c.take_out-came.ensures.tied
     (subst (λ (x : Option Network). IsFreed c.take_out-came.new.held x c.unshared.result) (c.take_out-came.ensures.came ∙ came_of_known c.self.inside.hops c.args.self.now c.args.hop h c.self.view_is e) c.unshared.ensures)

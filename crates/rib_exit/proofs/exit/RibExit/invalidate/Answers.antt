@@ -1,5 +1,5 @@
 use Rattle.rib_exit.proofs.ReachLemmas.{stales}
 use Rattle.rib_exit.proofs.exit.RibExit.invalidate.Goals as goal
 
-pub returns : goal.returns
-returns c = stales c.args.subnet c.args.self.now c.invalidate.new.self c.requires.sound c.invalidate.ensures c.are_named.ensures
+pub returns-clause-stale : goal.returns-clause-stale
+returns-clause-stale c = stales c.args.subnet c.args.self.now c.invalidate.new.self c.requires.sound c.in_ok-invalidate.ensures.stale c.are_named.ensures
