@@ -10,9 +10,9 @@
 //!
 //! What is kept true: each address of a kept interest's subnet has the match that was answered. The rows lie in std's map, by
 //! address and then length. The longest match is the last row at or before the prefix of the address with all bits, or else
-//! with as many as the address shares with that row, and so on: a look-up for each row that is in the way. The subnet takes at
-//! most six, since a longer prefix of the address is free where a shorter one is. A change looks up each shorter prefix of its
-//! own and what lies within it, and goes through no other interests.
+//! with as many as the address shares with that row, and so on: at most one look-up more than the address has bits that are 1.
+//! The subnet takes at most six, since a longer prefix of the address is free where a shorter one is. A change looks up each
+//! shorter prefix of its own and what lies within it, and goes through no other interests.
 #![tactic(auto)]
 
 mod interests;
