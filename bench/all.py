@@ -137,7 +137,7 @@ def work_of_exits(asked, _):
 def work_of_tables(asked, _):
     """Each step of the tables: the difference of two runs, the second of which does one step more."""
     with open(os.devnull, 'rb') as nothing:
-        for kind in ('trie', 'table', 'map'):
+        for kind in ('table', 'map'):
             for size in asked.sizes:
                 before = {'least': 0, 'seconds': 0}
                 for steps, step in enumerate(STEPS, 1):
@@ -149,7 +149,7 @@ def work_of_tables(asked, _):
 # the rows of parts of the program: their names, whether they are of `replay` or of `bench_rows`, and what measures them
 PARTS = [(['check'], 'replay_main', work_of_check), (['unread', 'read', 'gone'], 'replay_main', work_of_queue),
          (['gen'], 'replay_main', work_of_gen), (['messages'], 'bench_rows', work_of_messages),
-         (['%s: %s' % (kind, step) for kind in ('trie', 'table', 'map') for step in STEPS], 'bench_rows', work_of_tables),
+         (['%s: %s' % (kind, step) for kind in ('table', 'map') for step in STEPS], 'bench_rows', work_of_tables),
          (['queue', 'octets'], 'bench_rows', work_of_exits)]
 NAMES = list(ROWS) + [name for names, _, _ in PARTS for name in names]
 

@@ -1,6 +1,6 @@
 //! Measures the decision: changes of branches at random prefixes, each decided over all branches.
 //!
-//! Either they only change the branches' tries, or each change is decided too: the difference of both in time is the
+//! Either they only change the branches' tables, or each change is decided too: the difference of both in time is the
 //! decision's. What is measured: how many changes of the best route were sent, and a checksum of them.
 
 mod branches;
@@ -10,10 +10,10 @@ use addr4::{Addr, Memory, Prefix, Row};
 use bgp_attr::{
     AsPath, Attrs, Neighbour, Origin, Reflection, Route, SharedAttrs, UnrecognizedAttrs,
 };
-use branches::TrieBranches;
+use branches::TableBranches;
 use decision::take_in;
 use link_change::Change;
-use prefix_trie::Trie;
+use safe_table::Table;
 use std::alloc::Global;
 
 /// How many different attributes the routes of all peers have.
@@ -81,17 +81,17 @@ fn row_of(number: u64, branch: u8, kinds: &[SharedAttrs]) -> Result<Option<Route
 
 // Sets the row of a branch at a prefix, and answers the one before.
 fn set(
-    all: &mut TrieBranches,
+    all: &mut TableBranches,
     branch: u8,
     prefix: Prefix,
     row: Option<Route>,
 ) -> Result<Option<Route>, Memory> {
-    let Some(trie) = all.tries.get_mut(usize::from(branch)) else {
+    let Some(table) = all.tables.get_mut(usize::from(branch)) else {
         return Ok(None);
     };
     match row {
-        Some(route) => trie.insert(prefix, route).map_err(|_| Memory),
-        None => Ok(trie.remove(prefix)),
+        Some(route) => table.insert(prefix, route),
+        None => Ok(table.remove(prefix)),
     }
 }
 
@@ -102,10 +102,10 @@ fn sum_of(change: &Change<Route>) -> u64 {
     }
 }
 
-// One change: the branch's trie, and the decision over all.
+// One change: the branch's table, and the decision over all.
 fn step(
     alloc: Global,
-    all: &mut TrieBranches,
+    all: &mut TableBranches,
     kinds: &[SharedAttrs],
     number: u64,
     work: &Work,
@@ -132,11 +132,11 @@ pub(crate) fn run(alloc: Global, work: &Work) -> Result<Measured, Memory> {
     for kind in 0..KINDS {
         kinds.push(attrs_of(alloc, kind)?)?;
     }
-    let mut tries = Vec::new(alloc);
+    let mut tables = Vec::new(alloc);
     for _ in 0..work.branches {
-        tries.push(Trie::new(alloc))?;
+        tables.push(Table::new(alloc))?;
     }
-    let mut all = TrieBranches { tries };
+    let mut all = TableBranches { tables };
     let mut measured = Measured { count: 0, sum: 0 };
     for index in 0..work.changes {
         let sum = step(alloc, &mut all, kinds.as_slice(), mixed(index), work)?;

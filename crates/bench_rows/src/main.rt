@@ -3,7 +3,7 @@
 //! | Words | What is measured |
 //! |---|---|
 //! | `messages` | reading the messages of an event file, which comes on standard input |
-//! | `trie N STEPS`, `table N STEPS`, `map N STEPS` | the tables, with N prefixes, up to that step of the work |
+//! | `table N STEPS`, `map N STEPS` | the tables, with N prefixes, up to that step of the work |
 //! | `queue N`, `octets N` | N changes in the queue with its readers; N announcements to a peer |
 //! | `decide B N C`, `feed B N C` | C changes of B branches at N prefixes, decided or only stored |
 //!
@@ -46,7 +46,7 @@ fn print_decisions(rt: &HostRuntime, work: &Work) -> anyhow::Result<()> {
 /// A little of each.
 fn print_each(rt: &HostRuntime) -> anyhow::Result<()> {
     print(rt, messages::measured(rt)?)?;
-    for kind in ["trie", "table", "map"] {
+    for kind in ["table", "map"] {
         print_tables(rt, kind, 1000, 5)?;
     }
     for kind in ["queue", "octets"] {

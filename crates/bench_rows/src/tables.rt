@@ -1,14 +1,12 @@
-//! Measures the tables: the same work on a trie, on a table and on an ordered map.
+//! Measures the tables: the same work on a table and on an ordered map.
 //!
-//! `trie`, `table` or `map`, a number of prefixes, and how many of the steps are done: 1 puts, 2 gets, 3 longest matches (of
-//! a table: gets again), 4 a walk over all rows during which others are removed, before and behind, 5 removals. The checksum
-//! is the same for a trie and a map.
+//! `table` or `map`, a number of prefixes, and how many of the steps are done: 1 puts, 2 gets, 3 longest matches (of a table:
+//! gets again), 4 a walk over all rows during which others are removed, before and behind, 5 removals.
 
 mod stores;
 
 use crate::measured::mixed;
 use addr4::{Addr, Memory, Prefix};
-use prefix_trie::Trie;
 use safe_table::Table;
 use std::alloc::Global;
 use std::collections::BTreeMap;
@@ -76,11 +74,6 @@ fn run<S: Store>(store: &mut S, count: u64, steps: u64) -> Result<u64, Memory> {
     Ok(sum)
 }
 
-fn sum_in_trie(alloc: Global, count: u64, steps: u64) -> Result<u64, Memory> {
-    let mut trie = Trie::new(alloc);
-    run(&mut trie, count, steps)
-}
-
 fn sum_in_table(alloc: Global, count: u64, steps: u64) -> Result<u64, Memory> {
     let mut table = Table::new(alloc);
     run(&mut table, count, steps)
@@ -93,7 +86,6 @@ fn sum_in_map(alloc: Global, count: u64, steps: u64) -> Result<u64, Memory> {
 
 pub(crate) fn sum_in(alloc: Global, kind: &str, count: u64, steps: u64) -> Result<u64, Memory> {
     match kind {
-        "trie" => sum_in_trie(alloc, count, steps),
         "table" => sum_in_table(alloc, count, steps),
         _ => sum_in_map(alloc, count, steps),
     }

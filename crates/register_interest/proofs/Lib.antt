@@ -1,5 +1,8 @@
 pub mod CoverLemmas
 pub mod OrderLemmas
+pub mod SharedLemmas
+pub mod DescentLemmas
+pub mod MapOrderLemmas
 pub mod SearchLemmas
 pub mod ListLemmas
 pub mod InterestLemmas

@@ -1,12 +1,15 @@
 -- The order of prefixes, and what a prefix covers in it.
-use Rattle.std.proofs.Common.{◌≡◌, ◌⊎◌, ℕ, ◌+◌, ◌-◌, ◌*◌, ◌%◌, ◌^◌, ◌<◌, ◌≤◌, ◌∙◌, sym, ap, subst, inl, inr, arith}
+use Rattle.std.proofs.Common.{◌≡◌, ◌⊎◌, ℕ, true, false, ◌+◌, ◌-◌, ◌*◌, ◌%◌, ◌^◌, ◌<◌, ◌≤◌, ◌∙◌, sym, ap, subst, inl, inr, arith}
 use Rattle.std.proofs.lemmas.Nat.{mod-mul-add}
 use Rattle.std.proofs.lemmas.Bool.{cases_lt, cases_order}
 use Rattle.std.proofs.lemmas.Bool.Decides.{nat_tests}
-use Rattle.prefix_trie.proofs.Views.{in_everything}
+use Rattle.std.specs.Cmp.{tied_itself}
+use Rattle.std.specs.Ordering.{is_gt}
+use Rattle.std.specs.BTreeMap.Range.{IsLeBy}
 use Rattle.addr4.specs.Blocks.{size_of_length}
-use Rattle.addr4.specs.Prefixes.{Network, ComesBefore, IsMasked, Covers, Holds}
-use Rattle.addr4.proofs.BlockLemmas.{size_pos, covers_from_holds, covers_length, covers_holds}
+use Rattle.addr4.specs.Prefixes.{Network, prefix_cmp, ComesBefore, IsMasked, Covers, Holds}
+use Rattle.addr4.proofs.BlockLemmas.{apart, size_pos, size_splits, covers_from_holds, covers_length, covers_holds}
+use Rattle.addr4.proofs.PrefixOrder.{prefixes_total, comes_after}
 use Rattle.register_interest.proofs.CoverLemmas.{nested}
 
 pub before_address : (p q : Network) → ComesBefore p q → p.address ≤ q.address
@@ -35,6 +38,20 @@ not_itself p q h e =
     let a : p.address ≡ q.address = ap (λ (x : Network). x.address) e in
     let l : p.length ≡ q.length = ap (λ (x : Network). x.length) e in
     let lt = before_length p q h a in omega arith
+
+-- at or before another
+pub cases_up_to : (p q : Network) → IsLeBy prefix_cmp p q → (p ≡ q) ⊎ ComesBefore p q
+cases_up_to p q h = elim (cases_before p q) [
+  | inl before ↦ inr before
+  | inr o ↦ elim o [
+    | inl same ↦ inl same
+    | inr after ↦ absurd (let clash : true ≡ false = sym (comes_after q p after) ∙ h in cc)
+  ]
+]
+
+pub up_to : (p q : Network) → (p ≡ q) ⊎ ComesBefore p q → IsLeBy prefix_cmp p q
+up_to p q (inl same) = subst (λ (x : Network). IsLeBy prefix_cmp p x) same (ap is_gt (tied_itself prefixes_total p))
+up_to p q (inr before) = ap is_gt before
 
 -- a prefix that the subnet covers is the subnet, or comes after it
 pub inside : (w a : ℕ) (s q : Network) → IsMasked w s → IsMasked w q → Covers w s q → (s ≡ q) ⊎ ComesBefore s q
@@ -66,11 +83,21 @@ between w s k q ms mk c sk kq =
       | inr le ↦ covers_from_holds w s k ms mk le here
     ]
 
+-- a prefix ends within its family
+ends_within : (w : ℕ) (p : Network) → IsMasked w p → p.address < 2 ^ w → p.address + size_of_length w p.length ≤ 2 ^ w
+ends_within w p mp fits =
+    let t = size_of_length w p.length in
+    let z : p.length - 0 ≡ p.length = omega arith in
+    let none : w ≡ w - 0 = omega arith in
+    let all : 2 ^ w ≡ 2 ^ p.length * t = ap (λ n. 2 ^ n) none ∙ size_splits w 0 p.length (omega arith) mp.0 ∙ ap (λ k. 2 ^ k * t) z in
+    let e : 2 ^ w ≡ 2 ^ p.length * t + 0 = omega arith in
+    apart t p.address (2 ^ w) mp.1 (ap (λ y. y % t) e ∙ mod-mul-add (2 ^ p.length) t 0 (size_pos w p.length)) fits
+
 -- the last address of an IPv4 prefix is one of 32 bits
 pub last_fits : (p : Network) (n : ℕ) → IsMasked 32 p → p.address < 2 ^ 32 → n ≡ p.length → (1 * 2 ^ (32 - n) % 18446744073709551616 ≡ 2 ^ (32 - n)) × (p.address + 2 ^ (32 - n) ≤ 2 ^ 32) × (1 ≤ 2 ^ (32 - n))
 last_fits p n mp fits e =
     let s = size_of_length 32 n in
-    let all : p.address + size_of_length 32 p.length ≤ 2 ^ 32 = (in_everything 32 p mp fits).to in
+    let all : p.address + size_of_length 32 p.length ≤ 2 ^ 32 = ends_within 32 p mp fits in
     let here : p.address + s ≤ 2 ^ 32 = subst (λ (k : ℕ). p.address + size_of_length 32 k ≤ 2 ^ 32) (sym e) all in
     let one : 1 * s ≡ s = omega arith in
     (ap (λ k. k % 18446744073709551616) one ∙ (let below : s < 18446744073709551616 = omega (arith, here) in let whole : s ≡ 0 * 18446744073709551616 + s = omega arith in ap (λ k. k % 18446744073709551616) whole ∙ mod-mul-add 0 18446744073709551616 s below), here, size_pos 32 n)

@@ -1,15 +1,13 @@
 -- Which prefixes of an address are free for its match.
 use Rattle.std.proofs.Common.{◌≡◌, ◌↔◌, IsTrue, ℕ, ◌+◌, ◌<◌, ◌≤◌, Bool, true, false, not, Option, Some, None, IsSome, is_some, refl, sym, ap, ◌∙◌, subst, inl, inr, arith}
 use Rattle.std.proofs.lemmas.Bool.{cases_lt, cases_eq}
-use Rattle.std.specs.FinMap.{FinMap, get}
-use Rattle.addr4.specs.Prefixes.{Network, prefix_cmp, ComesBefore, IsMasked, Covers, Overlaps, Holds, block}
+use Rattle.addr4.specs.Prefixes.{Network, ComesBefore, IsMasked, Covers, Overlaps, Holds, block}
 use Rattle.addr4.specs.Places.{IsNextRow}
 use Rattle.addr4.proofs.BlockLemmas.{size_pos, covers_length, covers_holds}
 use Rattle.link_change.specs.Rows.{Rows}
-use Rattle.prefix_trie.specs.Contents.{IsLongestFor}
 use Rattle.register_interest.specs.Covers.{longest, IsLongest, matched, IsFree, IsSubnet}
 use Rattle.register_interest.specs.Search.{IsBeneath, IsNoneBelow, length_of}
-use Rattle.register_interest.proofs.CoverLemmas.{block_masked, block_holds, block_is, one_of_length, nested, overlap_of_two, held_by_cover, longest_is, longest_from}
+use Rattle.register_interest.proofs.CoverLemmas.{block_masked, block_holds, block_is, one_of_length, nested, overlap_of_two, held_by_cover, longest_is}
 use Rattle.register_interest.proofs.OrderLemmas.{cases_before, not_itself, inside, between}
 
 -- ---- free subnets
@@ -117,22 +115,6 @@ first_free w rows a n m le none free = record {
 -- no prefix shorter than the match is free
 none_below_match : {V : Type 0} (w : ℕ) (rows : Rows V) (a : ℕ) (m : Network) → IsMasked w m → IsNoneBelow w rows a (Some m) m.length
 none_below_match w rows a m mm = λ k lt free. let le = free_beneath w rows m (block w a k) mm free in omega arith
-
--- ---- the longest row of a trie
-
-no_row : {V : Type 0} (o : Option V) → (IsSome o → ⊥) → o ≡ None
-no_row None out = refl
-no_row (Some v) out = absurd (out refl)
-
-from_trie : {V : Type 0} (w : ℕ) (rows : FinMap prefix_cmp V) (a : ℕ) (r : Option (Network × V)) → IsLongestFor w rows a r → ((k : Network × V) → r ≡ Some k → IsMasked w k.0) → IsLongest w (get rows) a r
-from_trie w rows a None is masked = λ q mq hq. no_row (get rows q) (λ has. is q has hq)
-from_trie w rows a (Some r) is masked = (masked r refl, is.1, is.0, λ q mq hq long. no_row (get rows q) (λ has. let le = is.2 q has hq in omega arith))
-
-pub longest_none : {V : Type 0} (w : ℕ) (rows : FinMap prefix_cmp V) (a : ℕ) → IsLongestFor w rows a None → None ≡ longest w (get rows) a
-longest_none w rows a is = longest_from w (get rows) a None (from_trie w rows a None is (λ k e. absurd (cc)))
-
-pub longest_some : {V : Type 0} (w : ℕ) (rows : FinMap prefix_cmp V) (a : ℕ) (p : Network) (v : V) → IsLongestFor w rows a (Some (p, v)) → IsMasked w p → Some (p, v) ≡ longest w (get rows) a
-longest_some w rows a p v is mp = longest_from w (get rows) a (Some (p, v)) (from_trie w rows a (Some (p, v)) is (λ k e. let same : (p, v) ≡ k = cc in subst (λ (x : Network). IsMasked w x) (ap (λ (x : Network × _). x.0) same) mp))
 
 -- ---- the search by halves
 

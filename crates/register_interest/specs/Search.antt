@@ -1,8 +1,30 @@
--- The search for the largest subnet.
-use Rattle.std.specs.Prelude.{ℕ, ◌≤◌, ◌<◌, Option, Some, None}
-use Rattle.addr4.specs.Prefixes.{Network, block}
+-- The rows in order, the descent to the longest row, and the search for the largest subnet.
+use Rattle.std.specs.Prelude.{◌≡◌, ◌≢◌, ℕ, ◌-◌, ◌/◌, ◌^◌, ◌≤◌, ◌<◌, Option, Some, None}
+use Rattle.std.specs.BTreeMap.{BTreeMap}
+use Rattle.std.specs.BTreeMap.Range.{IsLeBy}
+use Rattle.std.specs.FinMap.{FinMap, from_entries}
+use Rattle.addr4.specs.Prefixes.{Network, prefix_cmp, ComesBefore, IsMasked, Holds, block}
 use Rattle.link_change.specs.Rows.{Rows}
 use Rattle.register_interest.specs.Covers.{IsFree}
+
+-- the rows of std's map
+abbrev pub rows_in : {V : Type 0} → BTreeMap Network V → FinMap prefix_cmp V
+rows_in m = from_entries m.entries
+
+-- the answer is the last row at or before the bound, with its prefix
+abbrev pub IsLastTo : {V : Type 0} → Rows V → Network → Option (Network × V) → Type 0
+IsLastTo rows bound None = (q : Network) → IsLeBy prefix_cmp q bound → rows q ≡ None
+IsLastTo rows bound (Some r) = IsLeBy prefix_cmp r.0 bound × (rows r.0 ≡ Some r.1) × ((q : Network) → IsLeBy prefix_cmp q bound → ComesBefore r.0 q → rows q ≡ None)
+
+-- the first n bits of two numbers are the same, and the next differs
+pub record Shared (width : ℕ) (a b n : ℕ) : Type 0 where
+  pub below : n < width
+  pub same : a / 2 ^ (width - n) ≡ b / 2 ^ (width - n)
+  pub differ : a / 2 ^ (width - 1 - n) ≢ b / 2 ^ (width - 1 - n)
+
+-- no row of more than n bits holds the address
+abbrev pub IsNoneAbove : {V : Type 0} → ℕ → Rows V → ℕ → ℕ → Type 0
+IsNoneAbove width rows a n = (q : Network) → IsMasked width q → Holds width q a → n < q.length → rows q ≡ None
 
 -- how many bits the match has, or none
 abbrev pub length_of : Option Network → ℕ

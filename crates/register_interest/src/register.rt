@@ -7,12 +7,13 @@ ghost use Rattle.register_interest.specs.Covers.{matched, IsCover};
 ghost use Rattle.register_interest.specs.Interests.{AreReached, without};
 ghost use Rattle.register_interest.specs.Matches.{match_of, lent_match};
 ghost use Rattle.register_interest.specs.Registers.{AllStand, KeepsAnswers, put_row};
+ghost use Rattle.register_interest.specs.Search.{rows_in};
 
 use crate::interests::{Interest, Interests};
 use crate::search::{largest_subnet, longest_row};
 use addr4::{Addr, Memory, Prefix, Row};
-use prefix_trie::Trie;
 use std::alloc::Global;
+use std::collections::BTreeMap;
 use std::marker::Model;
 
 /// A row with its prefix.
@@ -27,20 +28,21 @@ pub struct Match<R> {
 /// Contracts see the rows, a finite map, and the interests, a finite map from subnet and client to the prefix of the match.
 #[derive(Drop)]
 pub struct Register<R> {
-    rows: Trie<R>,
+    rows: BTreeMap<Prefix, R>,
     interests: Interests,
 }
 
 impl<R> Model for Register<R> {
     ghost use Rattle.register_interest.specs.Registers.{Registry, AllStand, registry_code};
+    ghost use Rattle.register_interest.specs.Search.{rows_in};
 
     ghost Value = { Registry R };
 
     ghost coded = { registry_code R.code };
 
-    ghost view = { λ a. record { rows = a.rows.rows; interests = a.interests } };
+    ghost view = { λ a. record { rows = rows_in a.rows; interests = a.interests } };
 
-    ghost invariant = { λ a. AllStand (record { rows = a.rows.rows; interests = a.interests }) };
+    ghost invariant = { λ a. AllStand (record { rows = rows_in a.rows; interests = a.interests }) };
 }
 
 // The prefix of a match.
@@ -67,20 +69,23 @@ fn copied<R: Row>(found: &Option<(Prefix, &R)>) -> Result<Option<Match<R>>, Memo
 }
 
 // Puts the row at a prefix, or takes it out.
-fn set_row<R: Drop>(rows: &mut Trie<R>, prefix: Prefix, new: Option<R>) -> Result<(), Memory>
-    ensures ok { OnOk result (rows.new.rows ≡ put_row rows.old.rows prefix new) }
-    ensures err { OnErr result (rows.new.rows ≡ rows.old.rows) }
+fn set_row<R: Drop>(
+    rows: &mut BTreeMap<Prefix, R>,
+    prefix: Prefix,
+    new: Option<R>,
+) -> Result<(), Memory>
+    ensures ok { OnOk result (rows_in rows.new ≡ put_row (rows_in rows.old) prefix new) }
+    ensures err { OnErr result (rows_in rows.new ≡ rows_in rows.old) }
 {
     match new {
-        Some(row) => match rows.insert(prefix, row) {
-            Ok(_before) => Ok(()),
-            Err(_row) => Err(Memory),
-        },
+        Some(row) => {
+            rows.insert(prefix, row)?;
+        }
         None => {
-            rows.remove(prefix);
-            Ok(())
+            rows.remove(&prefix);
         }
     }
+    Ok(())
 }
 
 impl<R: Row> Register<R> {
@@ -90,7 +95,7 @@ impl<R: Row> Register<R> {
         ensures interests { result.interests ≡ map.empty }
     {
         Register {
-            rows: Trie::new(alloc),
+            rows: BTreeMap::new(alloc),
             interests: Interests::new(alloc),
         }
     }
@@ -100,13 +105,6 @@ impl<R: Row> Register<R> {
         ensures { AllStand self.now }
     {
         let _rows = &self.rows;
-    }
-
-    /// The interior rows.
-    pub fn rows(&self) -> &Trie<R>
-        ensures { result.now.rows ≡ self.now.rows }
-    {
-        &self.rows
     }
 
     /// The longest row that holds the address, and the largest subnet with that answer.

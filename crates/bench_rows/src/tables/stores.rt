@@ -1,8 +1,7 @@
 //! What is measured: rows by prefix.
 
 use crate::tables::prefix_at;
-use addr4::{Addr, Memory, Place, Prefix};
-use prefix_trie::Trie;
+use addr4::{Addr, Memory, Prefix};
 use safe_table::Table;
 use std::collections::BTreeMap;
 use std::ops::Bound;
@@ -31,43 +30,6 @@ fn removed_at(step: u64, here: Prefix) -> Prefix {
     match prefix_at(step) {
         None => here,
         Some(other) => other,
-    }
-}
-
-impl Store for Trie<u64> {
-    fn put(&mut self, prefix: Prefix, row: u64) -> Result<(), Memory> {
-        match self.insert(prefix, row) {
-            Ok(_) => Ok(()),
-            Err(_) => Err(Memory),
-        }
-    }
-
-    fn at(&self, prefix: Prefix) -> u64 {
-        self.get(prefix).copied().unwrap_or(0)
-    }
-
-    fn matched(&self, address: Addr) -> u64 {
-        match self.longest(address) {
-            None => 0,
-            Some(row) => *row.1,
-        }
-    }
-
-    fn take(&mut self, prefix: Prefix) -> u64 {
-        self.remove(prefix).unwrap_or(0)
-    }
-
-    fn walk(&mut self, count: u64) -> Result<u64, Memory> {
-        let mut sum = 0u64;
-        let mut next = self.next_after(Place::Before);
-        for step in 0..count {
-            let Some(here) = next else {
-                break;
-            };
-            sum = sum.wrapping_add(self.take(removed_at(step, here)));
-            next = self.next_after(Place::At(here));
-        }
-        Ok(sum)
     }
 }
 
@@ -106,6 +68,13 @@ impl Store for Table<u64> {
     }
 }
 
+// The last row at or before a prefix.
+fn last_to(map: &BTreeMap<Prefix, u64>, bound: Prefix) -> Option<(Prefix, u64)> {
+    let mut range = map.range((Bound::Unbounded, Bound::Included(bound)));
+    let (prefix, row) = range.next_back()?;
+    Some((*prefix, *row))
+}
+
 impl Store for BTreeMap<Prefix, u64> {
     fn put(&mut self, prefix: Prefix, row: u64) -> Result<(), Memory> {
         self.insert(prefix, row)?;
@@ -116,13 +85,21 @@ impl Store for BTreeMap<Prefix, u64> {
         self.get(&prefix).copied().unwrap_or(0)
     }
 
+    // As in the register: by the last row at or before the prefix of the address with so many bits.
     fn matched(&self, address: Addr) -> u64 {
-        for length in (0..33u8).rev() {
-            if let Some(prefix) = Prefix::new(address, length) {
-                if let Some(row) = self.get(&prefix) {
-                    return *row;
-                }
+        let mut length = 32;
+        for _ in 0..33 {
+            let Some(bound) = Prefix::new(address, length) else {
+                break;
+            };
+            let Some(row) = last_to(self, bound) else {
+                break;
+            };
+            if row.0.holds(address) {
+                return row.1;
             }
+            let differing = row.0.address().number() ^ address.number();
+            length = differing.leading_zeros() as u8;
         }
         0
     }

@@ -1,18 +1,19 @@
 use Rattle.std.proofs.Common.{◌≡◌, true, false, arith, refl, sym, ◌∙◌, ◌+◌, ◌/◌}
 use Rattle.std.specs.FinMap as map
 use Rattle.register_interest.specs.Width.{width}
+use Rattle.register_interest.specs.Search.{rows_in}
 use Rattle.register_interest.proofs.SearchLemmas.{halved_first, halved_up, halved_last}
 use Rattle.register_interest.proofs.search.largest_subnet.Goals as goal
 
 pub lengths-init : goal.lengths-init
-lengths-init g c = halved_first width (map.get c.args.rows.now.rows) c.args.address c.args.found.now c.shortest-low.result 32 c.requires c.shortest-low.ensures refl
+lengths-init g c = halved_first width (map.get (rows_in c.args.rows.now)) c.args.address c.args.found.now c.shortest-low.result 32 c.requires c.shortest-low.ensures refl
 
 pub lengths-preserved : goal.lengths-preserved
 lengths-preserved g c =
     let low = c.lengths.low in
     let high = c.lengths.high in
     let lt = c.lengths-test.true in
-    halved_up width (map.get c.args.rows.now.rows) c.args.address c.args.found.now low ((low + high) / 2) high c.requires c.lengths.invariant (omega arith) (omega arith) (λ free. let clash : true ≡ false = sym (c.is_free.ensures.1 free) ∙ c.if-is_free.false in cc)
+    halved_up width (map.get (rows_in c.args.rows.now)) c.args.address c.args.found.now low ((low + high) / 2) high c.requires c.lengths.invariant (omega arith) (omega arith) (λ free. let clash : true ≡ false = sym (c.is_free.ensures.1 free) ∙ c.if-is_free.false in cc)
 
 pub returns : goal.returns
-returns g c = halved_last width (map.get c.args.rows.now.rows) c.args.address c.args.found.now c.lengths.low c.lengths.high c.block.result c.lengths.invariant c.lengths-test.false c.block.ensures
+returns g c = halved_last width (map.get (rows_in c.args.rows.now)) c.args.address c.args.found.now c.lengths.low c.lengths.high c.block.result c.lengths.invariant c.lengths-test.false c.block.ensures

@@ -1,9 +1,0 @@
-pub mod Width
-pub mod Trees
-pub mod Shape
-pub mod Search
-pub mod Contents
-pub mod View
-pub mod Nodes
-pub mod Lent
-pub mod Links
