@@ -6,7 +6,7 @@ use Rattle.std.specs.Int.{w32, to_be_bytes, from_be_bytes}
 use Rattle.std.specs.List.{slice_split, join_with_byte, list_all}
 use Rattle.std.specs.Fmt.{decimal}
 use Rattle.addr4.specs.Blocks.{masked_to}
-use Rattle.addr4.specs.Prefixes.{Network}
+use Rattle.addr4.specs.Prefixes.{AddressPrefix}
 
 -- digits, at least one, and no leading zero but in `0`
 abbrev pub is_numeral : List ℕ → Bool
@@ -55,18 +55,18 @@ unfoldable pub addr_text : ℕ → List ℕ
 addr_text a = dotted (to_be_bytes w32 a)
 
 -- an address masked to a length
-abbrev pub network_of : ℕ → Option ℕ → Option ℕ → Option Network
-network_of width (Some address) (Some length) = Some (record { address = masked_to width address length; length = length })
-network_of width address length = None
+abbrev pub address_prefix_of : ℕ → Option ℕ → Option ℕ → Option AddressPrefix
+address_prefix_of width (Some address) (Some length) = Some (record { address = masked_to width address length; length = length })
+address_prefix_of width address length = None
 
-abbrev pub prefix_from_parts : ℕ → List (List ℕ) → Option Network
-prefix_from_parts width (address ∷ length ∷ []) = network_of width (addr_of address) (number_below (suc width) length)
+abbrev pub prefix_from_parts : ℕ → List (List ℕ) → Option AddressPrefix
+prefix_from_parts width (address ∷ length ∷ []) = address_prefix_of width (addr_of address) (number_below (suc width) length)
 prefix_from_parts width other = None
 
 -- the prefix that a text spells: an address, a slash, a length to the width; bits beyond the length are masked away
-unfoldable pub prefix_of : ℕ → List ℕ → Option Network
+unfoldable pub prefix_of : ℕ → List ℕ → Option AddressPrefix
 prefix_of width text = prefix_from_parts width (parts 47 text)
 
 -- the text of a prefix
-unfoldable pub prefix_text : Network → List ℕ
+unfoldable pub prefix_text : AddressPrefix → List ℕ
 prefix_text p = addr_text p.address ++ 47 ∷ decimal p.length

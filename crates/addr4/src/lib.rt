@@ -2,7 +2,7 @@
 //!
 //! Everything is generic in a [`Family`], the bits of an address; IPv4, [`V4`], is the family where none is named. A
 //! [`Prefix`] keeps its address masked to its length, so two prefixes are equal exactly where they hold the same
-//! addresses. Contracts see an address as a number and a prefix as the record `Network {address; length}`, whatever the
+//! addresses. Contracts see an address as a number and a prefix as the record `AddressPrefix {address; length}`, whatever the
 //! family.
 //!
 //! Here too: [`Memory`], the one answer for want of memory of the whole product, [`Row`], what a table asks of its rows,

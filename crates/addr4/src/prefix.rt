@@ -21,11 +21,11 @@ pub struct Prefix<F: Family = V4> {
 }
 
 impl<F: Family> Model for Prefix<F> {
-    ghost use Rattle.addr4.specs.Prefixes.{Network, network_code, IsMasked};
+    ghost use Rattle.addr4.specs.Prefixes.{AddressPrefix, address_prefix_code, IsMasked};
 
-    ghost Value = { Network };
+    ghost Value = { AddressPrefix };
 
-    ghost coded = { network_code };
+    ghost coded = { address_prefix_code };
 
     ghost view = { λ p. record { address = p.address; length = p.length } };
 
@@ -84,7 +84,7 @@ impl<F: Family> Ord for Prefix<F> {
 }
 
 impl<F: Family> Prefix<F> {
-    ghost use Rattle.addr4.specs.Prefixes.{Network, IsMasked, Covers, Overlaps, Holds, IsBitOf};
+    ghost use Rattle.addr4.specs.Prefixes.{AddressPrefix, IsMasked, Covers, Overlaps, Holds, IsBitOf};
 
     /// Masks the address. There is no prefix exactly above the family's width.
     pub fn new(address: Addr<F>, length: u8) -> Option<Prefix<F>>

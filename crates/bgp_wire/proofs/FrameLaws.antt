@@ -4,7 +4,7 @@ use Rattle.std.specs.Prelude.{replicate}
 use Rattle.std.specs.List.{list_all}
 use Rattle.std.proofs.lemmas.List.{length-drop, length-take, length-append, take-append-drop, take_at, drop_at, drop_more, drop-drop, get_or-drop, nil_from_length}
 use Rattle.std.proofs.lemmas.Bool.{ltb-false, le-ltb, eqb-true, eqb-false, eq-eqb}
-use Rattle.addr4.specs.Prefixes.{Network}
+use Rattle.addr4.specs.Prefixes.{AddressPrefix}
 use Rattle.bgp_attr.specs.declared.speaker.Profile.{Profile}
 use Rattle.bgp_wire.specs.declared.notice.Notice.{Notice}
 use Rattle.bgp_wire.specs.declared.message.RouteRefresh.{RouteRefresh}
@@ -170,7 +170,7 @@ fields_again bytes f is =
 pub reading_takes : (p : Profile) (external : Bool) (bytes : List ℕ) (r : Reading) → IsFrame bytes 2 (drop 19 bytes) → 23 ≤ length bytes → reading_at p external bytes ≡ Ok r → IsReading p external bytes r
 unfolding reading_at
 reading_takes p external bytes r frame long e =
-    let k4 = λ (w n : List Network) (k : Kept) (l : Bool). ok_reading (record { withdrawn = w; announced = n; kept = k.0; withdraw = k.1 || l }) in
+    let k4 = λ (w n : List AddressPrefix) (k : Kept) (l : Bool). ok_reading (record { withdrawn = w; announced = n; kept = k.0; withdraw = k.1 || l }) in
     let a = bind_ok (fields_at bytes) (λ f. prefixes_at f.withdrawn >>= λ w. attributes_at p external [] f.attributes >>= λ k. prefixes_at f.announced >>= λ n. lacks p n k.0 >>= λ l. k4 w n k l) r e in
     let f = a.0 in
     let b = bind_ok (prefixes_at f.withdrawn) (λ w. attributes_at p external [] f.attributes >>= λ k. prefixes_at f.announced >>= λ n. lacks p n k.0 >>= λ l. k4 w n k l) r a.2 in

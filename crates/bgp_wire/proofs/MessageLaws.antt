@@ -1,6 +1,6 @@
 -- Exactly one of message and fault is there.
 use Rattle.std.proofs.Common.{◌≡◌, ℕ, Bool, true, false, cond, eqb, not, List, [], ◌∷◌, ◌++◌, Option, Some, None, Result, Ok, Err, refl, sym, ap, subst, ◌∙◌, inl, inr}
-use Rattle.addr4.specs.Prefixes.{Network}
+use Rattle.addr4.specs.Prefixes.{AddressPrefix}
 use Rattle.bgp_attr.specs.declared.attrs.Attrs.{Attrs}
 use Rattle.bgp_attr.specs.declared.speaker.Profile.{Profile}
 use Rattle.bgp_wire.specs.declared.notice.Notice.{Notice}
@@ -35,7 +35,7 @@ has_all p kept e = by_tests (has_kind 1 kept) (has_kind 2 kept) (has_kind 3 kept
     by_tests true false c f g h e = absurd (never p 2 e)
     by_tests true true false f g h e = absurd (never p 3 e)
 
-made_for : (p : Profile) (external : Bool) (bytes : List ℕ) (r : Reading) (is : IsReading p external bytes r) → is.lacking ≡ false → (ps : List Network) → lacks p ps r.kept ≡ Ok is.lacking → (attrs : Option Attrs) × AreAttrsFor p external r.kept ps attrs
+made_for : (p : Profile) (external : Bool) (bytes : List ℕ) (r : Reading) (is : IsReading p external bytes r) → is.lacking ≡ false → (ps : List AddressPrefix) → lacks p ps r.kept ≡ Ok is.lacking → (attrs : Option Attrs) × AreAttrsFor p external r.kept ps attrs
 made_for p external bytes r is none [] complete = (None, refl)
 made_for p external bytes r is none (n ∷ ps) complete =
     let has : HasAll (kept_by is.steps is.runs).0 = subst HasAll is.kept (has_all p r.kept (complete ∙ ap (λ b. Ok b) none)) in
@@ -52,7 +52,7 @@ update_made p external bytes r is = by_test r.withdraw refl
         let made = made_for p external bytes r is (or_false_right (kept_by is.steps is.runs).1 is.lacking (sym is.withdraw ∙ e)) r.announced is.complete in
         (record { withdrawn = r.withdrawn; announced = r.announced; attrs = made.0 }, record { withdrawn = refl; announced = refl; attrs = made.1 })
 
-one_attrs_for : (p : Profile) (external : Bool) (kept : List Attribute) (ns : List Network) (a b : Option Attrs) → AreAttrsFor p external kept ns a → AreAttrsFor p external kept ns b → a ≡ b
+one_attrs_for : (p : Profile) (external : Bool) (kept : List Attribute) (ns : List AddressPrefix) (a b : Option Attrs) → AreAttrsFor p external kept ns a → AreAttrsFor p external kept ns b → a ≡ b
 one_attrs_for p external kept [] a b f g = f ∙ sym g
 one_attrs_for p external kept (n ∷ ns) None b f g = absurd f
 one_attrs_for p external kept (n ∷ ns) (Some a) None f g = absurd g

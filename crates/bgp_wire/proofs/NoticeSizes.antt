@@ -4,7 +4,7 @@ use Rattle.std.specs.Prelude.{option_and_then}
 use Rattle.std.specs.List.{list_any}
 use Rattle.std.proofs.lemmas.List.{length-take, length-drop}
 use Rattle.std.proofs.lemmas.Bool.Decides.{nat_tests}
-use Rattle.addr4.specs.Prefixes.{Network}
+use Rattle.addr4.specs.Prefixes.{AddressPrefix}
 use Rattle.bgp_attr.specs.declared.speaker.Profile.{Profile}
 use Rattle.bgp_wire.specs.declared.notice.Notice.{Notice}
 use Rattle.bgp_wire.specs.Notices.{FitsMessage}
@@ -168,7 +168,7 @@ fields_low k bytes = low_two k (nat_lt (length bytes) (number_at bytes 19 + 23))
 one_low : {A : Type 0} {k code subcode kind : ℕ} → 1 ≤ k → IsLow {A = A} k (Err (notice code subcode (kind ∷ [])))
 one_low one = record { low = omega arith }
 
-lacks_low : (k : ℕ) (p : Profile) → 1 ≤ k → (announced : List Network) (kept : List Attribute) → IsLow k (lacks p announced kept)
+lacks_low : (k : ℕ) (p : Profile) → 1 ≤ k → (announced : List AddressPrefix) (kept : List Attribute) → IsLow k (lacks p announced kept)
 lacks_low k p one [] kept = low_ok
 lacks_low k p one (n ∷ ns) kept = by_missing (missing kept)
   where

@@ -6,7 +6,7 @@ use Rattle.std.proofs.Math.Nat.{mul-mod_right}
 use Rattle.byteorder.specs.Endian.{big_number}
 use Rattle.byteorder.specs.Numbers.{big_from-lt}
 use Rattle.addr4.specs.Blocks.{size_of_length, masked_to}
-use Rattle.addr4.specs.Prefixes.{Network}
+use Rattle.addr4.specs.Prefixes.{AddressPrefix}
 use Rattle.addr4.proofs.BlockLemmas.{size_pos}
 use Rattle.bgp_attr.specs.declared.attrs.Aggregator.{Aggregator}
 use Rattle.bgp_attr.specs.declared.attrs.Attrs.{Attrs}
@@ -22,7 +22,7 @@ use Rattle.bgp_wire.specs.Prefixes.{IsPrefix, ArePrefixes}
 use Rattle.bgp_wire.specs.Paths.{width_of, numbers_at, IsSegment, IsPath}
 use Rattle.bgp_wire.specs.Attributes.{Attribute, IsAttribute, AreAttributes, kept_by, rule_of, has_wrong_size, is_no_host, is_old_form, is_reflection, value_fault, judge_by}
 use Rattle.bgp_wire.specs.Routes.{kept_of, number_of, aggregator_of, clusters_of, is_unrecognized, AscendsFrom, value_of, AreUnrecognized, AreAttrs}
-use Rattle.bgp_wire.specs.Readable.{IsNetwork, IsReadableSegment, IsHost, reads_reflection, IsReadable}
+use Rattle.bgp_wire.specs.Readable.{IsAddressPrefix, IsReadableSegment, IsHost, reads_reflection, IsReadable}
 use Rattle.bgp_wire.proofs.TestLemmas.{and_left, not_both, not_false, unequal}
 use Rattle.bgp_wire.proofs.RouteLaws.{IsKept, IsGood, kept_are, recognized_is_good, value_below}
 use Rattle.bgp_wire.proofs.TypeLaws.{GoodType, no_rule, no_rule_outside, kept_unrecognized}
@@ -84,21 +84,21 @@ number_fits n xs octets = big_from-lt 0 n xs (octet_at xs octets)
 masked_multiple : (x s : ℕ) → 0 < s → (x - x % s) % s ≡ 0
 masked_multiple x s some = let e : x - x % s ≡ s * (x / s) = omega arith in ap (λ n. n % s) e ∙ mul-mod_right s (x / s)
 
-network_read : (octets : List ℕ) (p : Network) → Octets octets → IsPrefix octets p → IsNetwork p
-network_read octets p are is =
+address_prefix_read : (octets : List ℕ) (p : AddressPrefix) → Octets octets → IsPrefix octets p → IsAddressPrefix p
+address_prefix_read octets p are is =
     let bits : Octets is.bits = (subst Octets is.spelled are).1 in
     let fits = number_fits 4 is.bits bits in
-    let address : p.address ≡ masked_to 32 (big_number 4 is.bits) p.length = ap (λ (q : Network). q.address) is.value in
+    let address : p.address ≡ masked_to 32 (big_number 4 is.bits) p.length = ap (λ (q : AddressPrefix). q.address) is.value in
     record {
       masked = (is.short, ap (λ n. n % size_of_length 32 p.length) address ∙ masked_multiple (big_number 4 is.bits) (size_of_length 32 p.length) (size_pos 32 p.length));
       fits = omega (arith, address, fits);
     }
 
-pub networks_read : (bytes : List ℕ) (ps : List Network) → Octets bytes → ArePrefixes bytes ps → Every IsNetwork ps
-networks_read bytes [] octets are = tt
-networks_read bytes (p ∷ ps) octets are =
+pub address_prefixes_read : (bytes : List ℕ) (ps : List AddressPrefix) → Octets bytes → ArePrefixes bytes ps → Every IsAddressPrefix ps
+address_prefixes_read bytes [] octets are = tt
+address_prefixes_read bytes (p ∷ ps) octets are =
     let parts = subst Octets are.2 octets in
-    (network_read are.0 p (every_front (λ n. n < 256) are.0 are.1 parts) are.3, networks_read are.1 ps (every_back (λ n. n < 256) are.0 are.1 parts) are.4)
+    (address_prefix_read are.0 p (every_front (λ n. n < 256) are.0 are.1 parts) are.3, address_prefixes_read are.1 ps (every_back (λ n. n < 256) are.0 are.1 parts) are.4)
 
 -- ---- paths
 

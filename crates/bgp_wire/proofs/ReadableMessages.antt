@@ -3,7 +3,7 @@ use Rattle.std.proofs.Common.{◌≡◌, ℕ, suc, ◌+◌, ◌<◌, Bool, true,
 use Rattle.std.specs.Prelude.{replicate}
 use Rattle.std.specs.Option.{ForSome}
 use Rattle.std.proofs.lemmas.List.{length-append}
-use Rattle.addr4.specs.Prefixes.{Network}
+use Rattle.addr4.specs.Prefixes.{AddressPrefix}
 use Rattle.bgp_attr.specs.declared.attrs.Attrs.{Attrs}
 use Rattle.bgp_attr.specs.declared.speaker.Profile.{Profile}
 use Rattle.bgp_wire.specs.declared.message.Update.{Update}
@@ -12,8 +12,8 @@ use Rattle.bgp_wire.specs.declared.message.Message.TheVariants as messages
 use Rattle.bgp_wire.specs.Routes.{AreAttrs}
 use Rattle.bgp_wire.specs.Updates.{Reading}
 use Rattle.bgp_wire.specs.Grammar.{IsReading, AreAttrsFor, IsUpdateBy, without, Reads, Answers}
-use Rattle.bgp_wire.specs.Readable.{IsNetwork, IsReadable, IsReadableUpdate, IsReadableMessage, AreOctets}
-use Rattle.bgp_wire.proofs.ReadableLaws.{Every, every_all, all_every, every_append, every_back, every_front, every_filter, Octets, networks_read, attrs_read}
+use Rattle.bgp_wire.specs.Readable.{IsAddressPrefix, IsReadable, IsReadableUpdate, IsReadableMessage, AreOctets}
+use Rattle.bgp_wire.proofs.ReadableLaws.{Every, every_all, all_every, every_append, every_back, every_front, every_filter, Octets, address_prefixes_read, attrs_read}
 
 -- the octets of the fields
 pub record FieldOctets (p : Profile) (external : Bool) (bytes : List ℕ) (r : Reading) (is : IsReading p external bytes r) : Type 0 where
@@ -37,7 +37,7 @@ field_octets p external bytes r is octets =
     }
 
 -- what is known of an UPDATE that was read
-attrs_readable : (p : Profile) (external : Bool) (bytes : List ℕ) (r : Reading) (is : IsReading p external bytes r) → Octets bytes → (ns : List Network) (attrs : Option Attrs) → AreAttrsFor p external r.kept ns attrs → ForSome attrs (IsReadable p external)
+attrs_readable : (p : Profile) (external : Bool) (bytes : List ℕ) (r : Reading) (is : IsReading p external bytes r) → Octets bytes → (ns : List AddressPrefix) (attrs : Option Attrs) → AreAttrsFor p external r.kept ns attrs → ForSome attrs (IsReadable p external)
 attrs_readable p external bytes r is octets [] attrs are a e = absurd (never (sym are ∙ e))
   where
     never : ◌≡◌ {A = Option Attrs} None (Some a) → ⊥
@@ -51,12 +51,12 @@ attrs_readable p external bytes r is octets (n ∷ ns) (Some b) are a e =
 readable_by : (p : Profile) (external : Bool) (bytes : List ℕ) (r : Reading) (is : IsReading p external bytes r) → Octets bytes → (withdraw : Bool) (u : Update) → IsUpdateBy p external r withdraw u → IsReadableUpdate p external u
 readable_by p external bytes r is octets true u by =
     let f = field_octets p external bytes r is octets in
-    let withdrawn = networks_read is.withdrawn r.withdrawn f.withdrawn is.withdraws in
-    let announced = networks_read is.announced r.announced f.announced is.announces in
-    let all : Every IsNetwork (without r.announced r.withdrawn ++ r.announced) = every_append IsNetwork (without r.announced r.withdrawn) r.announced (every_filter IsNetwork _ r.withdrawn withdrawn) announced in
+    let withdrawn = address_prefixes_read is.withdrawn r.withdrawn f.withdrawn is.withdraws in
+    let announced = address_prefixes_read is.announced r.announced f.announced is.announces in
+    let all : Every IsAddressPrefix (without r.announced r.withdrawn ++ r.announced) = every_append IsAddressPrefix (without r.announced r.withdrawn) r.announced (every_filter IsAddressPrefix _ r.withdrawn withdrawn) announced in
     record {
-      withdrawn = every_all IsNetwork u.withdrawn (subst (Every IsNetwork) (sym by.withdrawn) all);
-      announced = every_all IsNetwork u.announced (subst (Every IsNetwork) (sym by.announced) tt);
+      withdrawn = every_all IsAddressPrefix u.withdrawn (subst (Every IsAddressPrefix) (sym by.withdrawn) all);
+      announced = every_all IsAddressPrefix u.announced (subst (Every IsAddressPrefix) (sym by.announced) tt);
       attrs = λ a e. absurd (never a (sym by.attrs ∙ e));
     }
   where
@@ -65,8 +65,8 @@ readable_by p external bytes r is octets true u by =
 readable_by p external bytes r is octets false u by =
     let f = field_octets p external bytes r is octets in
     record {
-      withdrawn = every_all IsNetwork u.withdrawn (subst (Every IsNetwork) (sym by.withdrawn) (networks_read is.withdrawn r.withdrawn f.withdrawn is.withdraws));
-      announced = every_all IsNetwork u.announced (subst (Every IsNetwork) (sym by.announced) (networks_read is.announced r.announced f.announced is.announces));
+      withdrawn = every_all IsAddressPrefix u.withdrawn (subst (Every IsAddressPrefix) (sym by.withdrawn) (address_prefixes_read is.withdrawn r.withdrawn f.withdrawn is.withdraws));
+      announced = every_all IsAddressPrefix u.announced (subst (Every IsAddressPrefix) (sym by.announced) (address_prefixes_read is.announced r.announced f.announced is.announces));
       attrs = attrs_readable p external bytes r is octets r.announced u.attrs by.attrs;
     }
 

@@ -3,7 +3,7 @@ use Rattle.std.proofs.Common.{◌≡◌, ℕ, zero, suc, ◌≤◌, Bool, true, 
 use Rattle.std.specs.Prelude.{find, is_some, option_map, option_and_then}
 use Rattle.std.specs.List.{list_any}
 use Rattle.std.specs.Result.{result_ok}
-use Rattle.addr4.specs.Prefixes.{Network}
+use Rattle.addr4.specs.Prefixes.{AddressPrefix}
 use Rattle.byteorder.specs.Endian.{big_number}
 use Rattle.bgp_attr.specs.declared.attrs.Attrs.{Attrs}
 use Rattle.bgp_attr.specs.declared.path.Segment.{Segment}
@@ -37,13 +37,13 @@ fails_later : {A B : Type 0} (e : Refusal) (r : Result A Notice) (x : A) (f : A 
 fails_later e r x f is fails = subst (λ r. Fails e (r >>= f)) (sym is) fails
 
 -- what was read of an UPDATE until a step
-pub record IsRead (p : Profile) (external : Bool) (bytes : List ℕ) (f : Fields) (withdrawn : List Network) (k : Kept) (announced : List Network) : Type 0 where
+pub record IsRead (p : Profile) (external : Bool) (bytes : List ℕ) (f : Fields) (withdrawn : List AddressPrefix) (k : Kept) (announced : List AddressPrefix) : Type 0 where
   pub fields : fields_at bytes ≡ Ok f
   pub withdraws : prefixes_at f.withdrawn ≡ Ok withdrawn
   pub attributes : attributes_at p external [] f.attributes ≡ Ok k
   pub announces : prefixes_at f.announced ≡ Ok announced
 
-abbrev made : List Network → List Network → Kept → Bool → Result Reading Notice
+abbrev made : List AddressPrefix → List AddressPrefix → Kept → Bool → Result Reading Notice
 made withdrawn announced k lacking = Ok (record { withdrawn = withdrawn; announced = announced; kept = k.0; withdraw = k.1 || lacking })
 
 pub fields_fail : (p : Profile) (external : Bool) (bytes : List ℕ) (e : Refusal) → Fails e (fields_at bytes) → Fails e (reading_at p external bytes)
@@ -56,14 +56,14 @@ withdrawn_fail p external bytes f e fields fails =
     fails_later e (fields_at bytes) f (λ f. prefixes_at f.withdrawn >>= λ w. attributes_at p external [] f.attributes >>= λ k. prefixes_at f.announced >>= λ n. lacks p n k.0 >>= λ l. made w n k l) fields
     (fails_first e (prefixes_at f.withdrawn) (λ w. attributes_at p external [] f.attributes >>= λ k. prefixes_at f.announced >>= λ n. lacks p n k.0 >>= λ l. made w n k l) fails)
 
-pub attributes_fail : (p : Profile) (external : Bool) (bytes : List ℕ) (f : Fields) (w : List Network) (e : Refusal) → fields_at bytes ≡ Ok f → prefixes_at f.withdrawn ≡ Ok w → Fails e (attributes_at p external [] f.attributes) → Fails e (reading_at p external bytes)
+pub attributes_fail : (p : Profile) (external : Bool) (bytes : List ℕ) (f : Fields) (w : List AddressPrefix) (e : Refusal) → fields_at bytes ≡ Ok f → prefixes_at f.withdrawn ≡ Ok w → Fails e (attributes_at p external [] f.attributes) → Fails e (reading_at p external bytes)
 unfolding reading_at
 attributes_fail p external bytes f w e fields withdraws fails =
     fails_later e (fields_at bytes) f (λ f. prefixes_at f.withdrawn >>= λ w. attributes_at p external [] f.attributes >>= λ k. prefixes_at f.announced >>= λ n. lacks p n k.0 >>= λ l. made w n k l) fields
     (fails_later e (prefixes_at f.withdrawn) w (λ w. attributes_at p external [] f.attributes >>= λ k. prefixes_at f.announced >>= λ n. lacks p n k.0 >>= λ l. made w n k l) withdraws
     (fails_first e (attributes_at p external [] f.attributes) (λ k. prefixes_at f.announced >>= λ n. lacks p n k.0 >>= λ l. made w n k l) fails))
 
-pub announced_fail : (p : Profile) (external : Bool) (bytes : List ℕ) (f : Fields) (w : List Network) (k : Kept) (e : Refusal) → fields_at bytes ≡ Ok f → prefixes_at f.withdrawn ≡ Ok w → attributes_at p external [] f.attributes ≡ Ok k → Fails e (prefixes_at f.announced) → Fails e (reading_at p external bytes)
+pub announced_fail : (p : Profile) (external : Bool) (bytes : List ℕ) (f : Fields) (w : List AddressPrefix) (k : Kept) (e : Refusal) → fields_at bytes ≡ Ok f → prefixes_at f.withdrawn ≡ Ok w → attributes_at p external [] f.attributes ≡ Ok k → Fails e (prefixes_at f.announced) → Fails e (reading_at p external bytes)
 unfolding reading_at
 announced_fail p external bytes f w k e fields withdraws attributes fails =
     fails_later e (fields_at bytes) f (λ f. prefixes_at f.withdrawn >>= λ w. attributes_at p external [] f.attributes >>= λ k. prefixes_at f.announced >>= λ n. lacks p n k.0 >>= λ l. made w n k l) fields
@@ -71,7 +71,7 @@ announced_fail p external bytes f w k e fields withdraws attributes fails =
     (fails_later e (attributes_at p external [] f.attributes) k (λ k. prefixes_at f.announced >>= λ n. lacks p n k.0 >>= λ l. made w n k l) attributes
     (fails_first e (prefixes_at f.announced) (λ n. lacks p n k.0 >>= λ l. made w n k l) fails)))
 
-read_to : (p : Profile) (external : Bool) (bytes : List ℕ) (f : Fields) (w : List Network) (k : Kept) (n : List Network) → IsRead p external bytes f w k n → reading_at p external bytes ≡ (lacks p n k.0 >>= λ l. made w n k l)
+read_to : (p : Profile) (external : Bool) (bytes : List ℕ) (f : Fields) (w : List AddressPrefix) (k : Kept) (n : List AddressPrefix) → IsRead p external bytes f w k n → reading_at p external bytes ≡ (lacks p n k.0 >>= λ l. made w n k l)
 unfolding reading_at
 read_to p external bytes f w k n is =
     ap (λ r. r >>= λ f. prefixes_at f.withdrawn >>= λ w. attributes_at p external [] f.attributes >>= λ k. prefixes_at f.announced >>= λ n. lacks p n k.0 >>= λ l. made w n k l) is.fields
@@ -116,11 +116,11 @@ same_missing p external bytes k found read g =
     by_path None e = refl
     by_path (Some a) e = let path = paths p external bytes k read a e in ap (λ r. is_some (result_ok r)) path.1
 
-pub same_lacks : (p : Profile) (external : Bool) (bytes : List ℕ) (k : Kept) (found : Found) (ns : List Network) → attributes_at p external [] bytes ≡ Ok k → Gathers p k.0 found → lacks_from p ns found ≡ lacks p ns k.0
+pub same_lacks : (p : Profile) (external : Bool) (bytes : List ℕ) (k : Kept) (found : Found) (ns : List AddressPrefix) → attributes_at p external [] bytes ≡ Ok k → Gathers p k.0 found → lacks_from p ns found ≡ lacks p ns k.0
 same_lacks p external bytes k found [] read g = refl
 same_lacks p external bytes k found (n ∷ ns) read g = ap (lack p) (same_missing p external bytes k found read g)
 
-pub lacking_fail : (p : Profile) (external : Bool) (bytes : List ℕ) (f : Fields) (w : List Network) (k : Kept) (n : List Network) (found : Found) (e : Refusal) → IsRead p external bytes f w k n → Gathers p k.0 found → Fails e (lacks_from p n found) → Fails e (reading_at p external bytes)
+pub lacking_fail : (p : Profile) (external : Bool) (bytes : List ℕ) (f : Fields) (w : List AddressPrefix) (k : Kept) (n : List AddressPrefix) (found : Found) (e : Refusal) → IsRead p external bytes f w k n → Gathers p k.0 found → Fails e (lacks_from p n found) → Fails e (reading_at p external bytes)
 lacking_fail p external bytes f w k n found e is g fails =
     subst (Fails e) (sym (read_to p external bytes f w k n is)) (fails_first e (lacks p n k.0) (λ l. made w n k l) (subst (Fails e) (same_lacks p external f.attributes k found n is.attributes g) fails))
 
@@ -166,14 +166,14 @@ attrs_found p external bytes k found read g has =
       },
     )
 
-attrs_are_for : (p : Profile) (external : Bool) (bytes : List ℕ) (k : Kept) (found : Found) (ns : List Network) → attributes_at p external [] bytes ≡ Ok k → Gathers p k.0 found → lacks p ns k.0 ≡ Ok false → AreAttrsFor p external k.0 ns (attrs_for external found ns)
+attrs_are_for : (p : Profile) (external : Bool) (bytes : List ℕ) (k : Kept) (found : Found) (ns : List AddressPrefix) → attributes_at p external [] bytes ≡ Ok k → Gathers p k.0 found → lacks p ns k.0 ≡ Ok false → AreAttrsFor p external k.0 ns (attrs_for external found ns)
 attrs_are_for p external bytes k found [] read g complete = refl
 attrs_are_for p external bytes k found (n ∷ ns) read g complete =
     let a = attrs_found p external bytes k found read g (has_all p k.0 complete) in
     subst (AreAttrsFor p external k.0 (n ∷ ns)) (sym a.1) a.2
 
 -- the UPDATE
-pub update_is : (p : Profile) (external : Bool) (bytes : List ℕ) (f : Fields) (w : List Network) (k : Kept) (n : List Network) (g : Gathered) (l : Bool) → IsRead p external bytes f w k n → Gathers p k.0 g.found → g.withdraw ≡ k.1 → lacks_from p n g.found ≡ Ok l
+pub update_is : (p : Profile) (external : Bool) (bytes : List ℕ) (f : Fields) (w : List AddressPrefix) (k : Kept) (n : List AddressPrefix) (g : Gathered) (l : Bool) → IsRead p external bytes f w k n → Gathers p k.0 g.found → g.withdraw ≡ k.1 → lacks_from p n g.found ≡ Ok l
     → (u : Update) → u ≡ update_of external (g.withdraw || l) w n g.found → (r : Reading) × (reading_at p external bytes ≡ Ok r) × IsUpdateBy p external r r.withdraw u
 update_is p external bytes f w k n g l is gathers withdraw lacking u u_is =
     let complete : lacks p n k.0 ≡ Ok l = sym (same_lacks p external f.attributes k g.found n is.attributes gathers) ∙ lacking in

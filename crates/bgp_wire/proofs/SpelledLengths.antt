@@ -7,7 +7,7 @@ use Rattle.std.proofs.lemmas.List.{length-append}
 use Rattle.std.proofs.lemmas.Grind.{flat_map-append}
 use Rattle.byteorder.specs.Endian.{big_bytes}
 use Rattle.byteorder.specs.Numbers.{length-bytes_high_first}
-use Rattle.addr4.specs.Prefixes.{Network}
+use Rattle.addr4.specs.Prefixes.{AddressPrefix}
 use Rattle.bgp_attr.specs.declared.attrs.Attrs.{Attrs}
 use Rattle.bgp_attr.specs.declared.path.Segment.{Segment}
 use Rattle.bgp_attr.specs.declared.unrecognized.Unrecognized.{Unrecognized}
@@ -114,7 +114,7 @@ fields_parts w a n = simp append_assoc
 pub length-fields : (w a n : List ℕ) → length (fields_octets w a n) ≡ 4 + length w + length a + length n
 length-fields w a n = omega (arith, ap length (fields_parts w a n), length-append w ((length a / 256 % 256) ∷ (length a % 256) ∷ (a ++ n)), length-append a n)
 
-pub length-announcement : (as4 : Bool) (n : Network) (a : Attrs) → announcement_length as4 n a ≡ 23 + length (prefix_octets n) + attributes_length as4 a
+pub length-announcement : (as4 : Bool) (n : AddressPrefix) (a : Attrs) → announcement_length as4 n a ≡ 23 + length (prefix_octets n) + attributes_length as4 a
 unfolding announcement_length attributes_length
 length-announcement as4 n a =
     let octets = octets_of (sent_attributes as4 a) in

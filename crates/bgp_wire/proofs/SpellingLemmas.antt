@@ -4,16 +4,16 @@ use Rattle.std.specs.List.{flat_map, All}
 use Rattle.std.proofs.lemmas.List.{append-nil, length-take, length-append}
 use Rattle.std.proofs.lemmas.List.Elements.{All-nil, All-cons, All-head, All-tail}
 use Rattle.byteorder.specs.Endian.{big_bytes}
-use Rattle.addr4.specs.Prefixes.{Network}
+use Rattle.addr4.specs.Prefixes.{AddressPrefix}
 use Rattle.bgp_wire.specs.Prefixes.{octets_for}
 use Rattle.bgp_wire.specs.Spelling.{FitsWidth, prefix_octets, is_long, spelled_octets, spelled, clusters_attributes, octets_of}
 use Rattle.bgp_wire.specs.Lengths.{head_octets}
 use Rattle.bgp_wire.proofs.SpelledLengths.{length-numbers}
 
-short_prefix : (p : Network) → length (take (octets_for p.length) (big_bytes 4 p.address)) ≤ 4
+short_prefix : (p : AddressPrefix) → length (take (octets_for p.length) (big_bytes 4 p.address)) ≤ 4
 short_prefix p = omega (arith, length-take (octets_for p.length) (big_bytes 4 p.address))
 
-pub alone : (p : Network) → length (prefix_octets p ++ []) ≤ 5
+pub alone : (p : AddressPrefix) → length (prefix_octets p ++ []) ≤ 5
 alone p = omega (arith, length-append (prefix_octets p) [], short_prefix p)
 
 -- what stands before a value, and the value

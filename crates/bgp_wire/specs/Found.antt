@@ -3,7 +3,7 @@ use Rattle.std.specs.Prelude.{◌≡◌, ℕ, List, [], ◌∷◌, ◌++◌, sli
 use Rattle.std.specs.List.{list_any}
 use Rattle.std.specs.Result.{result_ok}
 use Rattle.byteorder.specs.Endian.{big_number}
-use Rattle.addr4.specs.Prefixes.{Network}
+use Rattle.addr4.specs.Prefixes.{AddressPrefix}
 use Rattle.bgp_attr.specs.declared.attrs.Attrs.{Attrs}
 use Rattle.bgp_attr.specs.declared.attrs.Origin.{Origin}
 use Rattle.bgp_attr.specs.declared.attrs.Origin.TheVariants.{Igp, Egp, Incomplete}
@@ -115,7 +115,7 @@ missing_from found =
     else if not (is_some found.next_hop) then Some 3
     else None
 
-abbrev pub lacks_from : Profile → List Network → Found → Result Bool Notice
+abbrev pub lacks_from : Profile → List AddressPrefix → Found → Result Bool Notice
 lacks_from p [] found = Ok false
 lacks_from p (n ∷ ns) found = lack p (missing_from found)
 
@@ -137,11 +137,11 @@ attrs_by external found origin path next_hop = None
 abbrev pub attrs_from : Bool → Found → Option Attrs
 attrs_from external found = attrs_by external found found.origin found.path found.next_hop
 
-abbrev pub attrs_for : Bool → Found → List Network → Option Attrs
+abbrev pub attrs_for : Bool → Found → List AddressPrefix → Option Attrs
 attrs_for external found [] = None
 attrs_for external found (n ∷ ns) = attrs_from external found
 
 -- the UPDATE of these prefixes and of what was found
-abbrev pub update_of : Bool → Bool → List Network → List Network → Found → Update
+abbrev pub update_of : Bool → Bool → List AddressPrefix → List AddressPrefix → Found → Update
 update_of external true withdrawn announced found = record { withdrawn = without announced withdrawn ++ announced; announced = []; attrs = None }
 update_of external false withdrawn announced found = record { withdrawn = withdrawn; announced = announced; attrs = attrs_for external found announced }

@@ -1,7 +1,7 @@
 -- What messages are, by cases on their octets (RFC 4271, section 4; RFC 2918, section 3).
 use Rattle.std.specs.Prelude.{◌≡◌, ◌⊎◌, ℕ, ◌+◌, ◌*◌, ◌≤◌, ◌==◌, ◌&&◌, ◌||◌, List, [], ◌∷◌, ◌++◌, length, replicate, filter, Option, Some, None, Result, Ok, Err, Bool, true, false, not}
 use Rattle.std.specs.List.{list_any}
-use Rattle.addr4.specs.Prefixes.{Network, same_prefix}
+use Rattle.addr4.specs.Prefixes.{AddressPrefix, same_prefix}
 use Rattle.bgp_attr.specs.declared.attrs.Attrs.{Attrs}
 use Rattle.bgp_attr.specs.declared.speaker.Profile.{Profile}
 use Rattle.bgp_wire.specs.declared.notice.Notice.{Notice}
@@ -69,11 +69,11 @@ Holds p external bytes opening = (body : List ℕ) × IsFrame bytes 1 body × (1
 Holds p external bytes (refresh r) = IsRefresh bytes r
 
 -- the prefixes that aren't among the others
-abbrev pub without : List Network → List Network → List Network
+abbrev pub without : List AddressPrefix → List AddressPrefix → List AddressPrefix
 without others ps = filter (λ p. not (list_any (λ other. same_prefix other p) others)) ps
 
 -- attributes are there exactly where a prefix is announced
-abbrev pub AreAttrsFor : Profile → Bool → List Attribute → List Network → Option Attrs → Type 0
+abbrev pub AreAttrsFor : Profile → Bool → List Attribute → List AddressPrefix → Option Attrs → Type 0
 AreAttrsFor p external kept [] attrs = attrs ≡ None
 AreAttrsFor p external kept (n ∷ ns) None = ⊥
 AreAttrsFor p external kept (n ∷ ns) (Some attrs) = AreAttrs p external kept attrs

@@ -2,7 +2,7 @@
 -- the width says, and the count of a segment has one (RFC 4271, section 4.3).
 use Rattle.std.specs.Prelude.{ℕ, ◌+◌, List, [], ◌∷◌, length, Bool, nat_lt, if◌then◌else◌}
 use Rattle.byteorder.specs.Endian.{big_bytes}
-use Rattle.addr4.specs.Prefixes.{Network}
+use Rattle.addr4.specs.Prefixes.{AddressPrefix}
 use Rattle.bgp_attr.specs.declared.attrs.Attrs.{Attrs}
 use Rattle.bgp_wire.specs.Spelling.{sent_attributes, octets_of, update_octets}
 use Rattle.bgp_wire.specs.Readable.{announcement}
@@ -20,5 +20,5 @@ unfoldable pub attributes_length : Bool → Attrs → ℕ
 attributes_length as4 a = length (octets_of (sent_attributes as4 a))
 
 -- of the UPDATE that announces one prefix
-unfoldable pub announcement_length : Bool → Network → Attrs → ℕ
+unfoldable pub announcement_length : Bool → AddressPrefix → Attrs → ℕ
 announcement_length as4 n a = length (update_octets as4 (announcement n a))

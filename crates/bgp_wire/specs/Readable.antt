@@ -1,7 +1,7 @@
 -- What can be said in an UPDATE so that a peer reads it as it was said.
 use Rattle.std.specs.Prelude.{◌≡◌, ℕ, ◌+◌, ◌<◌, ◌≤◌, ◌/◌, ◌^◌, List, [], ◌∷◌, length, All, Some, None, Bool, true, false, not, ◌&&◌}
 use Rattle.std.specs.Option.{ForSome}
-use Rattle.addr4.specs.Prefixes.{Network, IsMasked}
+use Rattle.addr4.specs.Prefixes.{AddressPrefix, IsMasked}
 use Rattle.bgp_attr.specs.declared.attrs.Attrs.{Attrs}
 use Rattle.bgp_attr.specs.declared.path.Segment.{Segment}
 use Rattle.bgp_attr.specs.declared.speaker.Profile.{Profile}
@@ -13,7 +13,7 @@ use Rattle.bgp_wire.specs.Attributes.{is_no_host, is_old_form}
 use Rattle.bgp_wire.specs.Routes.{is_unrecognized, AscendsFrom}
 
 -- an IPv4 prefix
-pub record IsNetwork (n : Network) : Type 0 where
+pub record IsAddressPrefix (n : AddressPrefix) : Type 0 where
   pub masked : IsMasked 32 n
   pub fits : n.address < 2 ^ 32
 
@@ -46,17 +46,17 @@ pub record IsReadable (p : Profile) (external : Bool) (a : Attrs) : Type 0 where
   pub types : All (λ u. (is_unrecognized p u.kind ≡ true) × (is_old_form p u.kind ≡ false)) a.unrecognized
 
 -- one prefix is withdrawn
-abbrev pub withdrawal : Network → Update
+abbrev pub withdrawal : AddressPrefix → Update
 withdrawal n = record { withdrawn = n ∷ []; announced = []; attrs = None }
 
 -- one prefix is announced
-abbrev pub announcement : Network → Attrs → Update
+abbrev pub announcement : AddressPrefix → Attrs → Update
 announcement n a = record { withdrawn = []; announced = n ∷ []; attrs = Some a }
 
 -- an UPDATE that says only what a peer reads as it is said
 pub record IsReadableUpdate (p : Profile) (external : Bool) (u : Update) : Type 0 where
-  pub withdrawn : All IsNetwork u.withdrawn
-  pub announced : All IsNetwork u.announced
+  pub withdrawn : All IsAddressPrefix u.withdrawn
+  pub announced : All IsAddressPrefix u.announced
   pub attrs : ForSome u.attrs (IsReadable p external)
 
 abbrev pub IsReadableMessage : Profile → Bool → Message → Type 0

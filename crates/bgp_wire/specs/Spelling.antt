@@ -3,7 +3,7 @@ use Rattle.std.specs.Prelude.{◌≡◌, ℕ, ◌+◌, ◌≤◌, ◌<◌, List,
 use Rattle.std.specs.List.{flat_map}
 use Rattle.std.specs.Option.{ForSome}
 use Rattle.byteorder.specs.Endian.{big_bytes}
-use Rattle.addr4.specs.Prefixes.{Network}
+use Rattle.addr4.specs.Prefixes.{AddressPrefix}
 use Rattle.bgp_attr.specs.declared.attrs.Aggregator.{Aggregator}
 use Rattle.bgp_attr.specs.declared.attrs.Attrs.{Attrs}
 use Rattle.bgp_attr.specs.declared.path.Segment.{Segment}
@@ -18,7 +18,7 @@ use Rattle.bgp_wire.specs.Attributes.{Attribute}
 use Rattle.bgp_wire.specs.Routes.{code_of_origin}
 
 -- a length in bits, and the fewest octets that hold so many
-abbrev pub prefix_octets : Network → List ℕ
+abbrev pub prefix_octets : AddressPrefix → List ℕ
 prefix_octets p = p.length ∷ take (octets_for p.length) (big_bytes 4 p.address)
 
 -- a type, a count, and the AS numbers
@@ -121,7 +121,7 @@ abbrev pub attrs_octets : Bool → Option Attrs → List ℕ
 attrs_octets as4 None = []
 attrs_octets as4 (Some a) = octets_of (sent_attributes as4 a)
 
-abbrev pub prefixes_octets : List Network → List ℕ
+abbrev pub prefixes_octets : List AddressPrefix → List ℕ
 prefixes_octets ps = flat_map prefix_octets ps
 
 abbrev pub update_octets : Bool → Update → List ℕ

@@ -1,7 +1,7 @@
 -- Whole messages, with the first fault (RFC 4271, sections 4.1, 4.3, 6.1 and 6.3; RFC 2918, section 3).
 use Rattle.std.specs.Prelude.{ℕ, ◌+◌, ◌*◌, List, [], ◌∷◌, length, take, drop, slice_index, Option, Some, None, Result, Ok, Err, Bool, true, false, nat_lt, ◌==◌, ◌||◌, not, if◌then◌else◌}
 use Rattle.std.specs.List.{list_any, list_all}
-use Rattle.addr4.specs.Prefixes.{Network}
+use Rattle.addr4.specs.Prefixes.{AddressPrefix}
 use Rattle.bgp_attr.specs.declared.speaker.Profile.{Profile}
 use Rattle.bgp_wire.specs.declared.header.UpdateFields.{UpdateFields}
 use Rattle.bgp_wire.specs.declared.message.RouteRefresh.{RouteRefresh}
@@ -71,8 +71,8 @@ missing kept =
 
 -- what an UPDATE holds: its prefixes, the attributes that are kept, and whether it is a withdraw
 pub record Reading : Type 0 where
-  pub withdrawn : List Network
-  pub announced : List Network
+  pub withdrawn : List AddressPrefix
+  pub announced : List AddressPrefix
   pub kept : List Attribute
   pub withdraw : Bool
 
@@ -80,7 +80,7 @@ abbrev pub lack : Profile → Option ℕ → Result Bool Notice
 lack p None = Ok false
 lack p (Some kind) = if p.revised then Ok true else Err (notice 3 3 (kind ∷ []))
 
-abbrev pub lacks : Profile → List Network → List Attribute → Result Bool Notice
+abbrev pub lacks : Profile → List AddressPrefix → List Attribute → Result Bool Notice
 lacks p [] kept = Ok false
 lacks p (n ∷ ns) kept = lack p (missing kept)
 

@@ -15,9 +15,9 @@ pub struct Prefixes {
 
 impl Model for Prefixes {
     ghost use Rattle.std.specs.Prelude.{List};
-    ghost use Rattle.addr4.specs.Prefixes.{Network};
+    ghost use Rattle.addr4.specs.Prefixes.{AddressPrefix};
 
-    ghost Value = { List Network };
+    ghost Value = { List AddressPrefix };
 
     ghost view = { λ p. p.items.items };
 }

@@ -3,7 +3,7 @@
 ghost use Rattle.std.specs.Prelude.{◌≡◌, ◌≤◌, ◌++◌, [], length, filter, not, IfOk, Bool, None};
 ghost use Rattle.std.specs.BTreeSet.{contains};
 ghost use Rattle.std.specs.List.{list_any};
-ghost use Rattle.addr4.specs.Prefixes.{Network, prefix_cmp, same_prefix};
+ghost use Rattle.addr4.specs.Prefixes.{AddressPrefix, prefix_cmp, same_prefix};
 ghost use Rattle.bgp_wire.specs.declared.message.Message.{Message as Answer};
 ghost use Rattle.bgp_wire.specs.Faults.{Gives};
 ghost use Rattle.bgp_wire.specs.Found.{missing_from, lacks_from, attrs_from, attrs_for, update_of};
@@ -112,7 +112,7 @@ fn attrs_for(
 
 /// The prefixes as a set.
 fn set_of(alloc: Global, prefixes: &[Prefix]) -> Result<BTreeSet<Prefix>, AllocError>
-    ensures { IfOk result (λ set. (p : Network) → contains prefix_cmp set p ≡ list_any (λ other. same_prefix other p) prefixes.now) }
+    ensures { IfOk result (λ set. (p : AddressPrefix) → contains prefix_cmp set p ≡ list_any (λ other. same_prefix other p) prefixes.now) }
 {
     prefixes.iter().copied().collect(alloc)
 }

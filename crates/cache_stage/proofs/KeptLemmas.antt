@@ -2,7 +2,7 @@
 use Rattle.std.proofs.Common.{◌≡◌, Option, Some, None, sym, ap, subst, ◌∙◌}
 use Rattle.std.specs.FinMap as map
 use Rattle.std.specs.FinMap.{FinMap}
-use Rattle.addr4.specs.Prefixes.{Network, prefix_cmp}
+use Rattle.addr4.specs.Prefixes.{AddressPrefix, prefix_cmp}
 use Rattle.link_change.specs.Rows.{Rows, with_row}
 use Rattle.link_change.specs.Changes.{IsLawfulOn}
 use Rattle.link_change.specs.declared.change.Change.{Change}
@@ -10,7 +10,7 @@ use Rattle.link_change.proofs.RowLemmas.{rows_inserted, rows_removed}
 use Rattle.cache_stage.specs.Caches.{kept_after, CachesOn}
 
 module _ {R : Type 0} where
-  rows_kept : (m : FinMap prefix_cmp R) (p : Network) (after : Option R) → map.get (kept_after m p after) ≡ with_row (map.get m) p after
+  rows_kept : (m : FinMap prefix_cmp R) (p : AddressPrefix) (after : Option R) → map.get (kept_after m p after) ≡ with_row (map.get m) p after
   rows_kept m p None = rows_removed m p
   rows_kept m p (Some row) = rows_inserted m p row
 

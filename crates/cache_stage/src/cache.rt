@@ -21,11 +21,11 @@ pub struct Cache<R> {
 impl<R> Model for Cache<R> {
     ghost use Rattle.std.specs.FinMap.{FinMap};
     ghost use Rattle.std.specs.FinMap as map;
-    ghost use Rattle.addr4.specs.Prefixes.{prefix_cmp, network_code};
+    ghost use Rattle.addr4.specs.Prefixes.{prefix_cmp, address_prefix_code};
 
     ghost Value = { FinMap prefix_cmp R };
 
-    ghost coded = { map.code network_code R.code };
+    ghost coded = { map.code address_prefix_code R.code };
 
     ghost view = { λ c. c.table.rows };
 }

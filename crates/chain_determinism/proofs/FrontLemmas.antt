@@ -3,7 +3,7 @@ use Rattle.std.proofs.Common.{◌≡◌, true, false, List, [], ◌∷◌, Optio
 use Rattle.std.specs.List.{AllByRecursion}
 use Rattle.std.specs.Option.{option_map}
 use Rattle.std.proofs.lemmas.Map.Keys.{IsDistinct-head, IsDistinct-tail}
-use Rattle.addr4.specs.Prefixes.{Network}
+use Rattle.addr4.specs.Prefixes.{AddressPrefix}
 use Rattle.link_change.specs.Rows.{Rows, with_row}
 use Rattle.link_change.specs.declared.change.Change.{Change}
 use Rattle.journal_text.specs.Links.{same_link}
@@ -23,7 +23,7 @@ never_same : (a b : Link) → same_link a b ≡ false → b ≡ a → ⊥
 never_same a b apart same = let clash : true ≡ false = sym (same_link-refl a) ∙ ap (same_link a) (sym same) ∙ apart in cc
 
 -- a link that is none of the way keeps its rows
-kept : (p : Network) (link : Link) (way : List Link) (links : Links Value) (es : List (Entry Value)) → AllByRecursion (λ other. same_link link other ≡ false) way → IsFront p way es → IsLawful links es
+kept : (p : AddressPrefix) (link : Link) (way : List Link) (links : Links Value) (es : List (Entry Value)) → AllByRecursion (λ other. same_link link other ≡ false) way → IsFront p way es → IsLawful links es
     → fold_links links es link ≡ links link
 kept p link [] links [] apart front lawful = refl
 kept p link [] links (e ∷ es) apart front lawful = absurd front
@@ -35,7 +35,7 @@ kept p link (l ∷ way) links (e ∷ es) apart front lawful =
     ∙ with_link_apart links l link (option_map (λ (rows : Rows Value). with_row rows p changes.now) (links l)) (never_same link l apart.0)
 
 -- the row that the first change leaves stands at the end
-end_row : (p : Network) (link : Link) (way : List Link) (old new : Links Value) (e : Entry Value) (es : List (Entry Value)) → AreDifferent (link ∷ way) → IsFront p way es
+end_row : (p : AddressPrefix) (link : Link) (way : List Link) (old new : Links Value) (e : Entry Value) (es : List (Entry Value)) → AreDifferent (link ∷ way) → IsFront p way es
     → (changes : ChangesRow old link p e) → Leads (after old e) es new → HasRow new link p changes.now
 end_row p link way old new e es different front changes leads =
     let set = row_set old link p changes.before changes.now changes.stands in
@@ -43,7 +43,7 @@ end_row p link way old new e es different front changes leads =
     (set.0, at ∙ ap (λ (x : Links Value). x link) changes.makes ∙ set.1, set.2)
 
 -- a change on a link is none that leaves its rows
-never_both : (p : Network) (link : Link) (way : List Link) (old new : Links Value) (e : Entry Value) (es : List (Entry Value)) → AreDifferent (link ∷ way) → IsFront p (link ∷ way) (e ∷ es)
+never_both : (p : AddressPrefix) (link : Link) (way : List Link) (old new : Links Value) (e : Entry Value) (es : List (Entry Value)) → AreDifferent (link ∷ way) → IsFront p (link ∷ way) (e ∷ es)
     → Leads old [] new → Leads old (e ∷ es) new → ⊥
 never_both p link way old new e es different front stays leads =
     let changes = changes_row old link p e front.0 leads.lawful.0 in
@@ -72,21 +72,21 @@ front_is_one p (link ∷ way) old new (e ∷ es) (f ∷ fs) different first seco
 
 -- ---- what goes down a way
 -- one change on each link is one on each of the first links,
-whole_front : (p : Network) (way : List Link) (es : List (Entry Value)) → IsWhole p way es → IsFront p way es
+whole_front : (p : AddressPrefix) (way : List Link) (es : List (Entry Value)) → IsWhole p way es → IsFront p way es
 whole_front p [] [] whole = tt
 whole_front p [] (e ∷ es) whole = absurd whole
 whole_front p (link ∷ way) [] whole = absurd whole
 whole_front p (link ∷ way) (e ∷ es) whole = (whole.0, whole_front p way es whole.1)
 
 -- so are those that go no further than some link,
-cut_front : (p : Network) (way : List Link) (es : List (Entry Value)) → IsCut p way es → IsFront p way es
+cut_front : (p : AddressPrefix) (way : List Link) (es : List (Entry Value)) → IsCut p way es → IsFront p way es
 cut_front p [] es cut = absurd cut
 cut_front p (link ∷ way) [] cut = tt
 cut_front p (link ∷ way) (e ∷ es) cut = (cut.0, cut_front p way es cut.1)
 
 module _ {R : Type 0} where
   -- and so is what goes down a way, whatever comes out at its end;
-  down_front : (p : Network) (way : List Link) (sent : Option (Change R)) (es : List (Entry Value)) → GoesDown p way sent es → IsFront p way es
+  down_front : (p : AddressPrefix) (way : List Link) (sent : Option (Change R)) (es : List (Entry Value)) → GoesDown p way sent es → IsFront p way es
   down_front p way None es down = cut_front p way es down
   down_front p way (Some change) es down = whole_front p way es down.1
 

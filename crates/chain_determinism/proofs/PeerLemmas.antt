@@ -2,7 +2,7 @@
 use Rattle.std.proofs.Common.{◌≡◌, ℕ, nat_eq, ◌&&◌, Bool, true, List, Option, Some, is_some, sym, ap, subst, ◌∙◌}
 use Rattle.std.proofs.lemmas.Bool.{eq-eqb}
 use Rattle.std.proofs.lemmas.Option.{same_Some}
-use Rattle.addr4.specs.Prefixes.{Network}
+use Rattle.addr4.specs.Prefixes.{AddressPrefix}
 use Rattle.bgp_attr.specs.declared.route.Route.{Route}
 use Rattle.link_change.specs.Changes.{IsSent}
 use Rattle.link_change.specs.declared.change.Change.{Change}
@@ -30,7 +30,7 @@ use Rattle.chain_determinism.proofs.StageLemmas.{stage_row_is_one}
 
 -- ---- of one chain
 -- a fall from a chain to another one, where the way passes no link twice
-chain_fall : (old new : Chained) (p : Network) (way : List Link) (sent other_sent : Option (Change Route)) (entries other_entries : List (Entry Value)) → AreDifferent way
+chain_fall : (old new : Chained) (p : AddressPrefix) (way : List Link) (sent other_sent : Option (Change Route)) (entries other_entries : List (Entry Value)) → AreDifferent way
     → Falls old new p way sent entries → Falls old new p way other_sent other_entries → entries ≡ other_entries
 chain_fall old new p way sent other_sent entries other_entries different first second =
     fall_is_one p way (beside no_links old) (beside no_links new) sent other_sent entries other_entries different first.down second.down (first.leads no_links) (second.leads no_links)
@@ -45,11 +45,11 @@ sweep_is_one : (old one other : Chained) (session : ℕ) (sent other_sent : Opti
 sweep_is_one old one other session sent other_sent entries other_entries chain first second =
     let row = stage_row_is_one session old.incoming.tables.deletions first.table second.table first.prefix second.prefix first.row second.row first.stands second.stands first.least second.least in
     let p = first.prefix in
-    let same : other ≡ one = second.after ∙ ap (λ (q : Network). swept session q old) (sym row.1) ∙ sym first.after in
+    let same : other ≡ one = second.after ∙ ap (λ (q : AddressPrefix). swept session q old) (sym row.1) ∙ sym first.after in
     let way = way_of_sweep session old.incoming in
     let sent_rows : IsSent (filt_rows old) (filt_rows one) second.prefix other_sent = subst (λ (c : Chained). IsSent (filt_rows old) (filt_rows c) second.prefix other_sent) same second.rows in
     let fall : Falls old one p way other_sent other_entries =
-    subst (λ (q : Network). Falls old one q way other_sent other_entries) (sym row.1) (subst (λ (c : Chained). Falls old c second.prefix way other_sent other_entries) same second.fall) in (
+    subst (λ (q : AddressPrefix). Falls old one q way other_sent other_entries) (sym row.1) (subst (λ (c : Chained). Falls old c second.prefix way other_sent other_entries) same second.fall) in (
       sent_is_one (filt_rows old) (filt_rows one) p second.prefix sent other_sent first.rows sent_rows,
       sym same,
       chain_fall old one p way sent other_sent entries other_entries (sweeps_pass_once session old chain) first.fall fall,

@@ -3,7 +3,7 @@ use Rattle.std.proofs.Common.{◌≡◌, true, false, Option, Some, IsSome, sym,
 use Rattle.std.proofs.lemmas.Option.{same_Some}
 use Rattle.std.specs.FinMap as map
 use Rattle.std.specs.FinMap.{FinMap}
-use Rattle.addr4.specs.Prefixes.{Network, prefix_cmp, ComesBefore}
+use Rattle.addr4.specs.Prefixes.{AddressPrefix, prefix_cmp, ComesBefore}
 use Rattle.addr4.proofs.RankLemmas.{one_first}
 use Rattle.link_change.specs.Rows.{Rows}
 use Rattle.stage_determinism.proofs.OneLemmas.{same_or_never}
@@ -12,7 +12,7 @@ use Rattle.chain_determinism.specs.Laws.{LeastRowIsOne, StageRowIsOne}
 
 module _ {R : Type 0} where
   -- no row stands before the least one
-  none_before : (rows : Rows R) (p q : Network) (one other : Option R) → IsLeastRow rows p one → IsLeastRow rows q other → ComesBefore q p → ⊥
+  none_before : (rows : Rows R) (p q : AddressPrefix) (one other : Option R) → IsLeastRow rows p one → IsLeastRow rows q other → ComesBefore q p → ⊥
   none_before rows p q one other first second before =
       let clash : true ≡ false = sym (subst (λ (row : Option R). IsSome row) (sym second.0 ∙ first.2 q before) second.1) in cc
 

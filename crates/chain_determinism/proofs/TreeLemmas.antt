@@ -1,6 +1,6 @@
 -- What changes of interior routes send down the tree leaves no choice.
 use Rattle.std.proofs.Common.{◌≡◌, List, Option}
-use Rattle.addr4.specs.Prefixes.{Network}
+use Rattle.addr4.specs.Prefixes.{AddressPrefix}
 use Rattle.rib_route.specs.declared.rows.Interior.{Interior}
 use Rattle.link_change.specs.Changes.{IsSent}
 use Rattle.link_change.specs.declared.change.Change.{Change}
@@ -17,7 +17,7 @@ use Rattle.chain_determinism.proofs.FrontLemmas.{fall_is_one}
 use Rattle.chain_determinism.proofs.WayLemmas.{routes_pass_once, losses_pass_once}
 
 -- a fall from a tree to another one, where the way passes no link twice
-tree_fall : (old new : Treed) (p : Network) (way : List Link) (sent other_sent : Option (Change Interior)) (entries other_entries : List (Entry Value)) → AreDifferent way
+tree_fall : (old new : Treed) (p : AddressPrefix) (way : List Link) (sent other_sent : Option (Change Interior)) (entries other_entries : List (Entry Value)) → AreDifferent way
     → FallsTree old new p way sent entries → IsSent (int_rows old) (int_rows new) p sent → FallsTree old new p way other_sent other_entries → IsSent (int_rows old) (int_rows new) p other_sent
     → (sent ≡ other_sent) × (entries ≡ other_entries)
 tree_fall old new p way sent other_sent entries other_entries different first rows second also = (

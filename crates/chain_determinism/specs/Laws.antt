@@ -2,7 +2,7 @@
 use Rattle.std.specs.Prelude.{◌≡◌, ℕ, true, List, Option, Some}
 use Rattle.std.specs.FinMap as map
 use Rattle.std.specs.FinMap.{FinMap}
-use Rattle.addr4.specs.Prefixes.{Network, prefix_cmp}
+use Rattle.addr4.specs.Prefixes.{AddressPrefix, prefix_cmp}
 use Rattle.bgp_attr.specs.declared.attrs.Attrs.{Attrs}
 use Rattle.bgp_attr.specs.declared.route.Route.{Route}
 use Rattle.link_change.specs.Rows.{Rows}
@@ -32,13 +32,13 @@ use Rattle.chain_determinism.specs.Fronts.{IsFront, AreDifferent}
 -- Changes at a prefix on the first of some links that are all different are one, where they lead from the same rows to the same.
 abbrev pub FrontIsOne : Type 0
 FrontIsOne =
-    (p : Network) (way : List Link) (old new : Links Value) (one other : List (Entry Value)) → AreDifferent way
+    (p : AddressPrefix) (way : List Link) (old new : Links Value) (one other : List (Entry Value)) → AreDifferent way
     → IsFront p way one → IsFront p way other → Leads old one new → Leads old other new → one ≡ other
 
 -- So is what goes down such a way, whatever comes out at its end.
 abbrev pub FallIsOne : Type 0 → Type 0
 FallIsOne R =
-    (p : Network) (way : List Link) (old new : Links Value) (sent other_sent : Option (Change R)) (one other : List (Entry Value)) → AreDifferent way
+    (p : AddressPrefix) (way : List Link) (old new : Links Value) (sent other_sent : Option (Change R)) (one other : List (Entry Value)) → AreDifferent way
     → GoesDown p way sent one → GoesDown p way other_sent other → Leads old one new → Leads old other new → one ≡ other
 
 -- ---- the ways
@@ -59,12 +59,12 @@ LossesPassOnce = (proto : Proto) (n : ℕ) (t : Treed) → IsTree t → AreDiffe
 -- ---- the rows of stages
 -- The least row of a table is one: where it stands, and what it is.
 abbrev pub LeastRowIsOne : Type 0 → Type 0
-LeastRowIsOne R = (rows : Rows R) (p q : Network) (one other : Option R) → IsLeastRow rows p one → IsLeastRow rows q other → (p ≡ q) × (one ≡ other)
+LeastRowIsOne R = (rows : Rows R) (p q : AddressPrefix) (one other : Option R) → IsLeastRow rows p one → IsLeastRow rows q other → (p ≡ q) × (one ≡ other)
 
 -- So the row that a turn of the stage of a loss takes is one.
 abbrev pub StageRowIsOne : Type 0 → Type 0
 StageRowIsOne R =
-    (number : ℕ) (ds : List (Lost R)) (table other_table : FinMap prefix_cmp R) (p q : Network) (row other_row : R)
+    (number : ℕ) (ds : List (Lost R)) (table other_table : FinMap prefix_cmp R) (p q : AddressPrefix) (row other_row : R)
     → table_of number ds ≡ Some table → table_of number ds ≡ Some other_table → IsLeastRow (map.get table) p (Some row) → IsLeastRow (map.get other_table) q (Some other_row)
     → (table ≡ other_table) × (p ≡ q) × (row ≡ other_row)
 
@@ -72,7 +72,7 @@ StageRowIsOne R =
 -- A prefix that is announced or withdrawn leaves no choice: what comes out, the chains after it, and the entries.
 abbrev pub FeedIsOne : Type 0
 FeedIsOne =
-    (k : ℕ) (p : Network) (row : Option Attrs) (sent other_sent : Option (Change Route)) (a one other : Chains) (entries other_entries : List (Entry Value)) → IsPeers a
+    (k : ℕ) (p : AddressPrefix) (row : Option Attrs) (sent other_sent : Option (Change Route)) (a one other : Chains) (entries other_entries : List (Entry Value)) → IsPeers a
     → FeedsInward k p row sent a one entries → FeedsInward k p row other_sent a other other_entries
     → (sent ≡ other_sent) × (one ≡ other) × (entries ≡ other_entries)
 
@@ -108,7 +108,7 @@ TurnsHaveWork =
 -- What a change of a route sends down the tree to `int` is one, and so are its entries,
 abbrev pub RouteFallIsOne : Type 0
 RouteFallIsOne =
-    (proto : Proto) (p : Network) (old new : Treed) (sent other_sent : Option (Change Interior)) (entries other_entries : List (Entry Value)) → IsTree old
+    (proto : Proto) (p : AddressPrefix) (old new : Treed) (sent other_sent : Option (Change Interior)) (entries other_entries : List (Entry Value)) → IsTree old
     → FallsTree old new p (way_of_route proto old) sent entries → IsSent (int_rows old) (int_rows new) p sent
     → FallsTree old new p (way_of_route proto old) other_sent other_entries → IsSent (int_rows old) (int_rows new) p other_sent
     → (sent ≡ other_sent) × (entries ≡ other_entries)
@@ -116,7 +116,7 @@ RouteFallIsOne =
 -- and the same of a row that the stage of a loss takes.
 abbrev pub LossFallIsOne : Type 0
 LossFallIsOne =
-    (proto : Proto) (n : ℕ) (p : Network) (old new : Treed) (sent other_sent : Option (Change Interior)) (entries other_entries : List (Entry Value)) → IsTree old
+    (proto : Proto) (n : ℕ) (p : AddressPrefix) (old new : Treed) (sent other_sent : Option (Change Interior)) (entries other_entries : List (Entry Value)) → IsTree old
     → FallsTree old new p (way_of_loss proto n old) sent entries → IsSent (int_rows old) (int_rows new) p sent
     → FallsTree old new p (way_of_loss proto n old) other_sent other_entries → IsSent (int_rows old) (int_rows new) p other_sent
     → (sent ≡ other_sent) × (entries ≡ other_entries)

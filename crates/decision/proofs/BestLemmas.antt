@@ -2,7 +2,7 @@
 use Rattle.std.proofs.Common.{◌≡◌, ℕ, zero, suc, ◌+◌, ◌≤◌, ◌<◌, Bool, true, false, ◌||◌, if◌then◌else◌, [], ◌∷◌, Option, refl, sym, ◌∙◌, ap, subst, arith, ◌-◌}
 use Rattle.std.specs.List.{range_with_len, list_any}
 use Rattle.std.proofs.lemmas.List.Folds.{list_any-append}
-use Rattle.addr4.specs.Prefixes.{Network}
+use Rattle.addr4.specs.Prefixes.{AddressPrefix}
 use Rattle.link_change.specs.Rows.{Rows, computed_rows, Candidates, IsNextCandidate, IsNextOfBoth, CoversRows, together}
 use Rattle.link_change.specs.Changes.{IsSent, IsChangeOf}
 use Rattle.link_change.specs.declared.change.Change.{Change}
@@ -14,12 +14,12 @@ use Rattle.decision.specs.Branches.{AllRows, best_rows, best_candidates, candida
 use Rattle.decision.specs.Lineups.{at_prefix, routes_of, with_own}
 use Rattle.decision.proofs.LineupLemmas.{by_number, numbers_more, routes_up_to, routes_none}
 
-pub best_is : (rows : AllRows) (p : Network) → best_rows rows p ≡ pick (routes_of 65 (at_prefix rows p))
+pub best_is : (rows : AllRows) (p : AddressPrefix) → best_rows rows p ≡ pick (routes_of 65 (at_prefix rows p))
 unfolding best_rows
 best_is rows p = refl
 
 -- the best at a prefix where one branch has this row, and the others have theirs
-abbrev pub best_beside : ℕ → AllRows → Network → Option Route → Option Route
+abbrev pub best_beside : ℕ → AllRows → AddressPrefix → Option Route → Option Route
 best_beside branch now q row = pick (routes_of 65 (with_own branch row (at_prefix now q)))
 
 -- the best rows are computed from those of one branch
@@ -52,13 +52,13 @@ candidates_more n candidates = same_function _ _ (λ q.
     ap (list_any (λ b. candidates b q)) (numbers_more n) ∙ list_any-append (λ b. candidates b q) (range_with_len 0 n) (n ∷ [])
     ∙ ap (λ t. list_any (λ b. candidates b q) (range_with_len 0 n) || t) (or_none (candidates n q)))
 
-pub next_more : (n : ℕ) (candidates : ℕ → Candidates) (after first second result : Option Network) → IsNextOfBoth first second result
+pub next_more : (n : ℕ) (candidates : ℕ → Candidates) (after first second result : Option AddressPrefix) → IsNextOfBoth first second result
     → IsNextCandidate (candidates_below n candidates) after first → IsNextCandidate (candidates n) after second
     → IsNextCandidate (candidates_below (n + 1) candidates) after result
 next_more n candidates after first second result both h k =
     subst (λ c. IsNextCandidate c after result) (sym (candidates_more n candidates)) (both (candidates_below n candidates) (candidates n) after h k)
 
-candidates_past : (n k : ℕ) (candidates : ℕ → Candidates) → ((b : ℕ) (q : Network) → n ≤ b → candidates b q ≡ false)
+candidates_past : (n k : ℕ) (candidates : ℕ → Candidates) → ((b : ℕ) (q : AddressPrefix) → n ≤ b → candidates b q ≡ false)
     → candidates_below (n + k) candidates ≡ candidates_below n candidates
 candidates_past n zero candidates none = let e : n + 0 ≡ n = omega arith in ap (λ m. candidates_below m candidates) e
 candidates_past n (suc k) candidates none =
@@ -68,13 +68,13 @@ candidates_past n (suc k) candidates none =
     ∙ candidates_past n k candidates none
 
 -- the candidates of the branches that may have some are those of all
-pub candidates_of_all : (n : ℕ) (candidates : ℕ → Candidates) → n ≤ 65 → ((b : ℕ) (q : Network) → n ≤ b → candidates b q ≡ false)
+pub candidates_of_all : (n : ℕ) (candidates : ℕ → Candidates) → n ≤ 65 → ((b : ℕ) (q : AddressPrefix) → n ≤ b → candidates b q ≡ false)
     → best_candidates candidates ≡ candidates_below n candidates
 unfolding best_candidates
 candidates_of_all n candidates le none =
     let e : 65 ≡ n + (65 - n) = omega arith in ap (λ m. candidates_below m candidates) e ∙ candidates_past n (65 - n) candidates none
 
-each_false : (n : ℕ) (candidates : ℕ → Candidates) (q : Network) → candidates_below n candidates q ≡ false → (b : ℕ) → b < n → candidates b q ≡ false
+each_false : (n : ℕ) (candidates : ℕ → Candidates) (q : AddressPrefix) → candidates_below n candidates q ≡ false → (b : ℕ) → b < n → candidates b q ≡ false
 each_false zero candidates q none b below = absurd (omega (arith, below))
 each_false (suc n) candidates q none b below =
     let e : n + 1 ≡ suc n = omega arith in

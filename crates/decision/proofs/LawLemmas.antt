@@ -2,7 +2,7 @@
 use Rattle.std.proofs.Common.{◌≡◌, ℕ, zero, suc, ◌+◌, ◌<◌, ◌≤◌, ◌⊎◌, nat_lt, Bool, true, false, is_some, List, [], ◌∷◌, ◌++◌, Option, Some, None, refl, sym, ◌∙◌, ap, subst, arith, inl, inr}
 use Rattle.std.specs.List.{cons_option}
 use Rattle.std.proofs.lemmas.Bool.Decides.{nat_tests}
-use Rattle.addr4.specs.Prefixes.{Network}
+use Rattle.addr4.specs.Prefixes.{AddressPrefix}
 use Rattle.bgp_attr.specs.declared.route.Route.{Route}
 use Rattle.decision.specs.Branches.{AllRows, best_rows}
 use Rattle.best_path.specs.Steps.{pick}
@@ -69,14 +69,14 @@ by_below_case b n P false e below past = past (grind (arith, nat_tests, e))
 by_below : (b n : ℕ) (P : Type 0) → (b < n → P) → (n ≤ b → P) → P
 by_below b n P below past = by_below_case b n P (nat_lt b n) refl below past
 
-pub some_best : (rows : AllRows) (p : Network) (b : ℕ) → b < 65 → is_some (rows b p) ≡ true → true ≡ is_some (best_rows rows p)
+pub some_best : (rows : AllRows) (p : AddressPrefix) (b : ℕ) → b < 65 → is_some (rows b p) ≡ true → true ≡ is_some (best_rows rows p)
 some_best rows p b below some = by_best (best_rows rows p) refl
   where
     by_best : (o : Option Route) → best_rows rows p ≡ o → true ≡ is_some o
     by_best (Some route) is = refl
     by_best None is = absurd (let none = no_best_only_without_routes rows p is b below in let clash : true ≡ false = sym some ∙ ap is_some none in cc)
 
-pub no_best : (rows : AllRows) (p : Network) (n : ℕ) → ((b : ℕ) → b < n → is_some (rows b p) ≡ false) → ((b : ℕ) → n ≤ b → rows b p ≡ None) → false ≡ is_some (best_rows rows p)
+pub no_best : (rows : AllRows) (p : AddressPrefix) (n : ℕ) → ((b : ℕ) → b < n → is_some (rows b p) ≡ false) → ((b : ℕ) → n ≤ b → rows b p ≡ None) → false ≡ is_some (best_rows rows p)
 no_best rows p n few none = sym (ap is_some (best_is rows p ∙ ap pick (routes_none 65 (at_prefix rows p) each)))
   where
     by_row : (o : Option Route) → is_some o ≡ false → o ≡ None

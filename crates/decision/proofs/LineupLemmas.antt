@@ -20,7 +20,7 @@ use Rattle.decision.specs.declared.lineup.Others.{Others}
 use Rattle.decision.specs.declared.heard.Said.{Said}
 use Rattle.decision.specs.declared.heard.Heard.{Heard}
 use Rattle.std.specs.Prelude.{MatchOption}
-use Rattle.addr4.specs.Prefixes.{Network}
+use Rattle.addr4.specs.Prefixes.{AddressPrefix}
 use Rattle.decision.specs.Branches.{AllRows}
 use Rattle.decision.specs.Lineups.{routes_of, at_prefix, with_own, chosen, candidate_at, LinesUp, Beside, HasRoom, HearsNone, HearsLast, Hears}
 
@@ -170,7 +170,7 @@ pub own_at : (branch : ℕ) (own : Option Route) (here : ℕ → Option Route) (
 own_at branch own here b is = by_number b branch (λ t. (if t then own else here b) ≡ own) (λ _. refl) (λ differ. absurd (differ is))
 
 -- behind the branch and all that may have rows there are none
-pub none_past : (branch n : ℕ) (own : Option Route) (rows : AllRows) (p : Network) → branch < n → ((b : ℕ) → n ≤ b → rows b p ≡ None)
+pub none_past : (branch n : ℕ) (own : Option Route) (rows : AllRows) (p : AddressPrefix) → branch < n → ((b : ℕ) → n ≤ b → rows b p ≡ None)
     → (b : ℕ) → n ≤ b → with_own branch own (at_prefix rows p) b ≡ None
 none_past branch n own rows p below none b past =
     own_elsewhere branch own (at_prefix rows p) b (λ same. absurd (omega (arith, below, past, same))) ∙ none b past

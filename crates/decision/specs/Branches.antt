@@ -1,7 +1,7 @@
 -- The rows of all branches, the best of them, and what the decision makes of a change.
 use Rattle.std.specs.Prelude.{◌≡◌, ℕ, ◌≤◌, List, Option, Some, None, false, ◌≢◌}
 use Rattle.std.specs.List.{filter_map, range_with_len, list_any}
-use Rattle.addr4.specs.Prefixes.{Network}
+use Rattle.addr4.specs.Prefixes.{AddressPrefix}
 use Rattle.link_change.specs.Rows.{Rows, Candidates}
 use Rattle.link_change.specs.Changes.{IsSent}
 use Rattle.link_change.specs.declared.change.Change.{Change}
@@ -14,10 +14,10 @@ AllRows = ℕ → Rows Route
 
 -- no branch with this number or a greater one has a row or a candidate
 abbrev pub NoneFrom : ℕ → AllRows → (ℕ → Candidates) → Type 0
-NoneFrom n rows candidates = (b : ℕ) (q : Network) → n ≤ b → (rows b q ≡ None) × (candidates b q ≡ false)
+NoneFrom n rows candidates = (b : ℕ) (q : AddressPrefix) → n ≤ b → (rows b q ≡ None) × (candidates b q ≡ false)
 
 -- the routes that the branches below n have at a prefix, in the order of branches
-abbrev pub routes_below : ℕ → AllRows → Network → List Route
+abbrev pub routes_below : ℕ → AllRows → AddressPrefix → List Route
 routes_below n rows q = filter_map (λ b. rows b q) (range_with_len 0 n)
 
 -- at each prefix the route that the decision process picks of those of all branches, 0 to 64
@@ -40,5 +40,5 @@ OthersStay branch before now = (b : ℕ) → b ≢ branch → before b ≡ now b
 -- from the best rows over the old branches to those over the branches now
 abbrev pub Decides : ℕ → AllRows → Change Route → Option (Change Route) → Type 0
 Decides branch now change result =
-    (before : AllRows) (p : Network) → OthersStay branch before now → IsSent (before branch) (now branch) p (Some change)
+    (before : AllRows) (p : AddressPrefix) → OthersStay branch before now → IsSent (before branch) (now branch) p (Some change)
     → IsSent (best_rows before) (best_rows now) p result

@@ -1,24 +1,24 @@
 -- Laws of the best routes.
 use Rattle.std.specs.Prelude.{◌≡◌, ◌<◌, ℕ, Some, None}
-use Rattle.addr4.specs.Prefixes.{Network}
+use Rattle.addr4.specs.Prefixes.{AddressPrefix}
 use Rattle.bgp_attr.specs.declared.route.Route.{Route}
 use Rattle.best_path.specs.Steps.{pick}
 use Rattle.decision.specs.Branches.{AllRows, routes_below, best_rows}
 
 -- the best is the pick of the branches' routes
 abbrev pub BestIsPicked : Type 0
-BestIsPicked = (rows : AllRows) (p : Network) → best_rows rows p ≡ pick (routes_below 65 rows p)
+BestIsPicked = (rows : AllRows) (p : AddressPrefix) → best_rows rows p ≡ pick (routes_below 65 rows p)
 
 -- it is some branch's row
 abbrev pub BestIsABranchs : Type 0
 BestIsABranchs =
-    (rows : AllRows) (p : Network) (route : Route) → best_rows rows p ≡ Some route → (b : ℕ) × (b < 65) × (rows b p ≡ Some route)
+    (rows : AllRows) (p : AddressPrefix) (route : Route) → best_rows rows p ≡ Some route → (b : ℕ) × (b < 65) × (rows b p ≡ Some route)
 
 -- there is none only where no branch has a row
 abbrev pub NoBestOnlyWithoutRoutes : Type 0
-NoBestOnlyWithoutRoutes = (rows : AllRows) (p : Network) → best_rows rows p ≡ None → (b : ℕ) → b < 65 → rows b p ≡ None
+NoBestOnlyWithoutRoutes = (rows : AllRows) (p : AddressPrefix) → best_rows rows p ≡ None → (b : ℕ) → b < 65 → rows b p ≡ None
 
 -- where all branches have the same rows at a prefix, the same route is the best there
 abbrev pub BestIsOfItsPrefix : Type 0
 BestIsOfItsPrefix =
-    (rows other : AllRows) (p : Network) → ((b : ℕ) → b < 65 → rows b p ≡ other b p) → best_rows rows p ≡ best_rows other p
+    (rows other : AllRows) (p : AddressPrefix) → ((b : ℕ) → b < 65 → rows b p ≡ other b p) → best_rows rows p ≡ best_rows other p

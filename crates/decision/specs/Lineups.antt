@@ -2,7 +2,7 @@
 use Rattle.std.specs.Prelude.{◌≡◌, ◌≤◌, ◌<◌, ℕ, ◌==◌, if◌then◌else◌, List, [], ◌∷◌, ◌++◌, map, length, Option, Some, None, option_and_then, MatchOption}
 use Rattle.std.specs.List.{filter_map, range_with_len}
 use Rattle.std.specs.Option.{option_map}
-use Rattle.addr4.specs.Prefixes.{Network}
+use Rattle.addr4.specs.Prefixes.{AddressPrefix}
 use Rattle.link_change.specs.declared.change.Change.{Change}
 use Rattle.bgp_attr.specs.declared.route.Route.{Route}
 use Rattle.best_path.specs.declared.candidate.Candidate.{Candidate}
@@ -16,7 +16,7 @@ use Rattle.decision.specs.declared.heard.Heard.{Heard}
 use Rattle.decision.specs.Branches.{AllRows}
 
 -- the row of each branch at a prefix
-abbrev pub at_prefix : AllRows → Network → ℕ → Option Route
+abbrev pub at_prefix : AllRows → AddressPrefix → ℕ → Option Route
 at_prefix rows p b = rows b p
 
 -- the same, but this row of one branch

@@ -8,7 +8,7 @@ use Rattle.std.specs.Str.{bytes_eq}
 use Rattle.std.specs.List.{join_with_byte}
 use Rattle.hex.specs.Hex.{encode_lower}
 use Rattle.hex.proofs.HexLemmas.{decode_of-encode_lower}
-use Rattle.addr4.specs.Prefixes.{Network}
+use Rattle.addr4.specs.Prefixes.{AddressPrefix}
 use Rattle.addr4.specs.Texts.{number_of, prefix_of, prefix_text}
 use Rattle.rib_route.specs.declared.Proto.TheVariants.{Static}
 use Rattle.rib_route.specs.declared.rows.Interior.{Interior}
@@ -53,16 +53,16 @@ octets_told octets small some =
     let other : nat_eq (length octets) 0 ≡ false = grind (arith, nat_tests) in
     ap (λ r. result_ok r >>= λ os. cond (nat_eq (length os) 0) None (Some os)) (decode_of-encode_lower octets (bytes octets small)) ∙ ap (λ b. cond b None (Some octets)) other
 
-as_it_is : (b : Bool) (q p : Network) → cond b (Some q) None ≡ Some p → Some q ≡ Some p
+as_it_is : (b : Bool) (q p : AddressPrefix) → cond b (Some q) None ≡ Some p → Some q ≡ Some p
 as_it_is true q p e = e
 as_it_is false q p e = absurd (cc)
 
-prefix_by : (word : List ℕ) (o : Option Network) (p : Network) → (o >>> λ q. as_printed word q) ≡ Some p → o ≡ Some p
+prefix_by : (word : List ℕ) (o : Option AddressPrefix) (p : AddressPrefix) → (o >>> λ q. as_printed word q) ≡ Some p → o ≡ Some p
 unfolding as_printed
 prefix_by word None p e = absurd (cc)
 prefix_by word (Some q) p e = as_it_is (bytes_eq word (prefix_text q)) q p e
 
-prefix_told : (p : Network) → IsPrefix p → prefix_of 32 (prefix_text p) ≡ Some p
+prefix_told : (p : AddressPrefix) → IsPrefix p → prefix_of 32 (prefix_text p) ≡ Some p
 unfolding printed_prefix
 prefix_told p h = prefix_by (prefix_text p) (prefix_of 32 (prefix_text p)) p (printed_back p h)
 
@@ -107,13 +107,13 @@ interior_told : (n : ℕ) → n < 2 ^ 32 → interior_of Static (codes "direct" 
 unfolding interior_of way_out
 interior_told n small = ap (λ o. o >>= λ m. Some (host_row m)) (number_told n small)
 
-add_told : (p : Network) (n : ℕ) → IsPrefix p → n < 2 ^ 32 → event_of plain (codes "route" ∷ codes "add" ∷ codes "static" ∷ prefix_text p ∷ codes "direct" ∷ codes "eth1" ∷ decimal n ∷ []) ≡ Some (events.RouteAdd p (host_row n))
+add_told : (p : AddressPrefix) (n : ℕ) → IsPrefix p → n < 2 ^ 32 → event_of plain (codes "route" ∷ codes "add" ∷ codes "static" ∷ prefix_text p ∷ codes "direct" ∷ codes "eth1" ∷ decimal n ∷ []) ≡ Some (events.RouteAdd p (host_row n))
 unfolding event_of named_event plain_event interior_event route_of route_add_of proto_of
 add_told p n h small =
     ap (λ o. o >>= λ q. interior_of Static (codes "direct" ∷ codes "eth1" ∷ decimal n ∷ []) >>= λ row. Some (events.RouteAdd q row)) (prefix_told p h)
     ∙ ap (λ o. o >>= λ row. Some (events.RouteAdd p row)) (interior_told n small)
 
-del_told : (p : Network) → IsPrefix p → event_of plain (codes "route" ∷ codes "del" ∷ codes "static" ∷ prefix_text p ∷ []) ≡ Some (events.RouteDel Static p)
+del_told : (p : AddressPrefix) → IsPrefix p → event_of plain (codes "route" ∷ codes "del" ∷ codes "static" ∷ prefix_text p ∷ []) ≡ Some (events.RouteDel Static p)
 unfolding event_of named_event plain_event interior_event route_of route_del_of proto_of
 del_told p h = ap (λ o. o >>= λ q. Some (events.RouteDel Static q)) (prefix_told p h)
 
@@ -179,13 +179,13 @@ filter_read k n h small =
     (plain_by (codes "filter") refl, (plain_by (codes "in") refl, (plain_count k h, (plain_by (codes "any") refl, (plain_by (codes "pref") refl, (plain_decimal n small, (plain_by (codes "accept") refl, tt))))))) (omega arith)
     ∙ ap in_grammar (filter_told k n h small)
 
-pub add_read : (p : Network) (n : ℕ) → IsPrefix p → n < 2 ^ 32 → read_event plain (join_with_byte 32 (codes "route" ∷ codes "add" ∷ codes "static" ∷ prefix_text p ∷ codes "direct" ∷ codes "eth1" ∷ decimal n ∷ [])) ≡ Ok (events.RouteAdd p (host_row n))
+pub add_read : (p : AddressPrefix) (n : ℕ) → IsPrefix p → n < 2 ^ 32 → read_event plain (join_with_byte 32 (codes "route" ∷ codes "add" ∷ codes "static" ∷ prefix_text p ∷ codes "direct" ∷ codes "eth1" ∷ decimal n ∷ [])) ≡ Ok (events.RouteAdd p (host_row n))
 add_read p n h small =
     line_read (codes "route") (codes "add" ∷ codes "static" ∷ prefix_text p ∷ codes "direct" ∷ codes "eth1" ∷ decimal n ∷ [])
     (plain_by (codes "route") refl, (plain_by (codes "add") refl, (plain_by (codes "static") refl, (plain_prefix p h, (plain_by (codes "direct") refl, (plain_by (codes "eth1") refl, (plain_decimal n small, tt))))))) (omega arith)
     ∙ ap in_grammar (add_told p n h small)
 
-pub del_read : (p : Network) → IsPrefix p → read_event plain (join_with_byte 32 (codes "route" ∷ codes "del" ∷ codes "static" ∷ prefix_text p ∷ [])) ≡ Ok (events.RouteDel Static p)
+pub del_read : (p : AddressPrefix) → IsPrefix p → read_event plain (join_with_byte 32 (codes "route" ∷ codes "del" ∷ codes "static" ∷ prefix_text p ∷ [])) ≡ Ok (events.RouteDel Static p)
 del_read p h =
     line_read (codes "route") (codes "del" ∷ codes "static" ∷ prefix_text p ∷ [])
     (plain_by (codes "route") refl, (plain_by (codes "del") refl, (plain_by (codes "static") refl, (plain_prefix p h, tt)))) (omega arith)

@@ -3,7 +3,7 @@ use Rattle.std.specs.Prelude.{ℕ, ◌+◌, ◌*◌, ◌==◌, if◌then◌else�
 use Rattle.std.specs.List.{flat_map, join_with_byte}
 use Rattle.std.specs.Fmt.{decimal}
 use Rattle.hex.specs.Hex.{encode_lower}
-use Rattle.addr4.specs.Prefixes.{Network}
+use Rattle.addr4.specs.Prefixes.{AddressPrefix}
 use Rattle.addr4.specs.Texts.{prefix_text}
 use Rattle.bgp_attr.specs.declared.attrs.Attrs.{Attrs}
 use Rattle.bgp_attr.specs.declared.attrs.Origin as origins
@@ -21,7 +21,7 @@ use Rattle.event_gen.specs.declared.generator.Part.TheVariants.{Opening, Events,
 -- ---- messages
 
 -- the prefix 10.X.0.0/16
-abbrev pub block : ℕ → Network
+abbrev pub block : ℕ → AddressPrefix
 block x = record { address = 167772160 + x * 65536; length = 16 }
 
 -- the address 192.0.2.K
@@ -57,7 +57,7 @@ withdraw_octets x = update_octets false (withdrawal (block x))
 -- ---- lines
 
 -- the prefix 192.0.2.K/32
-abbrev pub host : ℕ → Network
+abbrev pub host : ℕ → AddressPrefix
 host k = record { address = peer_addr k; length = 32 }
 
 -- the name of a task

@@ -20,7 +20,7 @@ use Rattle.policy_rules.specs.declared.rule.Rule.{Rule}
 use Rattle.policy_rules.specs.Ranges.{AreRules}
 use Rattle.policy_rules.specs.Grammar.{rules_of}
 use Rattle.policy_rules.proofs.RangeLemmas.{and_then, either, below, addr_fits, prefix_ok, rules_ok}
-use Rattle.addr4.specs.Prefixes.{Network, IsMasked}
+use Rattle.addr4.specs.Prefixes.{AddressPrefix, IsMasked}
 use Rattle.bgp_attr.specs.Hosts.{is_host}
 use Rattle.bgp_attr.specs.Speakers.{IsSpeaker, MayBeClient, asn_bound}
 use Rattle.bgp_attr.specs.declared.speaker.Profile.{Profile}
@@ -85,7 +85,7 @@ octets_ok digits =
 is_prefix : (text : List ℕ) → IfSome (prefix_of 32 text) IsPrefix
 is_prefix text = as_record (prefix_of 32 text) (prefix_ok text)
   where
-    as_record : (o : Option Network) → IfSome o (λ p. IsMasked 32 p × (p.address < 2 ^ 32)) → IfSome o IsPrefix
+    as_record : (o : Option AddressPrefix) → IfSome o (λ p. IsMasked 32 p × (p.address < 2 ^ 32)) → IfSome o IsPrefix
     as_record None h = tt
     as_record (Some p) h = record { masked = h.0; fits = h.1 }
 

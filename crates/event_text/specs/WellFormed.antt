@@ -1,7 +1,7 @@
 -- What holds of each event that was read.
 use Rattle.std.specs.Prelude.{◌≡◌, ℕ, ◌^◌, ◌<◌, Bool, List, length, Option, Some, None, true}
 use Rattle.std.specs.List.{All}
-use Rattle.addr4.specs.Prefixes.{Network, IsMasked}
+use Rattle.addr4.specs.Prefixes.{AddressPrefix, IsMasked}
 use Rattle.bgp_attr.specs.Speakers.{IsSpeaker, MayBeClient}
 use Rattle.bgp_attr.specs.declared.speaker.Profile.{Profile}
 use Rattle.rib_route.specs.Ifaces.{is_iface_name}
@@ -24,7 +24,7 @@ pub record IsMessage (octets : List ℕ) : Type 0 where
   pub bytes : All (λ b. b < 256) octets
 
 -- a prefix of IPv4
-pub record IsPrefix (p : Network) : Type 0 where
+pub record IsPrefix (p : AddressPrefix) : Type 0 where
   pub masked : IsMasked 32 p
   pub fits : p.address < 2 ^ 32
 

@@ -2,7 +2,7 @@
 use Rattle.std.proofs.Common.{◌≡◌, ◌⊎◌, inl, inr, List, [], Option, Some, None, sym, ap, subst, ◌∙◌}
 use Rattle.std.specs.FinMap as tables
 use Rattle.std.proofs.lemmas.Option.{same_Some}
-use Rattle.addr4.specs.Prefixes.{Network}
+use Rattle.addr4.specs.Prefixes.{AddressPrefix}
 use Rattle.bgp_attr.specs.declared.attrs.Attrs.{Attrs}
 use Rattle.bgp_attr.specs.declared.route.Route.{Route}
 use Rattle.link_change.specs.Rows.{Rows, Candidates, with_rows as rows_of, IsNextCandidate}
@@ -80,8 +80,8 @@ pub resent_is_one : ResentIsOne
 resent_is_one old new now said heard first second =
     let place : first.place ≡ second.place = same_Some first.place second.place (sym first.on ∙ second.on) in
     let prefix : first.prefix ≡ second.prefix = same_Some first.prefix second.prefix (next_is_one (rows_of (tables.get old.sent)) second.place (Some first.prefix) (Some second.prefix)
-    (subst (λ (p : Option Network). IsNextCandidate (rows_of (tables.get old.sent)) p (Some first.prefix)) place first.next) second.next) in
+    (subst (λ (p : Option AddressPrefix). IsNextCandidate (rows_of (tables.get old.sent)) p (Some first.prefix)) place first.next) second.next) in
     let attrs : first.attrs ≡ second.attrs = same_Some first.attrs second.attrs (sym first.row ∙ ap (tables.get old.sent) prefix ∙ second.row) in (
-      first.after ∙ ap (λ (p : Network). record old { refresh = walk_on old.sent (Some p) }) prefix ∙ sym second.after,
-      first.line ∙ ap (λ (p : Network). message_lines old (Some (announcing p first.attrs))) prefix ∙ ap (λ (a : Attrs). message_lines old (Some (announcing second.prefix a))) attrs ∙ sym second.line,
+      first.after ∙ ap (λ (p : AddressPrefix). record old { refresh = walk_on old.sent (Some p) }) prefix ∙ sym second.after,
+      first.line ∙ ap (λ (p : AddressPrefix). message_lines old (Some (announcing p first.attrs))) prefix ∙ ap (λ (a : Attrs). message_lines old (Some (announcing second.prefix a))) attrs ∙ sym second.line,
     )

@@ -7,7 +7,7 @@ use Rattle.std.specs.FinMap as tables
 use Rattle.std.specs.FinMap.{get-insert, get-remove, get-empty}
 use Rattle.std.specs.Ordering.{eq_by_cmp}
 use Rattle.std.specs.Cmp.{nat_cmp_total}
-use Rattle.addr4.specs.Prefixes.{Network, prefix_cmp}
+use Rattle.addr4.specs.Prefixes.{AddressPrefix, prefix_cmp}
 use Rattle.addr4.proofs.PrefixOrder.{prefixes_total, itself, by_prefix}
 use Rattle.bgp_attr.specs.declared.attrs.Attrs.{Attrs}
 use Rattle.bgp_attr.specs.declared.route.Route.{Route}
@@ -43,7 +43,7 @@ module _ (profile : Profile) (peers : ℕ → Option Neighbour) where
   pub rows_read : (changes : List (Change Route)) (best : Rows Route) → AllBest changes → AreBestRows profile peers best → AreBestRows profile peers (rows_before changes best)
   rows_read [] best all rows p row is = rows p row is
   rows_read (c ∷ cs) best all rows p row is = by_prefix p c.prefix (λ (b : Bool). cond b c.before (rows_before cs best p) ≡ Some row → IsPrintableBest profile peers p row)
-      (λ at was. subst (λ (q : Network). IsPrintableBest profile peers q row) (sym at) (all.0.before row was))
+      (λ at was. subst (λ (q : AddressPrefix). IsPrintableBest profile peers q row) (sym at) (all.0.before row was))
       (λ _ was. rows_read cs best all.1 rows p row was) is
 
   of_unread : (queued : Queued Route) (reader : ℕ) (o : Option (List (Change Route))) → AreBestChanges profile peers queued → tables.get queued reader ≡ o → AllBest (unread_or_none o)
@@ -98,18 +98,18 @@ module _ (profile : Profile) (peers : ℕ → Option Neighbour) where
       (λ differ. each k d (sym (gone_other j k queue e differ) ∙ at))
 
   -- ---- what was sent
-  kept_get : (rows : Routes) (p : Network) (after : Option Attrs) (q : Network) → tables.get (kept_after rows p after) q ≡ cond (eq_by_cmp prefix_cmp q p) after (tables.get rows q)
+  kept_get : (rows : Routes) (p : AddressPrefix) (after : Option Attrs) (q : AddressPrefix) → tables.get (kept_after rows p after) q ≡ cond (eq_by_cmp prefix_cmp q p) after (tables.get rows q)
   kept_get rows p None q = get-remove prefixes_total rows p q
   kept_get rows p (Some a) q = get-insert prefixes_total rows p a q
 
   pub sent_there : (rows : Routes) (change : Change Attrs) → tables.get (sent_after rows (Some change)) change.prefix ≡ change.after
   sent_there rows change = kept_get rows change.prefix change.after change.prefix ∙ ap (λ (b : Bool). cond b change.after (tables.get rows change.prefix)) (itself change.prefix)
 
-  pub sent_kept : (rows : Routes) (sent : Option (Change Attrs)) → ((p : Network) → ForSome (tables.get rows p) (IsPrintableSent peers p))
-      → ((change : Change Attrs) → sent ≡ Some change → ForSome change.after (IsPrintableSent peers change.prefix)) → (p : Network) → ForSome (tables.get (sent_after rows sent) p) (IsPrintableSent peers p)
+  pub sent_kept : (rows : Routes) (sent : Option (Change Attrs)) → ((p : AddressPrefix) → ForSome (tables.get rows p) (IsPrintableSent peers p))
+      → ((change : Change Attrs) → sent ≡ Some change → ForSome change.after (IsPrintableSent peers change.prefix)) → (p : AddressPrefix) → ForSome (tables.get (sent_after rows sent) p) (IsPrintableSent peers p)
   sent_kept rows None was now p a is = was p a is
   sent_kept rows (Some change) was now p a is = by_prefix p change.prefix (λ (b : Bool). cond b change.after (tables.get rows p) ≡ Some a → IsPrintableSent peers p a)
-      (λ at e. subst (λ (q : Network). IsPrintableSent peers q a) (sym at) (now change refl a e)) (λ _ e. was p a e) (sym (kept_get rows change.prefix change.after p) ∙ is)
+      (λ at e. subst (λ (q : AddressPrefix). IsPrintableSent peers q a) (sym at) (now change refl a e)) (λ _ e. was p a e) (sym (kept_get rows change.prefix change.after p) ∙ is)
 
   -- ---- steps
   begun_exit : (j : ℕ) (c : OutChained) → IsNamed (Adv j c.session) → c.sent ≡ tables.empty → IsPrintableExit peers j c

@@ -5,7 +5,7 @@ use Rattle.std.proofs.lemmas.Bool.Decides.{nat_tests}
 use Rattle.std.proofs.lemmas.Nat.{mod_below}
 use Rattle.std.specs.Int.{byte_at, bytes_high_first}
 use Rattle.std.specs.List.{AllByRecursion, flat_map}
-use Rattle.addr4.specs.Prefixes.{Network}
+use Rattle.addr4.specs.Prefixes.{AddressPrefix}
 use Rattle.bgp_attr.specs.declared.attrs.Aggregator.{Aggregator}
 use Rattle.bgp_attr.specs.declared.attrs.Attrs.{Attrs}
 use Rattle.bgp_attr.specs.declared.attrs.Origin.{Origin}
@@ -61,10 +61,10 @@ numbers width [] = tt
 numbers width (n ∷ ns) = both (bytes_high_first width n) (flat_map (bytes_high_first width) ns) (number width n) (numbers width ns)
 
 -- ---- the parts of a message
-prefix : (p : Network) → p.length ≤ 32 → AreSmall (prefix_octets p)
+prefix : (p : AddressPrefix) → p.length ≤ 32 → AreSmall (prefix_octets p)
 prefix p few = (omega (arith, few), front (octets_for p.length) (bytes_high_first 4 p.address) (number 4 p.address))
 
-one_prefix : (p : Network) → p.length ≤ 32 → AreSmall (prefixes_octets (p ∷ []))
+one_prefix : (p : AddressPrefix) → p.length ≤ 32 → AreSmall (prefixes_octets (p ∷ []))
 one_prefix p few = both (prefix_octets p) [] (prefix p few) tt
 
 kind_small : (kind : SegmentKind) → code_of kind < 2 ^ 8
@@ -188,9 +188,9 @@ fields w a p hw ha hp =
     both (((lw ++ w) ++ la) ++ a) p
     (both ((lw ++ w) ++ la) a (both (lw ++ w) la (both lw w (number 2 (length w)) hw) (number 2 (length a))) ha) hp
 
-pub withdrawal_small : (as4 : Bool) (p : Network) → p.length ≤ 32 → AreSmall (update_octets as4 (withdrawal p))
+pub withdrawal_small : (as4 : Bool) (p : AddressPrefix) → p.length ≤ 32 → AreSmall (update_octets as4 (withdrawal p))
 withdrawal_small as4 p few = frame (fields_octets (prefixes_octets (p ∷ [])) [] []) (fields (prefixes_octets (p ∷ [])) [] [] (one_prefix p few) tt tt)
 
-pub announcement_small : (as4 : Bool) (p : Network) (a : Attrs) → p.length ≤ 32 → CanBeSpelled a → AreSmall (update_octets as4 (announcement p a))
+pub announcement_small : (as4 : Bool) (p : AddressPrefix) (a : Attrs) → p.length ≤ 32 → CanBeSpelled a → AreSmall (update_octets as4 (announcement p a))
 announcement_small as4 p a few can =
     frame (fields_octets [] (attrs_octets as4 (Some a)) (prefixes_octets (p ∷ []))) (fields [] (attrs_octets as4 (Some a)) (prefixes_octets (p ∷ [])) tt (attributes as4 a can) (one_prefix p few))

@@ -4,7 +4,7 @@ use Rattle.std.specs.Prelude.{option_map, nat_le, All}
 use Rattle.std.specs.Option.{ForSome}
 use Rattle.std.specs.List.{AllByRecursion}
 use Rattle.std.specs.FinMap as tables
-use Rattle.addr4.specs.Prefixes.{Network}
+use Rattle.addr4.specs.Prefixes.{AddressPrefix}
 use Rattle.bgp_attr.specs.Paths.{times_in_front}
 use Rattle.bgp_attr.specs.declared.attrs.Attrs.{Attrs}
 use Rattle.bgp_attr.specs.declared.path.Segment.{Segment}
@@ -66,7 +66,7 @@ pub record IsFormOfOne (exit : Exit) (row : Route) (a : Attrs) : Type 0 where
   pub is : a ≡ sent_form exit.profile exit.me exit.external route
   pub attrs : route.attrs ≡ row.attrs
 
-module _ (exit : Exit) (p : Network) (row : Route) (a : Attrs) where
+module _ (exit : Exit) (p : AddressPrefix) (row : Route) (a : Attrs) where
   pub of_fitting : (r : Route) (fits : Bool) → r.attrs ≡ row.attrs → cond fits (Some (sent_form exit.profile exit.me exit.external r)) None ≡ Some a → IsFormOfOne exit row a
   of_fitting r true keeps e = record { route = r; is = let same : Some (sent_form exit.profile exit.me exit.external r) ≡ Some a = e in cc; attrs = keeps }
   of_fitting r false keeps e = absurd (let clash : ◌≡◌ {A = Option Attrs} None (Some a) = e in cc)
@@ -88,14 +88,14 @@ pub sent_few : (as4 external : Bool) (n asn : ℕ) (path : List Segment) → asn
 sent_few as4 true n asn path fits each = few_numbers as4 (times_in_front n asn path) (prepended_is_readable as4 n asn path fits each)
 sent_few as4 false n asn path fits each = few_numbers as4 path each
 
-can_be_spelled : (profile : Profile) (peers : ℕ → Option Neighbour) (exit : Exit) (p : Network) (row : Route) (a : Attrs) → exit.me.asn < 256 ^ width_of profile.as4 → IsPrintableBest profile peers p row → IsFormOfOne exit row a → CanBeSpelled a
+can_be_spelled : (profile : Profile) (peers : ℕ → Option Neighbour) (exit : Exit) (p : AddressPrefix) (row : Route) (a : Attrs) → exit.me.asn < 256 ^ width_of profile.as4 → IsPrintableBest profile peers p row → IsFormOfOne exit row a → CanBeSpelled a
 can_be_spelled profile peers exit p row a fits best form =
     let r = form.route in
     let few = sent_few profile.as4 exit.external (1 + r.prepend) exit.me.asn r.attrs.path fits (subst (λ x. All (IsReadableSegment profile.as4) x.path) (sym form.attrs) best.heard.path) in
     subst CanBeSpelled (sym form.is) (record { path = few; unrecognized = subst (λ x. AllByRecursion (λ (u : Unrecognized). (u.kind < 2 ^ 8) × AreSmall u.value) x.unrecognized) (sym form.attrs) best.printed.well_told.ranges.attrs.unrecognized })
 
 -- the octets of a change
-pub octets_small : (as4 : Bool) (p : Network) (after : Option Attrs) → IsPrefix p → ForSome after CanBeSpelled → AreSmall (update_octets as4 (saying p after))
+pub octets_small : (as4 : Bool) (p : AddressPrefix) (after : Option Attrs) → IsPrefix p → ForSome after CanBeSpelled → AreSmall (update_octets as4 (saying p after))
 octets_small as4 p None prefix can = withdrawal_small as4 p prefix.0.0
 octets_small as4 p (Some a) prefix can = announcement_small as4 p a prefix.0.0 (can a refl)
 
@@ -105,11 +105,11 @@ module _ (peers : ℕ → Option Neighbour) where
   entries_printed [] all = tt
   entries_printed (e ∷ es) all = (all.0, entries_printed es all.1)
 
-  route_if : (profile : Profile) (p : Network) (o : Option Route) → ForSome o (IsPrintableBest profile peers p) → IfSome (option_map route_value o) (IsPrintable peers)
+  route_if : (profile : Profile) (p : AddressPrefix) (o : Option Route) → ForSome o (IsPrintableBest profile peers p) → IfSome (option_map route_value o) (IsPrintable peers)
   route_if profile p None each = tt
   route_if profile p (Some r) each = (each r refl).printed
 
-  attrs_if : (p : Network) (o : Option Attrs) → ForSome o (IsPrintableSent peers p) → IfSome (option_map attrs_value o) (IsPrintable peers)
+  attrs_if : (p : AddressPrefix) (o : Option Attrs) → ForSome o (IsPrintableSent peers p) → IfSome (option_map attrs_value o) (IsPrintable peers)
   attrs_if p None each = tt
   attrs_if p (Some a) each = (each a refl).printed
 
@@ -153,7 +153,7 @@ module _ (old new : OutChained) (queued left : Queued Route) (candidates : Candi
   by_walk : WalksNext old new queued left candidates best entries (Some change) → change.after ≢ change.before
   by_walk walks = at_next walks.walks.next walks.walks.changes
     where
-      at_next : (next : Option Network) → IsSentAt next (passed_rows (made_by old) old.filter best) (passed_rows (made_by old) new.filter best) (Some change) → change.after ≢ change.before
+      at_next : (next : Option AddressPrefix) → IsSentAt next (passed_rows (made_by old) old.filter best) (passed_rows (made_by old) new.filter best) (Some change) → change.after ≢ change.before
       at_next None is = absurd (let clash : ◌≡◌ {A = Option (Change Attrs)} (Some change) None = is.0 in cc)
       at_next (Some p) is = is.1.1
 
@@ -167,17 +167,17 @@ fold_both links [] ys = refl
 fold_both links (x ∷ xs) ys = fold_both (after links x) xs ys
 
 -- changes on another link leave the rows of one
-others_stay : (links : Links Value) (link other : Link) (p : Network) (before then : Option Value) → same_link link other ≡ false → fold_links links (change_entries other p before then) link ≡ links link
+others_stay : (links : Links Value) (link other : Link) (p : AddressPrefix) (before then : Option Value) → same_link link other ≡ false → fold_links links (change_entries other p before then) link ≡ links link
 others_stay links link other p None None apart = refl
 others_stay links link other p None (Some new) apart = ap (λ (b : Bool). cond b (option_map (λ rows. with_row rows p (Some new)) (links other)) (links link)) apart
 others_stay links link other p (Some old) None apart = ap (λ (b : Bool). cond b (option_map (λ rows. with_row rows p None) (links other)) (links link)) apart
 others_stay links link other p (Some old) (Some new) apart = ap (λ (b : Bool). cond b (option_map (λ rows. with_row rows p (Some new)) (links other)) (links link)) apart
 
 -- what a lawful change takes away stood there
-row_is : (links : Links Value) (link : Link) (rows : Rows Value) (p : Network) (old : Value) → links link ≡ Some rows → HasRow links link p (Some old) → rows p ≡ Some old
+row_is : (links : Links Value) (link : Link) (rows : Rows Value) (p : AddressPrefix) (old : Value) → links link ≡ Some rows → HasRow links link p (Some old) → rows p ≡ Some old
 row_is links link rows p old is has = let same : rows ≡ has.0 = (let e : Some rows ≡ Some has.0 = sym is ∙ has.1 in cc) in ap (λ (r : Rows Value). r p) same ∙ has.2
 
-stood : (links : Links Value) (link : Link) (rows : Rows Value) (p : Network) (old : Value) (then : Option Value) → links link ≡ Some rows → IsLawful links (change_entries link p (Some old) then) → rows p ≡ Some old
+stood : (links : Links Value) (link : Link) (rows : Rows Value) (p : AddressPrefix) (old : Value) (then : Option Value) → links link ≡ Some rows → IsLawful links (change_entries link p (Some old) then) → rows p ≡ Some old
 stood links link rows p old None is lawful = row_is links link rows p old is lawful.0
 stood links link rows p old (Some new) is lawful = row_is links link rows p old is lawful.0.0
 
@@ -194,12 +194,12 @@ module _ (links : Links Value) (rows : Rows Attrs) (n t : ℕ) (is : links (Adv 
       let there = subst (λ (o : Option Attrs). IsLawful (fold_links links first) (change_entries (Adv n t) change.prefix (option_map attrs_value o) (option_map attrs_value change.after))) before own in
       value_back (rows change.prefix) a (stood (fold_links links first) (Adv n t) (attrs_rows rows) change.prefix (attrs_value a) (option_map attrs_value change.after) (stays ∙ is) there)
 
-prefix_of_one : (p : Network) (before after : Option Attrs) → after ≢ before → ((b : Attrs) → before ≡ Some b → IsPrefix p) → ((a : Attrs) → after ≡ Some a → IsPrefix p) → IsPrefix p
+prefix_of_one : (p : AddressPrefix) (before after : Option Attrs) → after ≢ before → ((b : Attrs) → before ≡ Some b → IsPrefix p) → ((a : Attrs) → after ≡ Some a → IsPrefix p) → IsPrefix p
 prefix_of_one p None None differs was is = absurd (differs refl)
 prefix_of_one p (Some b) after differs was is = was b refl
 prefix_of_one p None (Some a) differs was is = is a refl
 
-row_there : (form : Form Attrs) (peer : Neighbour) (rules : Option (List Rule)) (p : Network) (o : Option Route) (a : Attrs) → outgoing form peer rules p o ≡ Some a → (row : Route) × (o ≡ Some row) × (outgoing form peer rules p (Some row) ≡ Some a)
+row_there : (form : Form Attrs) (peer : Neighbour) (rules : Option (List Rule)) (p : AddressPrefix) (o : Option Route) (a : Attrs) → outgoing form peer rules p o ≡ Some a → (row : Route) × (o ≡ Some row) × (outgoing form peer rules p (Some row) ≡ Some a)
 row_there form peer rules p None a e = absurd (let clash : ◌≡◌ {A = Option Attrs} None (Some a) = e in cc)
 row_there form peer rules p (Some row) a e = (row, refl, e)
 
@@ -230,7 +230,7 @@ module _ (profile : Profile) (peers : ℕ → Option Neighbour) (old new : OutCh
         said None e = e
         said (Some b) e = e
 
-    sayable : SendsFrom old change → ((p : Network) → ForSome (tables.get old.sent p) (IsPrintableSent peers p)) → IsSayable peers change
+    sayable : SendsFrom old change → ((p : AddressPrefix) → ForSome (tables.get old.sent p) (IsPrintableSent peers p)) → IsSayable peers change
     sayable from was =
         let before : ForSome change.before (IsPrintableSent peers change.prefix) = λ b is. was change.prefix b (from.was b is) in
         let prefix : IsPrefix change.prefix = prefix_of_one change.prefix change.before change.after from.differs (λ b is. (before b is).prefix) (λ a is. (from_row a is).0) in
@@ -335,7 +335,7 @@ module _ (profile : Profile) (peers : ℕ → Option Neighbour) (j : ℕ) (candi
   chain_is : IsPrintableExit peers j turn.taken
   chain_is = record {
     named = subst (λ (s : ℕ). IsNamed (Adv j s)) (sym turn.same.session) own.named;
-    sent = subst (λ r. (p : Network) → ForSome (tables.get r p) (IsPrintableSent peers p)) (sym kept) (sent_kept profile peers turn.chain.sent sent own.sent (λ change is. (each_sayable change is).after));
+    sent = subst (λ r. (p : AddressPrefix) → ForSome (tables.get r p) (IsPrintableSent peers p)) (sym kept) (sent_kept profile peers turn.chain.sent sent own.sent (λ change is. (each_sayable change is).after));
   }
 
   turn_prints : PrintsOn profile peers e' said
@@ -382,7 +382,7 @@ module _ (profile : Profile) (before now : Declaration) (keeps : KeepsPeers befo
   from_stays None is = sym keeps.nobody
   from_stays (Some w) is = sym (keeps.words w.number w (sym is))
 
-  best_stays : (p : Network) (row : Route) → IsPrintableBest profile (neighbours before) p row → IsPrintableBest profile (neighbours now) p row
+  best_stays : (p : AddressPrefix) (row : Route) → IsPrintableBest profile (neighbours before) p row → IsPrintableBest profile (neighbours now) p row
   best_stays p row is = record {
     prefix = is.prefix;
     heard = is.heard;
@@ -396,7 +396,7 @@ module _ (profile : Profile) (before now : Declaration) (keeps : KeepsPeers befo
     after = λ r there. best_stays change.prefix r (is.after r there);
   }
 
-  sent_stays : (p : Network) (a : Attrs) → IsPrintableSent (neighbours before) p a → IsPrintableSent (neighbours now) p a
+  sent_stays : (p : AddressPrefix) (a : Attrs) → IsPrintableSent (neighbours before) p a → IsPrintableSent (neighbours now) p a
   sent_stays p a is = record { prefix = is.prefix; printed = record { well_told = record { ranges = is.printed.well_told.ranges; told = is.printed.well_told.told }; short = is.printed.short } }
 
 pub printing_stays : PrintingStays

@@ -4,7 +4,7 @@ use Rattle.std.specs.Prelude.{nat_le, All}
 use Rattle.std.specs.List.{AllByRecursion}
 use Rattle.std.specs.FinMap as tables
 use Rattle.std.specs.FinMap.{get-insert, same_map}
-use Rattle.addr4.specs.Prefixes.{Network}
+use Rattle.addr4.specs.Prefixes.{AddressPrefix}
 use Rattle.addr4.proofs.PrefixOrder.{prefixes_total, by_prefix, exact_prefixes}
 use Rattle.bgp_attr.specs.Hosts.{is_host_prefix}
 use Rattle.bgp_attr.specs.declared.attrs.Attrs.{Attrs}
@@ -51,7 +51,7 @@ same_change : (change other : Change Attrs) → Some change ≡ Some other → c
 same_change change other e = cc
 
 -- to announce a row that is there changes nothing
-put_again : (rows : Routes) (p : Network) (attrs : Attrs) → tables.get rows p ≡ Some attrs → rows ≡ tables.insert rows p attrs
+put_again : (rows : Routes) (p : AddressPrefix) (attrs : Attrs) → tables.get rows p ≡ Some attrs → rows ≡ tables.insert rows p attrs
 put_again rows p attrs there = same_map prefixes_total exact_prefixes rows (tables.insert rows p attrs) (λ q.
     by_prefix q p (λ (b : Bool). tables.get rows q ≡ cond b (Some attrs) (tables.get rows q)) (λ at. ap (tables.get rows) at ∙ there) (λ _. refl)
     ∙ sym (get-insert prefixes_total rows p attrs q))
@@ -83,7 +83,7 @@ refresh_is_printed profile peers j e are = by_chain (chain_at j e) refl
         record { unread = are.unread; each = each_put profile peers j (refreshed c) e.queue e (record { named = own.named; sent = own.sent }) are.each }
 
 -- what is sent of a route that may be heard can be spelled, where it can be printed
-spelled_of : (peers : ℕ → Option Neighbour) (profile : Profile) (external : Bool) (p : Network) (a : Attrs) → IsSentOf profile external p a → IsPrintableSent peers p a → CanBeSpelled a
+spelled_of : (peers : ℕ → Option Neighbour) (profile : Profile) (external : Bool) (p : AddressPrefix) (a : Attrs) → IsSentOf profile external p a → IsPrintableSent peers p a → CanBeSpelled a
 spelled_of peers profile external p a of printed =
     let exit : Exit = record { profile = profile; me = of.me; external = external } in
     let form : IsFormOfOne exit of.row a = of_fitting exit p of.row a of.row (nat_le (announcement_length profile.as4 p (sent_form profile of.me external of.row)) 4096) refl of.sent in

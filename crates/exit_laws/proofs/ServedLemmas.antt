@@ -7,7 +7,7 @@ use Rattle.std.specs.Ordering.{eq_by_cmp, ordering_reverse}
 use Rattle.std.specs.declared.cmp.Ordering.{Ordering}
 use Rattle.std.specs.declared.cmp.Ordering.TheVariants.{Less, Equal, Greater}
 use Rattle.std.proofs.lemmas.List.Elements.{Contains-append_left, Contains-append_right}
-use Rattle.addr4.specs.Prefixes.{Network, prefix_cmp, ComesBefore}
+use Rattle.addr4.specs.Prefixes.{AddressPrefix, prefix_cmp, ComesBefore}
 use Rattle.addr4.specs.Places.{IsBeyond}
 use Rattle.addr4.proofs.PrefixOrder.{prefixes_total, by_prefix, exact_prefixes}
 use Rattle.bgp_attr.specs.declared.attrs.Attrs.{Attrs}
@@ -33,19 +33,19 @@ use Rattle.exit_laws.proofs.ViewLemmas.{put_here, put_other, gone_here, gone_oth
 
 -- ---- the place of a walk
 -- a row beyond the place keeps the walk on
-ahead_on : (rows : FinMap prefix_cmp Attrs) (place : Option Network) (p : Network) (attrs : Attrs) → tables.get rows p ≡ Some attrs → IsBeyond place p → LiesAhead (walk_on rows place) p
+ahead_on : (rows : FinMap prefix_cmp Attrs) (place : Option AddressPrefix) (p : AddressPrefix) (attrs : Attrs) → tables.get rows p ≡ Some attrs → IsBeyond place p → LiesAhead (walk_on rows place) p
 ahead_on rows place p attrs there past = by_bool (beyond_in rows place == 0) (λ b. LiesAhead (cond b None (Some place)) p)
     (λ e. absurd (
     let over : walk_on rows place ≡ None = ap (λ (b : Bool). cond b None (Some place)) e in
     let none : tables.get rows p ≡ None = over_without_rows_beyond rows place p over past in
     let clash : Some attrs ≡ None = sym there ∙ none in cc)) (λ _. past)
 
-still_ahead : (rows : FinMap prefix_cmp Attrs) (refresh : Option (Option Network)) (p : Network) (attrs : Attrs) → tables.get rows p ≡ Some attrs → LiesAhead refresh p → LiesAhead (still_on rows refresh) p
+still_ahead : (rows : FinMap prefix_cmp Attrs) (refresh : Option (Option AddressPrefix)) (p : AddressPrefix) (attrs : Attrs) → tables.get rows p ≡ Some attrs → LiesAhead refresh p → LiesAhead (still_on rows refresh) p
 still_ahead rows None p attrs there ahead = absurd ahead
 still_ahead rows (Some place) p attrs there ahead = ahead_on rows place p attrs there ahead
 
 -- before it, at it or behind it
-three_ways : (q p : Network) → ComesBefore q p ⊎ ((q ≡ p) ⊎ ComesBefore p q)
+three_ways : (q p : AddressPrefix) → ComesBefore q p ⊎ ((q ≡ p) ⊎ ComesBefore p q)
 three_ways q p = by (prefix_cmp q p) refl
   where
     by : (o : Ordering) → prefix_cmp q p ≡ o → ComesBefore q p ⊎ ((q ≡ p) ⊎ ComesBefore p q)
@@ -58,13 +58,13 @@ same_row o a b first second = let same : Some a ≡ Some b = sym first ∙ secon
 
 -- ---- lines since, of rows that were sent and a walk
 module _ (j : ℕ) (exit : Exit) where
-  abbrev pub AreTold : FinMap prefix_cmp Attrs → Option (Option Network) → List Line → Type 0
-  AreTold rows refresh lines = (p : Network) (attrs : Attrs) → tables.get rows p ≡ Some attrs → LiesAhead refresh p ⊎ IsAnnounced exit.profile exit.external j lines p attrs
+  abbrev pub AreTold : FinMap prefix_cmp Attrs → Option (Option AddressPrefix) → List Line → Type 0
+  AreTold rows refresh lines = (p : AddressPrefix) (attrs : Attrs) → tables.get rows p ≡ Some attrs → LiesAhead refresh p ⊎ IsAnnounced exit.profile exit.external j lines p attrs
 
-  announced_on : (since said : List Line) (p : Network) (attrs : Attrs) → IsAnnounced exit.profile exit.external j since p attrs → IsAnnounced exit.profile exit.external j (since ++ said) p attrs
+  announced_on : (since said : List Line) (p : AddressPrefix) (attrs : Attrs) → IsAnnounced exit.profile exit.external j since p attrs → IsAnnounced exit.profile exit.external j (since ++ said) p attrs
   announced_on since said p attrs is = record { octets = is.octets; among = Contains-append_left since said (Out j is.octets) is.among; reads = is.reads }
 
-  told_on : (rows : FinMap prefix_cmp Attrs) (refresh : Option (Option Network)) (since said : List Line) → AreTold rows refresh since → AreTold rows refresh (since ++ said)
+  told_on : (rows : FinMap prefix_cmp Attrs) (refresh : Option (Option AddressPrefix)) (since said : List Line) → AreTold rows refresh since → AreTold rows refresh (since ++ said)
   told_on rows refresh since said told p attrs there = elim (told p attrs there) as (λ _. LiesAhead refresh p ⊎ IsAnnounced exit.profile exit.external j (since ++ said) p attrs) [
     | inl ahead ↦ inl ahead
     | inr is ↦ inr (announced_on since said p attrs is)
@@ -76,19 +76,19 @@ module _ (j : ℕ) (exit : Exit) where
     among : Contains said (Out j octets)
     reads : IsReadAs exit.profile exit.external octets (saying change.prefix change.after)
 
-  kept_get : (rows : FinMap prefix_cmp Attrs) (p : Network) (after : Option Attrs) (q : Network) → tables.get (kept_after rows p after) q ≡ cond (eq_by_cmp prefix_cmp q p) after (tables.get rows q)
+  kept_get : (rows : FinMap prefix_cmp Attrs) (p : AddressPrefix) (after : Option Attrs) (q : AddressPrefix) → tables.get (kept_after rows p after) q ≡ cond (eq_by_cmp prefix_cmp q p) after (tables.get rows q)
   kept_get rows p None q = get-remove prefixes_total rows p q
   kept_get rows p (Some a) q = get-insert prefixes_total rows p a q
 
-  said_now : (since said : List Line) (change : Change Attrs) (p : Network) (attrs : Attrs) → IsSaid said change → change.prefix ≡ p → change.after ≡ Some attrs → IsAnnounced exit.profile exit.external j (since ++ said) p attrs
+  said_now : (since said : List Line) (change : Change Attrs) (p : AddressPrefix) (attrs : Attrs) → IsSaid said change → change.prefix ≡ p → change.after ≡ Some attrs → IsAnnounced exit.profile exit.external j (since ++ said) p attrs
   said_now since said change p attrs is at after = record {
     octets = is.octets;
     among = Contains-append_right since said (Out j is.octets) is.among;
-    reads = subst (IsReadAs exit.profile exit.external is.octets) (ap (λ (q : Network). saying q change.after) at ∙ ap (saying p) after) is.reads;
+    reads = subst (IsReadAs exit.profile exit.external is.octets) (ap (λ (q : AddressPrefix). saying q change.after) at ∙ ap (saying p) after) is.reads;
   }
 
   -- a change that is sent says itself
-  sent_on : (rows : FinMap prefix_cmp Attrs) (refresh : Option (Option Network)) (since said : List Line) (sent : Option (Change Attrs)) → ((change : Change Attrs) → sent ≡ Some change → IsSaid said change)
+  sent_on : (rows : FinMap prefix_cmp Attrs) (refresh : Option (Option AddressPrefix)) (since said : List Line) (sent : Option (Change Attrs)) → ((change : Change Attrs) → sent ≡ Some change → IsSaid said change)
       → AreTold rows refresh since → AreTold (sent_after rows sent) (refresh_after rows refresh sent) (since ++ said)
   sent_on rows refresh since said None each told p attrs there = told_on rows refresh since said told p attrs there
   sent_on rows refresh since said (Some change) each told p attrs there =
@@ -102,12 +102,12 @@ module _ (j : ℕ) (exit : Exit) where
       (sym (kept_get rows change.prefix change.after p) ∙ there)
 
   -- the walk goes to the least row beyond its place, and says it
-  walked_to : (rows : FinMap prefix_cmp Attrs) (refresh : Option (Option Network)) (place : Option Network) (p : Network) (attrs : Attrs) (since said : List Line) → refresh ≡ Some place
-      → ((q : Network) → IsBeyond place q → ComesBefore q p → is_some (tables.get rows q) ≡ false) → tables.get rows p ≡ Some attrs → IsSaid said (announcing p attrs)
+  walked_to : (rows : FinMap prefix_cmp Attrs) (refresh : Option (Option AddressPrefix)) (place : Option AddressPrefix) (p : AddressPrefix) (attrs : Attrs) (since said : List Line) → refresh ≡ Some place
+      → ((q : AddressPrefix) → IsBeyond place q → ComesBefore q p → is_some (tables.get rows q) ≡ false) → tables.get rows p ≡ Some attrs → IsSaid said (announcing p attrs)
       → AreTold rows refresh since → AreTold rows (walk_on rows (Some p)) (since ++ said)
   walked_to rows refresh place p attrs since said on least row is told q other there =
       elim (told q other there) as (λ _. LiesAhead (walk_on rows (Some p)) q ⊎ IsAnnounced exit.profile exit.external j (since ++ said) q other) [
-        | inl ahead ↦ from (subst (λ (o : Option (Option Network)). LiesAhead o q) on ahead) (three_ways q p)
+        | inl ahead ↦ from (subst (λ (o : Option (Option AddressPrefix)). LiesAhead o q) on ahead) (three_ways q p)
         | inr was ↦ inr (announced_on since said q other was)
       ]
     where
@@ -156,7 +156,7 @@ serving_begins j s e = by_chain (chain_at j e) refl
         let same : refreshed old ≡ c = (let both : Some (refreshed old) ≡ Some c = sym (put_here j (refreshed old) e.queue e) ∙ there in cc) in
         subst (λ (x : OutChained). IsToldAgain j x []) same (refreshed_told j old [])
 
-not_ahead : (refresh : Option (Option Network)) (p : Network) → is_some refresh ≡ false → LiesAhead refresh p → ⊥
+not_ahead : (refresh : Option (Option AddressPrefix)) (p : AddressPrefix) → is_some refresh ≡ false → LiesAhead refresh p → ⊥
 not_ahead None p off ahead = ahead
 not_ahead (Some place) p off ahead = let clash : true ≡ false = off in cc
 
@@ -175,7 +175,7 @@ module _ (old new : OutChained) (sent : Option (Change Attrs)) where
   turned_told j since said exit rows refresh each told =
       subst (λ (x : Exit). AreTold j x new.sent new.refresh (since ++ said)) (sym exit)
       (subst (λ (r : FinMap prefix_cmp Attrs). AreTold j old.exit r new.refresh (since ++ said)) (sym rows)
-      (subst (λ (w : Option (Option Network)). AreTold j old.exit (sent_after old.sent sent) w (since ++ said)) (sym refresh) (sent_on j old.exit old.sent old.refresh since said sent each told)))
+      (subst (λ (w : Option (Option AddressPrefix)). AreTold j old.exit (sent_after old.sent sent) w (since ++ said)) (sym refresh) (sent_on j old.exit old.sent old.refresh since said sent each told)))
 
 pub turn_serves : TurnServes
 turn_serves k candidates best sent e e' said sound turn j s since served =

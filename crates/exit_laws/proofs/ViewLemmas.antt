@@ -5,7 +5,7 @@ use Rattle.std.specs.FinMap as tables
 use Rattle.std.specs.FinMap.{get-insert, get-remove}
 use Rattle.std.specs.Cmp.{nat_cmp_total}
 use Rattle.std.proofs.lemmas.Bool.Decides.{nat_tests}
-use Rattle.addr4.specs.Prefixes.{Network}
+use Rattle.addr4.specs.Prefixes.{AddressPrefix}
 use Rattle.addr4.proofs.PrefixOrder.{prefixes_total, itself}
 use Rattle.bgp_attr.specs.Hosts.{is_host_prefix}
 use Rattle.bgp_attr.specs.declared.attrs.Attrs.{Attrs}
@@ -110,22 +110,22 @@ put_keeps_views change e e' puts = ap views_of puts.after
 -- ---- a turn
 
 -- the filter lets out nothing but prefixes of hosts
-let_out_hosts : (host kept : Bool) (form : Form Attrs) (p : Network) (later : Option Route) (a : Attrs) → formed form p (cond (not kept && host) later None) ≡ Some a → host ≡ true
+let_out_hosts : (host kept : Bool) (form : Form Attrs) (p : AddressPrefix) (later : Option Route) (a : Attrs) → formed form p (cond (not kept && host) later None) ≡ Some a → host ≡ true
 let_out_hosts true kept form p later a e = refl
 let_out_hosts false true form p later a e = absurd (let clash : ◌≡◌ {A = Option Attrs} None (Some a) = e in cc)
 let_out_hosts false false form p later a e = absurd (let clash : ◌≡◌ {A = Option Attrs} None (Some a) = e in cc)
 
-pub hosts_alone : (form : Form Attrs) (peer : Neighbour) (rules : Option (List Rule)) (p : Network) (row : Option Route) (a : Attrs) → outgoing form peer rules p row ≡ Some a → is_host_prefix p ≡ true
+pub hosts_alone : (form : Form Attrs) (peer : Neighbour) (rules : Option (List Rule)) (p : AddressPrefix) (row : Option Route) (a : Attrs) → outgoing form peer rules p row ≡ Some a → is_host_prefix p ≡ true
 hosts_alone form peer rules p None a e = absurd (let clash : ◌≡◌ {A = Option Attrs} None (Some a) = e in cc)
 hosts_alone form peer rules p (Some r) a e = let_out_hosts (is_host_prefix p) _ form p (let_by rules p (first_out peer r)) a e
 
 -- what a neighbour makes of a change that it is told
-told_routes : (routes : Routes) (p : Network) (after : Option Attrs) → ((a : Attrs) → after ≡ Some a → is_host_prefix p ≡ true) → routes_after routes (changes_of (saying p after)) ≡ kept_after routes p after
+told_routes : (routes : Routes) (p : AddressPrefix) (after : Option Attrs) → ((a : Attrs) → after ≡ Some a → is_host_prefix p ≡ true) → routes_after routes (changes_of (saying p after)) ≡ kept_after routes p after
 told_routes routes p None hosts = refl
-told_routes routes p (Some a) hosts = ap (λ (b : Bool). routes_after routes (map (λ (q : Network). (q, Some a)) (cond b (p ∷ []) []))) (hosts a refl)
+told_routes routes p (Some a) hosts = ap (λ (b : Bool). routes_after routes (map (λ (q : AddressPrefix). (q, Some a)) (cond b (p ∷ []) []))) (hosts a refl)
 
 -- what was sent at the prefix of a change, then
-kept_here : (rows : Routes) (p : Network) (a : Attrs) → tables.get (kept_after rows p (Some a)) p ≡ Some a
+kept_here : (rows : Routes) (p : AddressPrefix) (a : Attrs) → tables.get (kept_after rows p (Some a)) p ≡ Some a
 kept_here rows p a = get-insert prefixes_total rows p a p ∙ ap (λ (b : Bool). cond b (Some a) (tables.get rows p)) (itself p)
 
 -- of a chain that sent a change, and what it made of the rows that its reader has then

@@ -2,7 +2,7 @@
 use Rattle.std.specs.Prelude.{◌≡◌, ℕ, ◌==◌, false, List, [], ◌++◌, Option, Some, None}
 use Rattle.std.specs.List.{AllByRecursion}
 use Rattle.std.specs.FinMap as tables
-use Rattle.addr4.specs.Prefixes.{Network}
+use Rattle.addr4.specs.Prefixes.{AddressPrefix}
 use Rattle.bgp_attr.specs.declared.attrs.Attrs.{Attrs}
 use Rattle.bgp_attr.specs.declared.route.Route.{Route}
 use Rattle.bgp_attr.specs.declared.speaker.Speaker.{Speaker}
@@ -65,7 +65,7 @@ OthersAreUnheard =
 -- and those of the change of a row, on any link.
 abbrev pub ChangesAreUnheard : Type 0
 ChangesAreUnheard =
-    (link : Link) (p : Network) (before after : Option Value) → AreUnheard (entry_lines (change_entries link p before after))
+    (link : Link) (p : AddressPrefix) (before after : Option Value) → AreUnheard (entry_lines (change_entries link p before after))
 
 -- ---- the steps
 -- What a peer that is up has heard are the rows of its `adv.J.S`.

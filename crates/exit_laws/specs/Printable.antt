@@ -3,7 +3,7 @@ use Rattle.std.specs.Prelude.{◌≡◌, ℕ, Option, Some}
 use Rattle.std.specs.Option.{ForSome}
 use Rattle.std.specs.List.{AllByRecursion}
 use Rattle.std.specs.FinMap as tables
-use Rattle.addr4.specs.Prefixes.{Network}
+use Rattle.addr4.specs.Prefixes.{AddressPrefix}
 use Rattle.bgp_attr.specs.declared.attrs.Attrs.{Attrs}
 use Rattle.bgp_attr.specs.declared.route.Route.{Route}
 use Rattle.bgp_attr.specs.declared.speaker.Neighbour.{Neighbour}
@@ -22,14 +22,14 @@ use Rattle.out_chain.specs.Chains.{OutChained}
 use Rattle.exit_side.specs.Exits.{Exited, chain_at}
 
 -- a row of `best` that can be said to a peer, and printed at its prefix, where this is the profile and these are the peers
-pub record IsPrintableBest (profile : Profile) (peers : ℕ → Option Neighbour) (p : Network) (row : Route) : Type 0 where
+pub record IsPrintableBest (profile : Profile) (peers : ℕ → Option Neighbour) (p : AddressPrefix) (row : Route) : Type 0 where
   pub prefix : IsPrefix p
   pub heard : MayBeHeard profile row.attrs
   pub printed : IsPrintable peers (route_value row)
 
 -- each row is such,
 abbrev pub AreBestRows : Profile → (ℕ → Option Neighbour) → Rows Route → Type 0
-AreBestRows profile peers best = (p : Network) → ForSome (best p) (IsPrintableBest profile peers p)
+AreBestRows profile peers best = (p : AddressPrefix) → ForSome (best p) (IsPrintableBest profile peers p)
 
 -- and so are those before and after a change.
 pub record IsBestChange (profile : Profile) (peers : ℕ → Option Neighbour) (change : Change Route) : Type 0 where
@@ -42,14 +42,14 @@ abbrev pub AreBestChanges : Profile → (ℕ → Option Neighbour) → Queued Ro
 AreBestChanges profile peers queued = (reader : ℕ) → AllByRecursion (IsBestChange profile peers) (unread_by queued reader)
 
 -- what was sent at a prefix can be printed
-pub record IsPrintableSent (peers : ℕ → Option Neighbour) (p : Network) (attrs : Attrs) : Type 0 where
+pub record IsPrintableSent (peers : ℕ → Option Neighbour) (p : AddressPrefix) (attrs : Attrs) : Type 0 where
   pub prefix : IsPrefix p
   pub printed : IsPrintable peers (attrs_value attrs)
 
 -- a chain whose links can be named, and all of whose rows can be printed
 pub record IsPrintableExit (peers : ℕ → Option Neighbour) (j : ℕ) (c : OutChained) : Type 0 where
   pub named : IsNamed (Adv j c.session)
-  pub sent : (p : Network) → ForSome (tables.get c.sent p) (IsPrintableSent peers p)
+  pub sent : (p : AddressPrefix) → ForSome (tables.get c.sent p) (IsPrintableSent peers p)
 
 -- Each chain of the exits is such, and each change that a reader hasn't taken.
 pub record ArePrintableExits (profile : Profile) (peers : ℕ → Option Neighbour) (e : Exited) : Type 0 where

@@ -2,7 +2,7 @@
 -- the refresh has yet to come to it.
 use Rattle.std.specs.Prelude.{◌≡◌, ◌≢◌, ◌⊎◌, ℕ, false, List, [], ◌++◌, Option, Some, None}
 use Rattle.std.specs.FinMap as tables
-use Rattle.addr4.specs.Prefixes.{Network}
+use Rattle.addr4.specs.Prefixes.{AddressPrefix}
 use Rattle.addr4.specs.Places.{IsBeyond}
 use Rattle.bgp_attr.specs.declared.attrs.Attrs.{Attrs}
 use Rattle.bgp_attr.specs.declared.route.Route.{Route}
@@ -22,14 +22,14 @@ use Rattle.exit_laws.specs.Views.{views_of}
 
 -- ---- the lines since
 -- the walk of a refresh has yet to come to the prefix
-abbrev pub LiesAhead : Option (Option Network) → Network → Type 0
+abbrev pub LiesAhead : Option (Option AddressPrefix) → AddressPrefix → Type 0
 LiesAhead None p = ⊥
 LiesAhead (Some place) p = IsBeyond place p
 
 -- Each row that was sent is announced in the lines since the refresh, or the walk has yet to come to it.
 abbrev pub IsToldAgain : ℕ → OutChained → List Line → Type 0
 IsToldAgain j c since =
-    (p : Network) (attrs : Attrs) → tables.get c.sent p ≡ Some attrs
+    (p : AddressPrefix) (attrs : Attrs) → tables.get c.sent p ≡ Some attrs
     → LiesAhead c.refresh p ⊎ IsAnnounced c.exit.profile c.exit.external j since p attrs
 
 -- so it is in session s of peer j, if this is up
@@ -45,7 +45,7 @@ ServingBegins = (j s : ℕ) (e : Exited) → IsServed j s (refreshed_exits j e) 
 abbrev pub ServingEnds : Type 0
 ServingEnds =
     (j : ℕ) (e : Exited) (since : List Line) (c : OutChained) → chain_at j e ≡ Some c → IsServed j c.session e since → has_refresh e j ≡ false
-    → (p : Network) (attrs : Attrs) → tables.get (views_of e j) p ≡ Some attrs → IsAnnounced c.exit.profile c.exit.external j since p attrs
+    → (p : AddressPrefix) (attrs : Attrs) → tables.get (views_of e j) p ≡ Some attrs → IsAnnounced c.exit.profile c.exit.external j since p attrs
 
 -- ---- steps
 -- whoever was served is served on, with these lines among those since

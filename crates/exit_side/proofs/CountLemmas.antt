@@ -7,7 +7,7 @@ use Rattle.std.specs.FinMap as tables
 use Rattle.std.specs.FinMap.{nat_cmp-IsAntisymmetric}
 use Rattle.std.specs.Cmp.{nat_cmp_total}
 use Rattle.std.proofs.lemmas.List.Sums.{sum_by-cons, sum_by-le, sum_by-le-sum_by}
-use Rattle.addr4.specs.Prefixes.{Network}
+use Rattle.addr4.specs.Prefixes.{AddressPrefix}
 use Rattle.bgp_attr.specs.declared.route.Route.{Route}
 use Rattle.link_change.specs.Rows.{Candidates}
 use Rattle.link_change.specs.declared.change.Change.{Change}
@@ -48,7 +48,7 @@ module _ (f g : OutChained → ℕ) where
       same k x was.1 was.0)) in
       omega (arith, put, one, other, rest)
 
-module _ (beyond : Option Network → ℕ) where
+module _ (beyond : Option AddressPrefix → ℕ) where
   -- what is left of a chain, where its reader hasn't taken this
   abbrev left_with : OutChained → Option (List (Change Route)) → ℕ
   left_with c u = out_turns_left beyond c (unread_or_none u)
@@ -121,5 +121,5 @@ module _ (beyond : Option Network → ℕ) where
       omega (arith, unread, walks) in
       subst (λ (n : ℕ). left_in beyond e ≤ n * (most + 2 * (beyond None + 1))) (values_length e.chains) (sum_by-le (left_of beyond e.queue) (most + 2 * (beyond None + 1)) (tables.values e.chains) (λ i c _. each (get_or (tables.values e.chains) i c)))
 
-pub all_follow : (e : Exited) (before now : Option Network → ℕ) → ((place : Option Network) → now place ≤ before place) → left_in now e ≤ left_in before e
+pub all_follow : (e : Exited) (before now : Option AddressPrefix → ℕ) → ((place : Option AddressPrefix) → now place ≤ before place) → left_in now e ≤ left_in before e
 all_follow e before now less = sum_by-le-sum_by (left_of now e.queue) (left_of before e.queue) (tables.values e.chains) (λ c. let walks = left_follows before now c.filter less in omega (arith, walks))

@@ -2,7 +2,7 @@
 use Rattle.std.proofs.Common.{◌≡◌, ◌≢◌, ℕ, Option, Some, None, refl, sym, ap, subst}
 use Rattle.std.specs.Prelude.{IsSome}
 use Rattle.std.specs.FinMap as tables
-use Rattle.addr4.specs.Prefixes.{Network}
+use Rattle.addr4.specs.Prefixes.{AddressPrefix}
 use Rattle.bgp_attr.specs.declared.route.Route.{Route}
 use Rattle.bgp_attr.specs.declared.speaker.Profile.{Profile}
 use Rattle.link_change.specs.Rows.{Rows}
@@ -30,7 +30,7 @@ with_live e queue sound live = record {
 
 module _ (e : Exited) (queue : Queued Route) (sound : IsExits e) where
   module _ (law : PutKeepsStanding) (change : Change Route) (appends : AppendsToAll change e.queue queue) where
-    put_links : (best now : Rows Route) (p : Network) → IsSent best now p (Some change) → (o : Option OutChained) → ((c : OutChained) → o ≡ Some c → IsSome (tables.get e.queue c.reader))
+    put_links : (best now : Rows Route) (p : AddressPrefix) → IsSent best now p (Some change) → (o : Option OutChained) → ((c : OutChained) → o ≡ Some c → IsSome (tables.get e.queue c.reader))
         → links_by queue now o ≡ links_by e.queue best o
     put_links best now p sent None live = refl
     put_links best now p sent (Some c) live = ap (out_links c) (put_keeps_read e.queue queue best now p change c.reader appends sent (live c refl))

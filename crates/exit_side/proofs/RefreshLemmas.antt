@@ -9,7 +9,7 @@ use Rattle.std.specs.FinMap.{nat_cmp-IsAntisymmetric, contains_key-keys}
 use Rattle.std.proofs.lemmas.List.Elements.{All-from_recursion}
 use Rattle.std.proofs.lemmas.List.Sums.{sum_by-le}
 use Rattle.std.proofs.lemmas.Map.Views.{Contains-from_any, tells_apart}
-use Rattle.addr4.specs.Prefixes.{Network}
+use Rattle.addr4.specs.Prefixes.{AddressPrefix}
 use Rattle.link_change.proofs.RowLemmas.{same_function}
 use Rattle.link_change.proofs.MapLemmas.{all_entries, all_values, values_length, sum_none, one_of_sum}
 use Rattle.fanout_queue.proofs.Cases.{by_bool}
@@ -177,7 +177,7 @@ module _ (e : Exited) where
   off_left : (c : OutChained) → has_refresh_work c ≡ false → refresh_left c ≡ 0
   off_left c off = by c.refresh off refl
     where
-      by : (w : Option (Option Network)) → is_some w ≡ false → c.refresh ≡ w → refresh_left c ≡ 0
+      by : (w : Option (Option AddressPrefix)) → is_some w ≡ false → c.refresh ≡ w → refresh_left c ≡ 0
       by None off is = ap (left_on c.sent) is
       by (Some place) off is = absurd (let clash : true ≡ false = off in cc)
 

@@ -7,7 +7,7 @@ use Rattle.std.specs.FinMap as tables
 use Rattle.std.specs.FinMap.{get-insert}
 use Rattle.std.specs.Cmp.{nat_cmp_total}
 use Rattle.std.proofs.lemmas.Option.{same_Some}
-use Rattle.addr4.specs.Prefixes.{Network}
+use Rattle.addr4.specs.Prefixes.{AddressPrefix}
 use Rattle.bgp_attr.specs.declared.attrs.Attrs.{Attrs}
 use Rattle.bgp_attr.specs.declared.route.Route.{Route}
 use Rattle.bgp_attr.specs.declared.speaker.Speaker.{Speaker}
@@ -163,7 +163,7 @@ module _ (law : OthersKeepStanding) (e : Exited) (j : ℕ) (chain ruled : OutCha
 
 -- ---- a turn
 -- a walk, and its end, leave the latest rules
-step_kept : (f : Option (List Rule)) (walk : Option (Walked (Option (List Rule)))) (p : Network) → present_of f (walk_stepped walk p) ≡ present_of f walk
+step_kept : (f : Option (List Rule)) (walk : Option (Walked (Option (List Rule)))) (p : AddressPrefix) → present_of f (walk_stepped walk p) ≡ present_of f walk
 step_kept f None p = refl
 step_kept f (Some w) p = refl
 
@@ -175,7 +175,7 @@ end_kept f (Some w) = waiting_kept w.next w.waiting
     waiting_kept next None = refl
     waiting_kept next (Some g) = refl
 
-walk_kept : (next : Option Network) (s : Passed (Option (List Rule))) → present (walked_on next s) ≡ present s
+walk_kept : (next : Option AddressPrefix) (s : Passed (Option (List Rule))) → present (walked_on next s) ≡ present s
 walk_kept None s = end_kept s.in_force s.walk
 walk_kept (Some p) s = step_kept s.in_force s.walk p
 

@@ -8,7 +8,7 @@ use Rattle.std.specs.Ordering.{nat_cmp}
 use Rattle.std.specs.Cmp.{nat_cmp_total}
 use Rattle.std.specs.Map.{keys_of, values_of}
 use Rattle.std.specs.FinMap as tables
-use Rattle.addr4.specs.Prefixes.{Network}
+use Rattle.addr4.specs.Prefixes.{AddressPrefix}
 use Rattle.bgp_attr.specs.declared.route.Route.{Route}
 use Rattle.link_change.specs.Rows.{Rows}
 use Rattle.fanout_queue.specs.Queues.{Queued}
@@ -50,7 +50,7 @@ module _ (e : Exited) where
   first_with_work es is = ap (first_of e.queue) is ∙ sym (first_among (tables.entries e.chains) entries_work)
 
   -- each entry tells whether its peer holds up a prefix, by whether there is a best row
-  module _ (law : BestRowTells) (best : Rows Route) (p : Network) (has_best : Bool) (is : has_best ≡ is_some (best p)) where
+  module _ (law : BestRowTells) (best : Rows Route) (p : AddressPrefix) (has_best : Bool) (is : has_best ≡ is_some (best p)) where
     abbrev is_held : ℕ → Bool
     is_held j = exit_holds_up e best j p
 
@@ -73,14 +73,14 @@ module _ (e : Exited) where
   all_idle (x ∷ es) is = by_bool (works x.1) (λ b. cond b (Some x.0) (first_of e.queue es) ≡ None → (b ≡ false) × AllByRecursion (λ x. works x.1 ≡ false) es)
       (λ _ some. absurd (cc)) (λ off none. (refl, all_idle es none)) is
 
-  pub idle_sum : (beyond : Option Network → ℕ) (es : Entries) → AllByRecursion (λ x. works x.1 ≡ false) es → sum_by (left_of beyond e.queue) (values_of es) ≡ 0
+  pub idle_sum : (beyond : Option AddressPrefix → ℕ) (es : Entries) → AllByRecursion (λ x. works x.1 ≡ false) es → sum_by (left_of beyond e.queue) (values_of es) ≡ 0
   idle_sum beyond es all = sum_none (left_of beyond e.queue) (values_of es) (each es all)
     where
       each : (es : Entries) → AllByRecursion (λ x. works x.1 ≡ false) es → AllByRecursion (λ c. left_of beyond e.queue c ≡ 0) (values_of es)
       each [] all = tt
       each (x ∷ es) all = (idle_none beyond x.1 (unread_by e.queue x.1.reader) all.0, each es all.1)
 
-  pub none_left : (es : Entries) (first : Option ℕ) → es ≡ tables.entries e.chains → first ≡ first_of e.queue es → IfNone first ((beyond : Option Network → ℕ) → left_in beyond e ≡ 0)
+  pub none_left : (es : Entries) (first : Option ℕ) → es ≡ tables.entries e.chains → first ≡ first_of e.queue es → IfNone first ((beyond : Option AddressPrefix → ℕ) → left_in beyond e ≡ 0)
   none_left es None is none = λ beyond. ap (λ (l : Entries). sum_by (left_of beyond e.queue) (values_of l)) (sym is) ∙ idle_sum beyond es (all_idle es (sym none))
   none_left es (Some k) is some = tt
 

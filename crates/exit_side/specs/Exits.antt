@@ -6,7 +6,7 @@ use Rattle.std.specs.Ordering.{nat_cmp}
 use Rattle.std.specs.Coded.{Coded, code_by, coded×}
 use Rattle.std.specs.FinMap as tables
 use Rattle.std.specs.FinMap.{FinMap}
-use Rattle.addr4.specs.Prefixes.{Network}
+use Rattle.addr4.specs.Prefixes.{AddressPrefix}
 use Rattle.bgp_attr.specs.declared.route.Route.{Route}
 use Rattle.bgp_attr.specs.declared.speaker.Profile.{Profile}
 use Rattle.link_change.specs.Rows.{Rows, Candidates}
@@ -98,11 +98,11 @@ busy_by queued (Some c) = has_out_work c (unread_by queued c.reader)
 
 -- whether the task of a peer's exit holds up a prefix: what its reader hasn't taken changes the row there; or the walk of its filter has
 -- yet to come to the row that the reader has there, or other rules wait for the end of the walk
-abbrev pub lags_by : Queued Route → Rows Route → Option OutChained → Network → Bool
+abbrev pub lags_by : Queued Route → Rows Route → Option OutChained → AddressPrefix → Bool
 lags_by queued best None p = false
 lags_by queued best (Some c) p = out_lags c (unread_by queued c.reader) p (is_some (read_rows queued c.reader best p))
 
-abbrev pub exit_holds_up : Exited → Rows Route → ℕ → Network → Bool
+abbrev pub exit_holds_up : Exited → Rows Route → ℕ → AddressPrefix → Bool
 exit_holds_up e best j = lags_by e.queue best (chain_at j e)
 
 -- whether the task of a peer's exit has work
@@ -110,11 +110,11 @@ abbrev pub has_exit_work : Exited → ℕ → Bool
 has_exit_work e j = busy_by e.queue (chain_at j e)
 
 -- ---- counts, where these numbers count the candidates of `best` beyond each place
-abbrev pub left_of : (Option Network → ℕ) → Queued Route → OutChained → ℕ
+abbrev pub left_of : (Option AddressPrefix → ℕ) → Queued Route → OutChained → ℕ
 left_of beyond queued c = out_turns_left beyond c (unread_by queued c.reader)
 
 -- how many turns the tasks of all exits take
-abbrev pub left_in : (Option Network → ℕ) → Exited → ℕ
+abbrev pub left_in : (Option AddressPrefix → ℕ) → Exited → ℕ
 left_in beyond e = sum_by (left_of beyond e.queue) (tables.values e.chains)
 
 -- ---- the walks of refreshes

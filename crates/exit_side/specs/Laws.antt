@@ -2,7 +2,7 @@
 use Rattle.std.specs.Prelude.{◌≡◌, ◌≢◌, ◌↔◌, ℕ, ◌+◌, ◌*◌, ◌≤◌, true, false, List, [], Option, Some, None, IsSome}
 use Rattle.std.specs.List.{Contains}
 use Rattle.std.specs.FinMap as tables
-use Rattle.addr4.specs.Prefixes.{Network}
+use Rattle.addr4.specs.Prefixes.{AddressPrefix}
 use Rattle.bgp_attr.specs.declared.attrs.Attrs.{Attrs}
 use Rattle.bgp_attr.specs.declared.route.Route.{Route}
 use Rattle.bgp_attr.specs.declared.speaker.Speaker.{Speaker}
@@ -31,7 +31,7 @@ pub record StandsAtFirst (e : Exited) : Type 0 where
   pub links : (best : Rows Route) (link : Link) → exit_links e best link ≡ None
   pub sound : IsExits e
   pub stand : (best : Rows Route) → AllStand best e
-  pub left : (beyond : Option Network → ℕ) → left_in beyond e ≡ 0
+  pub left : (beyond : Option AddressPrefix → ℕ) → left_in beyond e ≡ 0
 
 -- ---- links
 -- links that have these among them, and the same elsewhere
@@ -55,12 +55,12 @@ LeadsAnywhereWithBest =
 -- latest rules make of it.
 abbrev pub ExactUnlessHeldUp : Type 0
 ExactUnlessHeldUp =
-    (e : Exited) (best : Rows Route) (j : ℕ) (c : OutChained) (p : Network) → AllStand best e → chain_at j e ≡ Some c → exit_holds_up e best j p ≡ false
+    (e : Exited) (best : Rows Route) (j : ℕ) (c : OutChained) (p : AddressPrefix) → AllStand best e → chain_at j e ≡ Some c → exit_holds_up e best j p ≡ false
     → (read_rows e.queue c.reader best p ≡ best p) × (tables.get c.sent p ≡ made_by c (present c.filter) p (best p))
 
 -- Without work it holds up nothing.
 abbrev pub NoneHeldUpWithoutWork : Type 0
-NoneHeldUpWithoutWork = (e : Exited) (best : Rows Route) (j : ℕ) (p : Network) → has_exit_work e j ≡ false → exit_holds_up e best j p ≡ false
+NoneHeldUpWithoutWork = (e : Exited) (best : Rows Route) (j : ℕ) (p : AddressPrefix) → has_exit_work e j ≡ false → exit_holds_up e best j p ≡ false
 
 -- A task with work is a peer's that has an exit.
 abbrev pub WorkIsListed : Type 0
@@ -69,18 +69,18 @@ WorkIsListed = (e : Exited) (j : ℕ) → has_exit_work e j ≡ true → Contain
 -- ---- how many turns are left
 -- None exactly where no task has work,
 abbrev pub NoneLeftWithoutWork : Type 0
-NoneLeftWithoutWork = (e : Exited) (beyond : Option Network → ℕ) → ((j : ℕ) → has_exit_work e j ≡ false) ↔ (left_in beyond e ≡ 0)
+NoneLeftWithoutWork = (e : Exited) (beyond : Option AddressPrefix → ℕ) → ((j : ℕ) → has_exit_work e j ≡ false) ↔ (left_in beyond e ≡ 0)
 
 -- and, for each peer, at most as many as the most that a reader hasn't taken, and two whole walks.
 abbrev pub TurnsAreBounded : Type 0
 TurnsAreBounded =
-    (candidates : Candidates) (beyond : Option Network → ℕ) (e : Exited) (most : ℕ) → CountsBeyond candidates beyond → IsMostUnread e.queue most
+    (candidates : Candidates) (beyond : Option AddressPrefix → ℕ) (e : Exited) (most : ℕ) → CountsBeyond candidates beyond → IsMostUnread e.queue most
     → left_in beyond e ≤ tables.len e.chains * (most + 2 * (beyond None + 1))
 
 -- Where no more candidates lie beyond any place than before, no more are left.
 abbrev pub LeftFollows : Type 0
 LeftFollows =
-    (e : Exited) (before now : Option Network → ℕ) → ((place : Option Network) → now place ≤ before place) → left_in now e ≤ left_in before e
+    (e : Exited) (before now : Option AddressPrefix → ℕ) → ((place : Option AddressPrefix) → now place ≤ before place) → left_in now e ≤ left_in before e
 
 -- ---- readers that are no peer's
 abbrev pub IsStranger : ℕ → Exited → Type 0
@@ -90,7 +90,7 @@ IsStranger reader e = (j : ℕ) (c : OutChained) → chain_at j e ≡ Some c →
 pub record StaysWithQueue (e : Exited) (queue : Queued Route) : Type 0 where
   pub links : (best : Rows Route) → exit_links (with_queue queue e) best ≡ exit_links e best
   pub stand : (best : Rows Route) → AllStand best e → AllStand best (with_queue queue e)
-  pub left : (beyond : Option Network → ℕ) → left_in beyond (with_queue queue e) ≡ left_in beyond e
+  pub left : (beyond : Option AddressPrefix → ℕ) → left_in beyond (with_queue queue e) ≡ left_in beyond e
   pub sound : IsExits (with_queue queue e)
 
 abbrev pub StrangersReadOn : Type 0
@@ -144,9 +144,9 @@ pub record AreSameButRefresh (j : ℕ) (e e' : Exited) : Type 0 where
   pub stand : (best : Rows Route) → AllStand best e → AllStand best e'
   pub links : (best : Rows Route) → exit_links e' best ≡ exit_links e best
   pub candidates : (best : Candidates) → exit_candidates e' best ≡ exit_candidates e best
-  pub left : (beyond : Option Network → ℕ) → left_in beyond e' ≡ left_in beyond e
+  pub left : (beyond : Option AddressPrefix → ℕ) → left_in beyond e' ≡ left_in beyond e
   pub work : (k : ℕ) → has_exit_work e' k ≡ has_exit_work e k
-  pub held : (best : Rows Route) (k : ℕ) (p : Network) → exit_holds_up e' best k p ≡ exit_holds_up e best k p
+  pub held : (best : Rows Route) (k : ℕ) (p : AddressPrefix) → exit_holds_up e' best k p ≡ exit_holds_up e best k p
   pub strangers : (reader : ℕ) → IsStranger reader e → IsStranger reader e'
 
 abbrev pub RefreshKeeps : Type 0
@@ -173,5 +173,5 @@ ResendLeavesFewer = (j : ℕ) (e e' : Exited) (said : List Line) → ResendsExit
 -- Where no exit has work, the rows that were sent stand at candidates of `best`: so that for each peer no more turns are left than these are.
 abbrev pub RefreshesAreBounded : Type 0
 RefreshesAreBounded =
-    (candidates : Candidates) (beyond : Option Network → ℕ) (e : Exited) (best : Rows Route) → CountsBeyond candidates beyond → CoversRows candidates best
+    (candidates : Candidates) (beyond : Option AddressPrefix → ℕ) (e : Exited) (best : Rows Route) → CountsBeyond candidates beyond → CoversRows candidates best
     → AllStand best e → ((j : ℕ) → has_exit_work e j ≡ false) → refreshes_left e ≤ tables.len e.chains * beyond None

@@ -2,7 +2,7 @@
 use Rattle.std.specs.Prelude.{◌≡◌, ℕ, ◌+◌, ◌≤◌, Bool, true, false, cond, List, [], ◌++◌, Option, Some, None}
 use Rattle.std.specs.Option.{ForSome}
 use Rattle.std.specs.FinMap as tables
-use Rattle.addr4.specs.Prefixes.{Network}
+use Rattle.addr4.specs.Prefixes.{AddressPrefix}
 use Rattle.bgp_attr.specs.declared.attrs.Attrs.{Attrs}
 use Rattle.bgp_attr.specs.declared.route.Route.{Route}
 use Rattle.bgp_attr.specs.declared.speaker.Speaker.{Speaker}
@@ -91,9 +91,9 @@ pub record EditsExit (j : ℕ) (rules : List Rule) (e e' : Exited) : Type 0 wher
 pub record PutsExit (change : Change Route) (e e' : Exited) : Type 0 where
   pub after : e' ≡ with_queue e'.queue e
   pub appends : AppendsToAll change e.queue e'.queue
-  pub links : (best now : Rows Route) (p : Network) → IsSent best now p (Some change) → exit_links e' now ≡ exit_links e best
-  pub stand : (best now : Rows Route) (p : Network) → IsSent best now p (Some change) → ForSome change.after (λ r. MayBeHeard e.profile r.attrs) → AllStand best e → AllStand now e'
-  pub left : (beyond : Option Network → ℕ) → left_in beyond e' ≡ left_in beyond e + tables.len e.chains
+  pub links : (best now : Rows Route) (p : AddressPrefix) → IsSent best now p (Some change) → exit_links e' now ≡ exit_links e best
+  pub stand : (best now : Rows Route) (p : AddressPrefix) → IsSent best now p (Some change) → ForSome change.after (λ r. MayBeHeard e.profile r.attrs) → AllStand best e → AllStand now e'
+  pub left : (beyond : Option AddressPrefix → ℕ) → left_in beyond e' ≡ left_in beyond e + tables.len e.chains
   pub sound : IsExits e'
 
 -- ---- a turn
@@ -118,7 +118,7 @@ pub record TurnsExit (j : ℕ) (candidates : Candidates) (best : Rows Route) (se
   pub leads : LeadsExits (exit_links e best) (turns.entries ++ sending_entries chain sent) (exit_links e' best)
   pub stand : AllStand best e'
   pub sound : IsExits e'
-  pub fewer : (beyond : Option Network → ℕ) → CountsBeyond candidates beyond → left_in beyond e' + 1 ≤ left_in beyond e
+  pub fewer : (beyond : Option AddressPrefix → ℕ) → CountsBeyond candidates beyond → left_in beyond e' + 1 ≤ left_in beyond e
 
 -- what a turn came to
 abbrev pub ComesOut : ℕ → Candidates → Rows Route → Exited → Exited → Journaled → Journaled → Turn Attrs → Type 0

@@ -3,7 +3,7 @@ use Rattle.std.specs.Prelude.{◌≡◌, ℕ, Bool, if◌then◌else◌, List, [
 use Rattle.std.specs.Ordering.{nat_cmp}
 use Rattle.std.specs.BTreeMap.{BTreeMap, get}
 use Rattle.std.specs.FinMap as tables
-use Rattle.addr4.specs.Prefixes.{Network}
+use Rattle.addr4.specs.Prefixes.{AddressPrefix}
 use Rattle.bgp_attr.specs.declared.route.Route.{Route}
 use Rattle.fanout_queue.specs.Queues.{Queued}
 use Rattle.fanout_queue.specs.Readers.{unread_by}
@@ -15,7 +15,7 @@ first_of queued [] = None
 first_of queued (e ∷ es) = if has_out_work e.1 (unread_by queued e.1.reader) then Some e.0 else first_of queued es
 
 -- of the first one that holds up a prefix, where this tells whether the best rows have one there
-abbrev pub first_lagging : Queued Route → Bool → Network → List (ℕ × OutChained) → Option ℕ
+abbrev pub first_lagging : Queued Route → Bool → AddressPrefix → List (ℕ × OutChained) → Option ℕ
 first_lagging queued has_best p [] = None
 first_lagging queued has_best p (e ∷ es) = if out_lags e.1 (unread_by queued e.1.reader) p has_best then Some e.0 else first_lagging queued has_best p es
 

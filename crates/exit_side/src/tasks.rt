@@ -5,7 +5,7 @@ ghost use Rattle.std.specs.List.{find};
 ghost use Rattle.std.specs.Ordering.{nat_cmp};
 ghost use Rattle.std.specs.FinMap as map;
 ghost use Rattle.std.specs.BTreeMap.{IsOrdered};
-ghost use Rattle.addr4.specs.Prefixes.{Network};
+ghost use Rattle.addr4.specs.Prefixes.{AddressPrefix};
 ghost use Rattle.bgp_attr.specs.declared.route.Route.{Route};
 ghost use Rattle.link_change.specs.Rows.{Rows};
 ghost use Rattle.link_change.specs.InOrder.{changed_in};
@@ -38,7 +38,7 @@ impl Exits {
     pub fn first_busy(&self) -> Option<u32>
         requires sound { IsExits self.now }
         ensures first { result ≡ find (has_exit_work self.now) (map.keys self.now.chains) }
-        ensures none { IfNone result ((beyond : Option Network → ℕ) → left_in beyond self.now ≡ 0) }
+        ensures none { IfNone result ((beyond : Option AddressPrefix → ℕ) → left_in beyond self.now ≡ 0) }
     {
         first_of(&self.queue, &self.chains)
     }

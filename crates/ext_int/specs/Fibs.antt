@@ -1,6 +1,6 @@
 -- The forwarding table: of interior and external routes, by distance (NSDI 2005, section 5.2).
 use Rattle.std.specs.Prelude.{◌≡◌, ◌⊎◌, ℕ, Option, Some}
-use Rattle.addr4.specs.Prefixes.{Network}
+use Rattle.addr4.specs.Prefixes.{AddressPrefix}
 use Rattle.rib_route.specs.declared.rows.Interior.{Interior}
 use Rattle.rib_route.specs.declared.rows.External.{External}
 use Rattle.rib_route.specs.declared.rows.FibRow.{FibRow}
@@ -39,25 +39,25 @@ fib_table s int ext = forwarding_table int (resolved_rows s ext)
 -- one, beside these external rows
 abbrev pub FollowsInt : Rows FibRow → Change Interior → Option (Change FibRow) → Type 0
 FollowsInt outer change result =
-    (int now : Rows Interior) (p : Network) → IsSent int now p (Some change)
+    (int now : Rows Interior) (p : AddressPrefix) → IsSent int now p (Some change)
     → IsSent (forwarding_table int outer) (forwarding_table now outer) p result
 
 -- where a change leads from resolved external rows to new ones, or none does and they stay, what goes out leads from the
 -- forwarding table to the new one, beside these interior rows
 abbrev pub FollowsExt : Rows Interior → Option (Change FibRow) → Option (Change FibRow) → Type 0
 FollowsExt int change result =
-    (outer now : Rows FibRow) (p : Network) → IsSent outer now p change
+    (outer now : Rows FibRow) (p : AddressPrefix) → IsSent outer now p change
     → IsSent (forwarding_table int outer) (forwarding_table int now) p result
 
 -- the next hops of the external rows are counted, and what goes out led from the old forwarding table to the new one
-pub record TakesOver (int : Rows Interior) (old new : Resolving Way) (ext now : Rows External) (p : Network) (sent : Option (Change FibRow)) : Type 0 where
+pub record TakesOver (int : Rows Interior) (old new : Resolving Way) (ext now : Rows External) (p : AddressPrefix) (sent : Option (Change FibRow)) : Type 0 where
   pub counted : AreCounted (named_by external_hop now) new.counts
   pub sent_is : IsSent (fib_table old int ext) (fib_table new int now) p sent
 
 -- so it is for any external rows that the change leads on, where their next hops were counted before
 abbrev pub TakesExt : Rows Interior → Resolving Way → Resolving Way → Change External → Option (Change FibRow) → Type 0
 TakesExt int old new change sent =
-    (ext now : Rows External) (p : Network) → AreCounted (named_by external_hop ext) old.counts → IsSent ext now p (Some change)
+    (ext now : Rows External) (p : AddressPrefix) → AreCounted (named_by external_hop ext) old.counts → IsSent ext now p (Some change)
     → TakesOver int old new ext now p sent
 
 -- ---- turns

@@ -5,7 +5,7 @@ use Rattle.std.specs.declared.cmp.Ordering.{Ordering}
 use Rattle.std.specs.declared.cmp.Ordering.TheVariants.{Less, Equal, Greater}
 use Rattle.std.specs.Cmp.{nat_cmp_total, eq_by_cmp_equiv}
 use Rattle.std.specs.FinMap.{nat_cmp-IsAntisymmetric}
-use Rattle.addr4.specs.Prefixes.{Network, prefix_cmp}
+use Rattle.addr4.specs.Prefixes.{AddressPrefix, prefix_cmp}
 use Rattle.addr4.proofs.PrefixOrder.{itself, by_prefix}
 
 pub by_bool : (b : Bool) (P : Bool → Type 0) → (b ≡ true → P true) → (b ≡ false → P false) → P b
@@ -34,11 +34,11 @@ by_number q k P here apart = by_bool (eq_by_cmp nat_cmp q k) P
 pub other_number : (q k : ℕ) → q ≢ k → eq_by_cmp nat_cmp q k ≡ false
 other_number q k apart = by_number q k (λ b. b ≡ false) (λ e. absurd (apart e)) (λ _. refl)
 
-pub other_prefix : (q p : Network) → q ≢ p → eq_by_cmp prefix_cmp q p ≡ false
+pub other_prefix : (q p : AddressPrefix) → q ≢ p → eq_by_cmp prefix_cmp q p ≡ false
 other_prefix q p apart = by_prefix q p (λ b. b ≡ false) (λ e. absurd (apart e)) (λ _. refl)
 
 -- it doesn't matter which prefix is compared with which
-pub either_way : (q p : Network) → eq_by_cmp prefix_cmp q p ≡ eq_by_cmp prefix_cmp p q
+pub either_way : (q p : AddressPrefix) → eq_by_cmp prefix_cmp q p ≡ eq_by_cmp prefix_cmp p q
 either_way q p = by_prefix q p (λ b. b ≡ eq_by_cmp prefix_cmp p q)
     (λ e. sym (ap (λ k. eq_by_cmp prefix_cmp p k) e ∙ itself p))
     (λ apart. sym (other_prefix p q (λ e. apart (sym e))))

@@ -6,7 +6,7 @@ use Rattle.std.proofs.Math.Seq.{set-append_seam, get_or-append_seam, map-set_sam
 use Rattle.std.proofs.lemmas.Bool.Decides.{nat_tests}
 use Rattle.std.specs.Ordering.{eq_by_cmp, is_eq}
 use Rattle.std.specs.BTreeSet.{BTreeSet, contains}
-use Rattle.addr4.specs.Prefixes.{Network, prefix_cmp}
+use Rattle.addr4.specs.Prefixes.{AddressPrefix, prefix_cmp}
 use Rattle.link_change.specs.declared.change.Change.{Change}
 use Rattle.fanout_queue.specs.declared.entries.Entry.{Entry}
 use Rattle.fanout_queue.specs.Index.{Key, key_cmp, IsFirstNumber, IsFirstStop, is_reached, lesser, stops, IsIndexed}
@@ -25,7 +25,7 @@ pub by_place : (n place : ℕ) (P : Type 0) → (n ≡ place → P) → (n ≢ p
 by_place n place P here apart = by_bool (nat_eq n place) (λ _. P) (λ e. here (grind (arith, nat_tests))) (λ e. apart (λ same. let f : nat_eq n place ≡ true = grind (arith, nat_tests) in let g : true ≡ false = sym f ∙ e in cc))
 
 -- the key, and no other, is there from now on, or isn't
-abbrev IsWith : BTreeSet Key → BTreeSet Key → Network → ℕ → Bool → Type 0
+abbrev IsWith : BTreeSet Key → BTreeSet Key → AddressPrefix → ℕ → Bool → Type 0
 IsWith old new p number there = (q : Key) → contains key_cmp new q ≡ cond (is_eq (key_cmp (p, number) q)) there (contains key_cmp old q)
 
 module _ {R : Type 0} where
@@ -194,14 +194,14 @@ module _ {R : Type 0} where
     unread_is : drop (place - first) (changes_of kept) ≡ unread_at m place
     unread_is = ap (λ (v : Numbered R). unread_at v place) view
 
-    pub numbers_fit : (p : Network) (n : ℕ) → contains key_cmp index (p, n) ≡ true → n < 2 ^ 64
+    pub numbers_fit : (p : AddressPrefix) (n : ℕ) → contains key_cmp index (p, n) ≡ true → n < 2 ^ 64
     numbers_fit p n has = let fits = sound.fits in by_bool (nat_lt n first) (λ _. n < 2 ^ 64)
         (λ e. let before : n < first = grind (arith, nat_tests) in omega arith)
         (λ e. let from : first ≤ n = grind (arith, nat_tests) in
         let below = key_below first (changes_of kept) index indexed sound.keys p place low n from has in
         let until = sound.until in omega arith)
 
-    pub change_found : (p : Network) (s : ℕ) (e : Entry R) → e ≡ get_or kept (s - first) e → IsFirstNumber index p place (Some s) → Some e.change.before ≡ first_before p (unread_at m place)
+    pub change_found : (p : AddressPrefix) (s : ℕ) (e : Entry R) → e ≡ get_or kept (s - first) e → IsFirstNumber index p place (Some s) → Some e.change.before ≡ first_before p (unread_at m place)
     change_found p s e at number =
         ap (λ (x : Change R). Some x.before) (ap (λ (x : Entry R). x.change) at ∙ sym (list.get_or-map (λ (x : Entry R). x.change) kept (s - first) e))
         ∙ sym (ap (first_before p) (sym unread_is) ∙ number_here first (changes_of kept) index indexed sound.keys p place low s number e.change)
@@ -220,11 +220,11 @@ module _ {R : Type 0} where
       pub rest_within : rest ≤ length kept
       rest_within = let until = sound.until in let to = place_to first kept at_end m view place is in let n = length-map kept (λ (x : Entry R). x.change) in omega arith
 
-      pub rest_found : (p : Network) (found : Option (Option R)) → IsFirstNumber index p place None → found ≡ first_before p (drop rest (changes_of kept)) → found ≡ first_before p (unread_at m place)
+      pub rest_found : (p : AddressPrefix) (found : Option (Option R)) → IsFirstNumber index p place None → found ≡ first_before p (drop rest (changes_of kept)) → found ≡ first_before p (unread_at m place)
       rest_found p found number is = is ∙ sym (ap (first_before p) (sym unread_is) ∙ none_numbered first (changes_of kept) index indexed sound.keys p place low rest le inside number)
 
-      module _ (after other least : Option Network) (gone : IsNextBeside (drop rest (changes_of kept)) after other least) where
-        beside_is : (result : Option Network) → IsNextBeside (drop (place - first) (changes_of kept)) after other result → IsNextBeside (unread_at m place) after other result
+      module _ (after other least : Option AddressPrefix) (gone : IsNextBeside (drop rest (changes_of kept)) after other least) where
+        beside_is : (result : Option AddressPrefix) → IsNextBeside (drop (place - first) (changes_of kept)) after other result → IsNextBeside (unread_at m place) after other result
         beside_is result next = subst (λ (cs : List (Change R)). IsNextBeside cs after other result) unread_is next
 
         -- where the index has nothing from the place on
@@ -248,19 +248,19 @@ module _ {R : Type 0} where
         drop_more (changes_of kept) at e.change (omega arith)
         ∙ ap (λ (x : Change R). x ∷ drop (at + 1) (changes_of kept)) (list.get_or-map (λ (x : Entry R). x.change) kept at e ∙ sym (ap (λ (x : Entry R). x.change) here))
 
-    pub entry_passed : (p : Network) → eq_by_cmp prefix_cmp e.change.prefix p ≡ false → first_before p (drop at (changes_of kept)) ≡ first_before p (drop (at + 1) (changes_of kept))
+    pub entry_passed : (p : AddressPrefix) → eq_by_cmp prefix_cmp e.change.prefix p ≡ false → first_before p (drop at (changes_of kept)) ≡ first_before p (drop (at + 1) (changes_of kept))
     entry_passed p apart = ap (first_before p) changes_from ∙ ap (λ b. cond b (Some e.change.before) (first_before p (drop (at + 1) (changes_of kept)))) apart
 
-    pub entry_found : (p : Network) → eq_by_cmp prefix_cmp e.change.prefix p ≡ true → Some e.change.before ≡ first_before p (drop at (changes_of kept))
+    pub entry_found : (p : AddressPrefix) → eq_by_cmp prefix_cmp e.change.prefix p ≡ true → Some e.change.before ≡ first_before p (drop at (changes_of kept))
     entry_found p same = sym (ap (first_before p) changes_from ∙ ap (λ b. cond b (Some e.change.before) (first_before p (drop (at + 1) (changes_of kept)))) same)
 
-    pub entry_beside : (next : ℕ) (after other least result : Option Network) → next ≡ at + 1 → IsNextBeside (drop next (changes_of kept)) after other least → result ≡ lesser after e.change.prefix least → IsNextBeside (drop at (changes_of kept)) after other result
+    pub entry_beside : (next : ℕ) (after other least result : Option AddressPrefix) → next ≡ at + 1 → IsNextBeside (drop next (changes_of kept)) after other least → result ≡ lesser after e.change.prefix least → IsNextBeside (drop at (changes_of kept)) after other result
     entry_beside next after other least result behind is same =
         subst (IsNextBeside (drop at (changes_of kept)) after other) (sym same)
         (subst (λ (cs : List (Change R)). IsNextBeside cs after other (lesser after e.change.prefix least)) (sym changes_from)
         (lesser_beside e.change (drop (at + 1) (changes_of kept)) after other least (subst (λ k. IsNextBeside (drop k (changes_of kept)) after other least) behind is)))
 
-  pub none_gone : (kept : List (Entry R)) (at : ℕ) (after other : Option Network) → at ≡ length kept → IsNextBeside (drop at (changes_of kept)) after other other
+  pub none_gone : (kept : List (Entry R)) (at : ℕ) (after other : Option AddressPrefix) → at ≡ length kept → IsNextBeside (drop at (changes_of kept)) after other other
   none_gone kept at after other end = let n = length-map kept (λ (x : Entry R). x.change) in none_beside (changes_of kept) at after other (omega arith)
 
   -- the change at a place is the first from there on

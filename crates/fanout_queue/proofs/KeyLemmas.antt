@@ -14,7 +14,7 @@ use Rattle.std.proofs.lemmas.Cmp.{on_total, then_total}
 use Rattle.std.proofs.lemmas.Map.Lookups.{exact_pairs, exact_unsigned}
 use Rattle.std.proofs.lemmas.Map.Keys.{sorted_tail}
 use Rattle.std.proofs.lemmas.Map.Views.{All-after_first}
-use Rattle.addr4.specs.Prefixes.{Network, prefix_cmp}
+use Rattle.addr4.specs.Prefixes.{AddressPrefix, prefix_cmp}
 use Rattle.addr4.specs.Places.{IsBeyond}
 use Rattle.addr4.proofs.PrefixOrder.{prefixes_total, exact_prefixes}
 use Rattle.fanout_queue.specs.Index.{Key, key_cmp, behind, keys_from, IsFirstStop}
@@ -127,7 +127,7 @@ true_and : (b : Bool) → b && true ≡ true → b ≡ true
 true_and true e = refl
 true_and false e = let f : false ≡ true = e in cc
 
-beyond_inside : (after : Option Network) (q : Key) → IsBeyond after q.0 → range_contains key_cmp (behind after) Unbounded q ≡ true
+beyond_inside : (after : Option AddressPrefix) (q : Key) → IsBeyond after q.0 → range_contains key_cmp (behind after) Unbounded q ≡ true
 beyond_inside None q beyond = refl
 beyond_inside (Some p) q beyond = and_true (is_lt (key_cmp (p, 18446744073709551615) q)) (less_then (prefix_cmp p q.0) (nat_cmp 18446744073709551615 q.1) beyond)
 
@@ -141,11 +141,11 @@ greatest Equal n fits e = above (nat_cmp 18446744073709551615 n) refl e
     above Greater is e = absurd (let f : false ≡ true = e in cc)
 greatest Greater n fits e = absurd (let f : false ≡ true = e in cc)
 
-inside_beyond : (after : Option Network) (q : Key) → q.1 < 2 ^ 64 → range_contains key_cmp (behind after) Unbounded q ≡ true → IsBeyond after q.0
+inside_beyond : (after : Option AddressPrefix) (q : Key) → q.1 < 2 ^ 64 → range_contains key_cmp (behind after) Unbounded q ≡ true → IsBeyond after q.0
 inside_beyond None q fits is = tt
 inside_beyond (Some p) q fits is = greatest (prefix_cmp p q.0) q.1 fits (true_and (is_lt (key_cmp (p, 18446744073709551615) q)) is)
 
-pub first_stop : (index : BTreeSet Key) (test : Key → Bool) (after : Option Network) (result : Option Key) → IsOrdered key_cmp index → ((p : Network) (n : ℕ) → contains key_cmp index (p, n) ≡ true → n < 2 ^ 64)
+pub first_stop : (index : BTreeSet Key) (test : Key → Bool) (after : Option AddressPrefix) (result : Option Key) → IsOrdered key_cmp index → ((p : AddressPrefix) (n : ℕ) → contains key_cmp index (p, n) ≡ true → n < 2 ^ 64)
     → result ≡ find test (keys_from (behind after) index) → IsFirstStop index test after result
 first_stop index test after None sorted fits is = λ key in_index beyond. found_none (range_contains key_cmp (behind after) Unbounded) test index.keys (sym is) key in_index (beyond_inside after key beyond)
 first_stop index test after (Some key) sorted fits is =

@@ -4,7 +4,7 @@ use Rattle.std.specs.Option.{option_map}
 use Rattle.std.specs.Cmp.{nat_cmp_total}
 use Rattle.std.specs.FinMap as map
 use Rattle.std.specs.FinMap.{get-insert, get-remove}
-use Rattle.addr4.specs.Prefixes.{Network}
+use Rattle.addr4.specs.Prefixes.{AddressPrefix}
 use Rattle.link_change.specs.Rows.{Rows}
 use Rattle.link_change.specs.Changes.{IsSent}
 use Rattle.link_change.specs.declared.change.Change.{Change}
@@ -18,7 +18,7 @@ module _ {R : Type 0} where
   abbrev Lead : Rows R → List (Change R) → Type 0
   Lead best unread = ChangesLead (rows_before unread best) unread best
 
-  put_one : (best best' : Rows R) (p : Network) (c : Change R) (o : Option (List (Change R))) (unread : List (Change R)) → IsSent best best' p (Some c) → option_map (with_last c) o ≡ Some unread
+  put_one : (best best' : Rows R) (p : AddressPrefix) (c : Change R) (o : Option (List (Change R))) (unread : List (Change R)) → IsSent best best' p (Some c) → option_map (with_last c) o ≡ Some unread
       → ((u : List (Change R)) → o ≡ Some u → Lead best u) → Lead best' unread
   put_one best best' p c None unread sent is leads = absurd (let e : ◌≡◌ {A = Option (List (Change R))} None (Some unread) = is in cc)
   put_one best best' p c (Some u) unread sent is leads =
@@ -27,7 +27,7 @@ module _ {R : Type 0} where
       (subst (λ (r : Rows R). ChangesLead r (u ++ c ∷ []) best') (sym (put_keeps_before best best' p c u sent))
       (put_leads (rows_before u best) best best' p c u sent (leads u refl)))
 
-  pub put_keeps_leading : (old new : Queued R) (best best' : Rows R) (p : Network) (c : Change R) → AppendsToAll c old new → IsSent best best' p (Some c) → AllLead old best → AllLead new best'
+  pub put_keeps_leading : (old new : Queued R) (best best' : Rows R) (p : AddressPrefix) (c : Change R) → AppendsToAll c old new → IsSent best best' p (Some c) → AllLead old best → AllLead new best'
   put_keeps_leading old new best best' p c appends sent all reader unread at =
       put_one best best' p c (map.get old reader) unread sent (sym (appends reader) ∙ at) (all reader)
 
@@ -86,12 +86,12 @@ module _ {R : Type 0} where
         | Some unread ↦ λ at. all reader unread at
       ] refl
 
-  kept_read : (best best' : Rows R) (p : Network) (c : Change R) (o : Option (List (Change R))) → IsSent best best' p (Some c) → IsSome o
+  kept_read : (best best' : Rows R) (p : AddressPrefix) (c : Change R) (o : Option (List (Change R))) → IsSent best best' p (Some c) → IsSome o
       → rows_before (unread_or_none (option_map (with_last c) o)) best' ≡ rows_before (unread_or_none o) best
   kept_read best best' p c None sent live = absurd (cc)
   kept_read best best' p c (Some u) sent live = put_keeps_before best best' p c u sent
 
-  pub put_keeps_read : (old new : Queued R) (best best' : Rows R) (p : Network) (c : Change R) (reader : ℕ) → AppendsToAll c old new → IsSent best best' p (Some c)
+  pub put_keeps_read : (old new : Queued R) (best best' : Rows R) (p : AddressPrefix) (c : Change R) (reader : ℕ) → AppendsToAll c old new → IsSent best best' p (Some c)
       → IsSome (map.get old reader) → read_rows new reader best' ≡ read_rows old reader best
   put_keeps_read old new best best' p c reader appends sent live =
       ap (λ (o : Option (List (Change R))). rows_before (unread_or_none o) best') (appends reader) ∙ kept_read best best' p c (map.get old reader) sent live

@@ -12,7 +12,7 @@ use Rattle.std.proofs.lemmas.List.Sums.{sum_by-le, sum_by-cons, get_or-le-sum_by
 use Rattle.std.proofs.lemmas.Bool.Decides.{nat_tests}
 use Rattle.std.proofs.lemmas.Result.{IfOk-weaker}
 use Rattle.std.proofs.Math.ListN.{drop_of_length-le}
-use Rattle.addr4.specs.Prefixes.{Network}
+use Rattle.addr4.specs.Prefixes.{AddressPrefix}
 use Rattle.addr4.specs.declared.memory.Memory.{Memory}
 use Rattle.link_change.specs.Rows.{Rows}
 use Rattle.link_change.specs.declared.change.Change.{Change}
@@ -375,7 +375,7 @@ module _ {R : Type 0} where
 
   -- the row that is answered is the one before the first change at the prefix, or else the one above
   pub asked_unread : (entries : Numbered R) (places : List (Option ℕ)) (m : Queued R) (number reader place : ℕ) → queued_of entries places ≡ m → number ≡ reader → get_or places number None ≡ Some place
-      → (best : Rows R) (p : Network) (found : Option (Option R)) (result : Result (Option R) Memory) → found ≡ first_before p (unread_at entries place) → IfOk result (λ row. row ≡ or_else found (best p))
+      → (best : Rows R) (p : AddressPrefix) (found : Option (Option R)) (result : Result (Option R) Memory) → found ≡ first_before p (unread_at entries place) → IfOk result (λ row. row ≡ or_else found (best p))
       → IfOk result (λ row. IfSome (map.get m reader) (λ unread. row ≡ rows_before unread best p))
   asked_unread entries places m number reader place view same at best p found result first answered =
       IfOk-weaker result (λ row. row ≡ or_else found (best p)) (λ row. IfSome (map.get m reader) (λ unread. row ≡ rows_before unread best p))
@@ -385,7 +385,7 @@ module _ {R : Type 0} where
 
   -- a change at the prefix isn't taken where there is a first one
   pub told_unread : (entries : Numbered R) (places : List (Option ℕ)) (m : Queued R) (number reader place : ℕ) → queued_of entries places ≡ m → number ≡ reader → get_or places number None ≡ Some place
-      → (p : Network) (found : Option (Change R)) (told : Bool) → option_map (λ change. change.before) found ≡ first_before p (unread_at entries place) → told ≡ is_some found
+      → (p : AddressPrefix) (found : Option (Change R)) (told : Bool) → option_map (λ change. change.before) found ≡ first_before p (unread_at entries place) → told ≡ is_some found
       → IfSome (map.get m reader) (λ unread. told ≡ changed_in unread p)
   told_unread entries places m number reader place view same at p found told first is =
       if_some (map.get m reader) (λ unread. told ≡ changed_in unread p) (unread_at entries place) (has_unread entries places m view number reader same place at)

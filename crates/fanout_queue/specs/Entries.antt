@@ -3,7 +3,7 @@ use Rattle.std.specs.Prelude.{◌≡◌, ℕ, ◌+◌, ◌-◌, ◌<◌, ◌≤�
 use Rattle.std.specs.Coded.{Coded, code_by, coded×, coded_ℕ, coded_list}
 use Rattle.std.specs.Ordering.{eq_by_cmp}
 use Rattle.std.specs.BTreeSet.{BTreeSet}
-use Rattle.addr4.specs.Prefixes.{Network, prefix_cmp}
+use Rattle.addr4.specs.Prefixes.{AddressPrefix, prefix_cmp}
 use Rattle.link_change.specs.Rows.{Candidates, IsNextCandidate, together}
 use Rattle.link_change.specs.declared.change.Change.{Change}
 use Rattle.fanout_queue.specs.declared.entries.Entry.{Entry}
@@ -139,11 +139,11 @@ module _ {R : Type 0} where
     pub indexed : new.indexed ≡ old.indexed
 
   -- the row before the first change at the prefix
-  abbrev pub first_before : Network → List (Change R) → Option (Option R)
+  abbrev pub first_before : AddressPrefix → List (Change R) → Option (Option R)
   first_before p [] = None
   first_before p (c ∷ cs) = cond (eq_by_cmp prefix_cmp c.prefix p) (Some c.before) (first_before p cs)
 
   -- the next candidate of others and of the changes, where this is the next one of the others
-  abbrev pub IsNextBeside : List (Change R) → Option Network → Option Network → Option Network → Type 0
+  abbrev pub IsNextBeside : List (Change R) → Option AddressPrefix → Option AddressPrefix → Option AddressPrefix → Type 0
   IsNextBeside changes after other result =
       (others : Candidates) → IsNextCandidate others after other → IsNextCandidate (together others (changed_in changes)) after result

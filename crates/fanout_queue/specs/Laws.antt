@@ -1,7 +1,7 @@
 -- Laws of queues, for the crates above.
 use Rattle.std.specs.Prelude.{◌≡◌, ◌≢◌, ℕ, [], Option, Some, IsSome}
 use Rattle.std.specs.FinMap as map
-use Rattle.addr4.specs.Prefixes.{Network}
+use Rattle.addr4.specs.Prefixes.{AddressPrefix}
 use Rattle.link_change.specs.Rows.{Rows}
 use Rattle.link_change.specs.Changes.{IsSent}
 use Rattle.link_change.specs.declared.change.Change.{Change}
@@ -12,7 +12,7 @@ use Rattle.fanout_queue.specs.Readers.{read_rows, ReaderLeads, KeepsOtherReaders
 -- What every reader hasn't taken goes on to lead from the rows that it has to the best ones: when a change of these is put,
 abbrev pub PutKeepsLeading : Type 0 → Type 0
 PutKeepsLeading R =
-    (old new : Queued R) (best now : Rows R) (p : Network) (c : Change R) → AppendsToAll c old new → IsSent best now p (Some c)
+    (old new : Queued R) (best now : Rows R) (p : AddressPrefix) (c : Change R) → AppendsToAll c old new → IsSent best now p (Some c)
     → AllLead old best → AllLead new now
 
 -- when one reader takes a change,
@@ -56,7 +56,7 @@ EachReaderLeads R = (queued : Queued R) (best : Rows R) (reader : ℕ) → AllLe
 -- A change of the best rows that is put leaves the rows that a reader has.
 abbrev pub PutKeepsRead : Type 0 → Type 0
 PutKeepsRead R =
-    (old new : Queued R) (best now : Rows R) (p : Network) (c : Change R) (reader : ℕ) → AppendsToAll c old new → IsSent best now p (Some c)
+    (old new : Queued R) (best now : Rows R) (p : AddressPrefix) (c : Change R) (reader : ℕ) → AppendsToAll c old new → IsSent best now p (Some c)
     → IsSome (map.get old reader) → read_rows new reader now ≡ read_rows old reader best
 
 -- What one reader takes leaves what the others haven't taken.

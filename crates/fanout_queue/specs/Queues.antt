@@ -4,7 +4,7 @@ use Rattle.std.specs.Ordering.{nat_cmp}
 use Rattle.std.specs.Coded.{Coded, code_by, coded×, coded_ℕ, coded_list, coded_option}
 use Rattle.std.specs.FinMap as map
 use Rattle.std.specs.FinMap.{FinMap}
-use Rattle.addr4.specs.Prefixes.{Network, network_code}
+use Rattle.addr4.specs.Prefixes.{AddressPrefix, address_prefix_code}
 use Rattle.link_change.specs.Rows.{Rows}
 use Rattle.link_change.specs.declared.change.Change.{Change}
 use Rattle.link_change.specs.InOrder.{ChangesLead, rows_before, with_last}
@@ -15,7 +15,7 @@ Queued R = FinMap nat_cmp (List (Change R))
 
 abbrev pub change_code : {R : Type 0} → Coded R → Coded (Change R)
 change_code {R} c =
-    code_by (Network × (Option R × Option R)) (coded× network_code (coded× (coded_option c) (coded_option c)))
+    code_by (AddressPrefix × (Option R × Option R)) (coded× address_prefix_code (coded× (coded_option c) (coded_option c)))
     (λ x. (x.prefix, (x.before, x.after))) (λ p. record { prefix = p.0; before = p.1.0; after = p.1.1 }) (λ _. refl)
 
 abbrev pub queued_code : {R : Type 0} → Coded R → Coded (Queued R)

@@ -4,7 +4,7 @@ ghost use Rattle.std.specs.Prelude.{◌≡◌, ◌<◌, ◌^◌, ℕ, OnOk, OnEr
 ghost use Rattle.std.specs.List.{find};
 ghost use Rattle.std.specs.BTreeSet.{Updates, contains, IsOrdered};
 ghost use Rattle.addr4.specs.Places.{key_of};
-ghost use Rattle.addr4.specs.Prefixes.{Network};
+ghost use Rattle.addr4.specs.Prefixes.{AddressPrefix};
 ghost use Rattle.fanout_queue.specs.Index.{key_cmp, IsFirstKey, IsFirstNumber, IsFirstStop, is_beyond, is_reached, lesser, stops, behind, keys_from};
 
 use addr4::{Memory, Place, Prefix};
@@ -112,7 +112,7 @@ pub(crate) fn first_stop(
     after: &Place,
     other: &Option<Prefix>,
 ) -> Option<(Prefix, u64)>
-    requires { (p : Network) (n : ℕ) → contains key_cmp index.now (p, n) ≡ true → n < 2 ^ 64 }
+    requires { (p : AddressPrefix) (n : ℕ) → contains key_cmp index.now (p, n) ≡ true → n < 2 ^ 64 }
     ensures { IsFirstStop index.now (stops place other.now) (key_of after.now) result }
 {
     find_stop(index, behind(after), place, other)

@@ -1,6 +1,6 @@
 -- What a filter sends, where a row above changes.
 use Rattle.std.proofs.Common.{◌≡◌, List, Option, ap, ◌∙◌}
-use Rattle.addr4.specs.Prefixes.{Network}
+use Rattle.addr4.specs.Prefixes.{AddressPrefix}
 use Rattle.bgp_attr.specs.declared.attrs.Attrs.{Attrs}
 use Rattle.bgp_attr.specs.declared.route.Route.{Route}
 use Rattle.bgp_attr.specs.declared.speaker.Speaker.{Speaker}
@@ -18,7 +18,7 @@ pub filtered_on :
     after ≡ filtered me peer rules change.prefix change.after → IsChangeOf change.prefix before after result →
     FiltersOn me peer pass change result
 filtered_on me peer pass rules change before after result rules_are b a is =
-    let judged_at : Network → Option Attrs → Option Route = λ q row. filtered me peer (function_at pass q) q row in
+    let judged_at : AddressPrefix → Option Attrs → Option Route = λ q row. filtered me peer (function_at pass q) q row in
     computes_on judged_at change before after result
     (b ∙ ap (λ (f : List Rule). filtered me peer f change.prefix change.before) rules_are)
     (a ∙ ap (λ (f : List Rule). filtered me peer f change.prefix change.after) rules_are) is

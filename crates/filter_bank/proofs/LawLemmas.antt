@@ -1,6 +1,6 @@
 -- The laws of incoming filters.
 use Rattle.std.proofs.Common.{◌≡◌, Bool, true, false, cond, is_some, List, Option, Some, None, option_map, IfSome, refl, sym, ap, subst, ◌∙◌}
-use Rattle.addr4.specs.Prefixes.{Network}
+use Rattle.addr4.specs.Prefixes.{AddressPrefix}
 use Rattle.bgp_attr.specs.declared.attrs.Attrs.{Attrs}
 use Rattle.bgp_attr.specs.declared.route.Route.{Route}
 use Rattle.bgp_attr.specs.declared.speaker.Speaker.{Speaker}
@@ -43,13 +43,13 @@ filtered_keeps_attrs me peer rules p attrs r e =
 
 -- ---- next hops
 -- no rule changes the next hop
-judged_hop : (rules : List Rule) (p : Network) (r : Route) (accepted : Bool) → accepted ≡ is_some (judged_by rules p r) → (o : Option Route) → judged_by rules p r ≡ o → IfSome o (KeepsSource r)
+judged_hop : (rules : List Rule) (p : AddressPrefix) (r : Route) (accepted : Bool) → accepted ≡ is_some (judged_by rules p r) → (o : Option Route) → judged_by rules p r ≡ o → IfSome o (KeepsSource r)
     → cond accepted (Some (route_hop r)) None ≡ option_map route_hop o
 judged_hop rules p r accepted told None at keeps = ap (λ (b : Bool). cond b (Some (route_hop r)) None) (told ∙ ap (λ (o : Option Route). is_some o) at)
 judged_hop rules p r accepted told (Some after) at keeps =
     ap (λ (b : Bool). cond b (Some (route_hop r)) None) (told ∙ ap (λ (o : Option Route). is_some o) at) ∙ ap (λ (a : Attrs). Some a.next_hop) (sym keeps.attrs)
 
-pub filtered_hop_is : (me : Speaker) (peer : Neighbour) (rules : List Rule) (p : Network) (a : Attrs) (own accepted : Bool) → own ≡ is_own me a → accepted ≡ is_some (judged_by rules p (first_route peer a))
+pub filtered_hop_is : (me : Speaker) (peer : Neighbour) (rules : List Rule) (p : AddressPrefix) (a : Attrs) (own accepted : Bool) → own ≡ is_own me a → accepted ≡ is_some (judged_by rules p (first_route peer a))
     → cond own None (cond accepted (Some a.next_hop) None) ≡ option_map route_hop (filtered me peer rules p (Some a))
 filtered_hop_is me peer rules p a own accepted is told =
     ap (λ (b : Bool). cond b None (cond accepted (Some a.next_hop) None)) is ∙ by_own (is_own me a)

@@ -1,7 +1,7 @@
 -- The laws of outgoing filters.
 use Rattle.std.proofs.Common.{◌≡◌, ◌≢◌, nat_eq, not, ◌&&◌, ◌||◌, Bool, true, false, cond, List, Option, Some, None, IfSome, refl, sym, ap, ◌∙◌, arith}
 use Rattle.std.proofs.lemmas.Bool.Decides.{nat_tests}
-use Rattle.addr4.specs.Prefixes.{Network}
+use Rattle.addr4.specs.Prefixes.{AddressPrefix}
 use Rattle.bgp_attr.specs.Hosts.{is_host_prefix}
 use Rattle.bgp_attr.specs.declared.attrs.Attrs.{Attrs}
 use Rattle.bgp_attr.specs.declared.route.Route.{Route}
@@ -19,11 +19,11 @@ use Rattle.filter_bank.specs.OutLaws.{NothingAtFirst, OnlyWhatMayGo, IsFormOf, O
 pub makes_none_out : {R : Type 0} (form : Form R) (peer : Neighbour) (rules : Option (List Rule)) → MakesNone (outgoing form peer rules)
 makes_none_out form peer rules q = refl
 
-bare : (form : Form Attrs) (p : Network) (may : Bool) → formed form p (cond may None None) ≡ None
+bare : (form : Form Attrs) (p : AddressPrefix) (may : Bool) → formed form p (cond may None None) ≡ None
 bare form p true = refl
 bare form p false = refl
 
-nothing_by_none : (form : Form Attrs) (peer : Neighbour) (p : Network) (row : Option Route) → outgoing form peer None p row ≡ None
+nothing_by_none : (form : Form Attrs) (peer : Neighbour) (p : AddressPrefix) (row : Option Route) → outgoing form peer None p row ≡ None
 nothing_by_none form peer p None = refl
 nothing_by_none form peer p (Some r) = bare form p (may_go peer p r)
 
@@ -48,7 +48,7 @@ not_kept peer o from free is =
     let apart = reflected (nat_eq from.number peer.number) from.internal peer.internal (is_reflected from peer) (sym (ap (is_kept_from peer) is) ∙ free) in
     (λ same. let other = apart.0 in grind (arith, nat_tests), apart.1)
 
-went : (form : Form Attrs) (p : Network) (may : Bool) (later : Option Route) (a : Attrs) → formed form p (cond may later None) ≡ Some a → may ≡ true
+went : (form : Form Attrs) (p : AddressPrefix) (may : Bool) (later : Option Route) (a : Attrs) → formed form p (cond may later None) ≡ Some a → may ≡ true
 went form p true later a e = refl
 went form p false later a e = absurd (let f : None ≡ Some a = e in cc)
 
@@ -72,7 +72,7 @@ first_keeps peer row =
       | false ↦ record { attrs = refl; igp = refl; from = refl }
     ]
 
-module _ (form : Form Attrs) (p : Network) (row : Route) (sent : Attrs) where
+module _ (form : Form Attrs) (p : AddressPrefix) (row : Route) (sent : Attrs) where
   of_judged : (first : Route) (judged : Option Route) → KeepsSource row first → IfSome judged (KeepsSource first) → formed form p judged ≡ Some sent → IsFormOf form p row sent
   of_judged first None keeps judged e = absurd (none_is e)
   of_judged first (Some r) keeps judged e = (r, e, judged.attrs ∙ keeps.attrs, judged.from ∙ keeps.from)

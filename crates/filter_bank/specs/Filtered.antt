@@ -1,6 +1,6 @@
 -- The incoming filter of a peer (RFC 4271, sections 5.1.3 and 9.1.1; RFC 4456, section 8): the route that a peer's attributes make, where it is accepted.
 use Rattle.std.specs.Prelude.{ℕ, ◌==◌, ◌||◌, cond, Bool, true, false, List, Option, Some, None}
-use Rattle.addr4.specs.Prefixes.{Network}
+use Rattle.addr4.specs.Prefixes.{AddressPrefix}
 use Rattle.bgp_attr.specs.declared.attrs.Attrs.{Attrs}
 use Rattle.bgp_attr.specs.declared.route.Route.{Route}
 use Rattle.bgp_attr.specs.declared.speaker.Speaker.{Speaker}
@@ -45,7 +45,7 @@ abbrev pub is_own : Speaker → Attrs → Bool
 is_own me attrs = has_been_here me attrs || attrs.next_hop == me.addr
 
 -- what the filter makes of the attributes at a prefix, by rules
-abbrev pub filtered : Speaker → Neighbour → List Rule → Network → Option Attrs → Option Route
+abbrev pub filtered : Speaker → Neighbour → List Rule → AddressPrefix → Option Attrs → Option Route
 filtered me peer rules p None = None
 filtered me peer rules p (Some attrs) = cond (is_own me attrs) None (judged_by rules p (first_route peer attrs))
 

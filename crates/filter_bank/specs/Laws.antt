@@ -1,6 +1,6 @@
 -- Laws of incoming filters, for the crates above.
 use Rattle.std.specs.Prelude.{◌≡◌, false, List, Option, Some, None}
-use Rattle.addr4.specs.Prefixes.{Network}
+use Rattle.addr4.specs.Prefixes.{AddressPrefix}
 use Rattle.bgp_attr.specs.declared.attrs.Attrs.{Attrs}
 use Rattle.bgp_attr.specs.declared.route.Route.{Route}
 use Rattle.bgp_attr.specs.declared.speaker.Speaker.{Speaker}
@@ -17,7 +17,7 @@ use Rattle.filter_bank.specs.Walks.{IsWalked}
 -- At a prefix that no walk holds up, and at one without a row above, the row below is what the rules of the latest edit make.
 abbrev pub ExactUnlessHeldUp : Type 0
 ExactUnlessHeldUp =
-    (me : Speaker) (peer : Neighbour) (pass : Passed (List Rule)) (q : Network) (row : Option Attrs) → row_lags pass q row ≡ false
+    (me : Speaker) (peer : Neighbour) (pass : Passed (List Rule)) (q : AddressPrefix) (row : Option Attrs) → row_lags pass q row ≡ false
     → passed (filtered me peer) pass q row ≡ filtered me peer (present pass) q row
 
 -- An edit changes no row below.
@@ -41,5 +41,5 @@ pub record IsRouteOf (peer : Neighbour) (attrs : Attrs) (r : Route) : Type 0 whe
 -- Whatever the rules, a row below has the attributes of the row above.
 abbrev pub FilteredKeepsAttrs : Type 0
 FilteredKeepsAttrs =
-    (me : Speaker) (peer : Neighbour) (rules : List Rule) (p : Network) (attrs : Attrs) (r : Route)
+    (me : Speaker) (peer : Neighbour) (rules : List Rule) (p : AddressPrefix) (attrs : Attrs) (r : Route)
     → filtered me peer rules p (Some attrs) ≡ Some r → IsRouteOf peer attrs r

@@ -1,6 +1,6 @@
 -- Laws of outgoing filters, for the crates above.
 use Rattle.std.specs.Prelude.{◌≡◌, ◌≢◌, true, List, Option, Some}
-use Rattle.addr4.specs.Prefixes.{Network}
+use Rattle.addr4.specs.Prefixes.{AddressPrefix}
 use Rattle.bgp_attr.specs.Hosts.{is_host_prefix}
 use Rattle.bgp_attr.specs.declared.attrs.Attrs.{Attrs}
 use Rattle.bgp_attr.specs.declared.route.Route.{Route}
@@ -21,17 +21,17 @@ NothingAtFirst =
     (form : Form Attrs) (peer : Neighbour) (rules : List Rule) (upper : Rows Route) → passed_rows (outgoing form peer) (first_walk rules) upper ≡ no_rows
 
 -- what is sent is the form of a route with the attributes and the source of this one
-abbrev pub IsFormOf : Form Attrs → Network → Route → Attrs → Type 0
+abbrev pub IsFormOf : Form Attrs → AddressPrefix → Route → Attrs → Type 0
 IsFormOf form p row sent = (r : Route) × (form p r ≡ Some sent) × (r.attrs ≡ row.attrs) × (r.from ≡ row.from)
 
 -- Whatever the rules, only such forms are sent.
 abbrev pub OnlyFormsOfRows : Type 0
 OnlyFormsOfRows =
-    (form : Form Attrs) (peer : Neighbour) (rules : Option (List Rule)) (p : Network) (row : Route) (sent : Attrs)
+    (form : Form Attrs) (peer : Neighbour) (rules : Option (List Rule)) (p : AddressPrefix) (row : Route) (sent : Attrs)
     → outgoing form peer rules p (Some row) ≡ Some sent → IsFormOf form p row sent
 
 -- the peer may get the route
-pub record MayGo (peer : Neighbour) (p : Network) (r : Route) : Type 0 where
+pub record MayGo (peer : Neighbour) (p : AddressPrefix) (r : Route) : Type 0 where
   pub not_back : (from : Neighbour) → r.from ≡ Some from → from.number ≢ peer.number
   pub reflected_inside : (from : Neighbour) → r.from ≡ Some from → peer.internal ≡ true → from.internal ≡ true → is_reflected from peer ≡ true
   pub of_hosts : is_host_prefix p ≡ true
@@ -39,5 +39,5 @@ pub record MayGo (peer : Neighbour) (p : Network) (r : Route) : Type 0 where
 -- Whatever the rules, only such routes are sent.
 abbrev pub OnlyWhatMayGo : Type 0
 OnlyWhatMayGo =
-    (form : Form Attrs) (peer : Neighbour) (rules : Option (List Rule)) (p : Network) (r : Route) (a : Attrs)
+    (form : Form Attrs) (peer : Neighbour) (rules : Option (List Rule)) (p : AddressPrefix) (r : Route) (a : Attrs)
     → outgoing form peer rules p (Some r) ≡ Some a → MayGo peer p r

@@ -1,6 +1,6 @@
 -- The outgoing filter to a peer (RFC 4271, sections 5.1.4, 9.1.3 and 9.2; RFC 4456, section 6): which routes the peer gets, and in which form.
 use Rattle.std.specs.Prelude.{◌==◌, not, ◌&&◌, ◌||◌, Bool, false, if◌then◌else◌, List, Option, Some, None}
-use Rattle.addr4.specs.Prefixes.{Network}
+use Rattle.addr4.specs.Prefixes.{AddressPrefix}
 use Rattle.bgp_attr.specs.Hosts.{is_host_prefix}
 use Rattle.bgp_attr.specs.declared.route.Route.{Route}
 use Rattle.bgp_attr.specs.declared.speaker.Neighbour.{Neighbour}
@@ -10,7 +10,7 @@ use Rattle.pass_core.specs.Passed.{Passed, begun}
 
 -- what is sent of a route at a prefix, or none where it can't be
 abbrev pub Form : Type 0 → Type 0
-Form R = Network → Route → Option R
+Form R = AddressPrefix → Route → Option R
 
 -- a route of one goes to the other inside the AS: this speaker reflects it, since one of them is its client (RFC 4456, section 6)
 abbrev pub is_reflected : Neighbour → Neighbour → Bool
@@ -22,7 +22,7 @@ is_kept_from peer None = false
 is_kept_from peer (Some from) = from.number == peer.number || (from.internal && peer.internal && not (is_reflected from peer))
 
 -- the peer may get the route, if the rules let it: it isn't kept from the peer, and its prefix is one of hosts
-abbrev pub may_go : Neighbour → Network → Route → Bool
+abbrev pub may_go : Neighbour → AddressPrefix → Route → Bool
 may_go peer p r = not (is_kept_from peer r.from) && is_host_prefix p
 
 -- the route before any rule: MULTI_EXIT_DISC of another AS doesn't go to an external peer (section 5.1.4)
@@ -30,21 +30,21 @@ abbrev pub first_out : Neighbour → Route → Route
 first_out peer r = if peer.internal then r else record r { med = None }
 
 -- what the rules make of a route, where there are rules; without, nothing is sent
-abbrev pub let_by : Option (List Rule) → Network → Route → Option Route
+abbrev pub let_by : Option (List Rule) → AddressPrefix → Route → Option Route
 let_by None p r = None
 let_by (Some rules) p r = judged_by rules p r
 
 -- the route that goes out at a prefix
-abbrev pub let_out : Neighbour → Option (List Rule) → Network → Option Route → Option Route
+abbrev pub let_out : Neighbour → Option (List Rule) → AddressPrefix → Option Route → Option Route
 let_out peer rules p None = None
 let_out peer rules p (Some r) = if may_go peer p r then let_by rules p (first_out peer r) else None
 
-abbrev pub formed : {R : Type 0} → Form R → Network → Option Route → Option R
+abbrev pub formed : {R : Type 0} → Form R → AddressPrefix → Option Route → Option R
 formed form p None = None
 formed form p (Some r) = form p r
 
 -- what the filter makes of the route at a prefix, by rules, or by none
-abbrev pub outgoing : {R : Type 0} → Form R → Neighbour → Option (List Rule) → Network → Option Route → Option R
+abbrev pub outgoing : {R : Type 0} → Form R → Neighbour → Option (List Rule) → AddressPrefix → Option Route → Option R
 outgoing form peer rules p row = formed form p (let_out peer rules p row)
 
 -- a session begins: nothing is sent, and a walk brings its rules into force

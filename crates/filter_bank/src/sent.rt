@@ -1,7 +1,7 @@
 //! What a peer is sent of routes.
 
 ghost use Rattle.std.specs.Prelude.{◌≡◌, IfOk, Option};
-ghost use Rattle.addr4.specs.Prefixes.{Network};
+ghost use Rattle.addr4.specs.Prefixes.{AddressPrefix};
 ghost use Rattle.bgp_attr.specs.declared.route.Route.{Route};
 
 use addr4::{Memory, Prefix, Row};
@@ -13,7 +13,7 @@ pub trait Sent {
     type Row: Row;
 
     /// What is sent of a route at a prefix; nothing where it doesn't fit into a message.
-    ghost form: { Self → Network → Route → Option Self.Row };
+    ghost form: { Self → AddressPrefix → Route → Option Self.Row };
 
     /// What the peer is sent of a route. Memory only for want of memory.
     fn sent(&self, p: &Prefix, row: &Route) -> Result<Option<Self::Row>, Memory>

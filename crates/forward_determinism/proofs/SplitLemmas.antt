@@ -1,6 +1,6 @@
 -- What the splitter sends on its two links, and what that causes on `ext`, is one.
 use Rattle.std.proofs.Common.{◌≡◌, true, cond, Option, Some, None, is_some, refl, sym, ap, ◌∙◌}
-use Rattle.addr4.specs.Prefixes.{Network}
+use Rattle.addr4.specs.Prefixes.{AddressPrefix}
 use Rattle.rib_route.specs.declared.rows.External.{External}
 use Rattle.link_change.specs.Changes.{IsSent}
 use Rattle.link_change.specs.declared.change.Change.{Change}
@@ -33,7 +33,7 @@ both None (Some change) = One Ibgp change
 both (Some external) (Some internal) = cond (is_some external.before) (Moved Ibgp internal external) (Moved Ebgp external internal)
 
 -- each link is sent what goes on to it
-each_is_sent : (old new : Parted) (p : Network) (split : Split) (link : BgpLink) → Splits old new p split → IsSent (old link) (new link) p (on link split)
+each_is_sent : (old new : Parted) (p : AddressPrefix) (split : Split) (link : BgpLink) → Splits old new p split → IsSent (old link) (new link) p (on link split)
 each_is_sent old new p Neither link is = ap (λ (rows : Parted). rows link) is
 each_is_sent old new p (One Ebgp change) Ebgp is = is.0
 each_is_sent old new p (One Ebgp change) Ibgp is = is.1
@@ -50,7 +50,7 @@ was_there after None none differ = absurd (differ none)
 was_there after (Some row) none differ = refl
 
 -- what goes on is told by what goes on to each link
-is_both : (old new : Parted) (p : Network) (split : Split) → Splits old new p split → split ≡ both (on Ebgp split) (on Ibgp split)
+is_both : (old new : Parted) (p : AddressPrefix) (split : Split) → Splits old new p split → split ≡ both (on Ebgp split) (on Ibgp split)
 is_both old new p Neither is = refl
 is_both old new p (One Ebgp change) is = refl
 is_both old new p (One Ibgp change) is = refl

@@ -2,7 +2,7 @@
 use Rattle.std.specs.Prelude.{◌≡◌, true, List, map, Option, Some, IsSome}
 use Rattle.std.specs.List.{Contains, AllByRecursion}
 use Rattle.std.specs.List.Sorted.{IsStrictlySortedBy}
-use Rattle.addr4.specs.Prefixes.{Network, prefix_cmp}
+use Rattle.addr4.specs.Prefixes.{AddressPrefix, prefix_cmp}
 use Rattle.bgp_attr.specs.declared.route.Route.{Route}
 use Rattle.link_change.specs.Rows.{Rows}
 use Rattle.link_change.specs.Changes.{IsSent}
@@ -24,18 +24,18 @@ use Rattle.rib_exit.specs.Steps.{CausesOn, FallsOn, TakesExternal, TakesInterior
 -- ---- a change of the best routes
 -- What goes on to the two links, from these rows of theirs to those, is one: also on which link it goes first.
 abbrev pub SplitIsOne : Type 0
-SplitIsOne = (old new : Parted) (p q : Network) (one other : Split) → Splits old new p one → Splits old new q other → one ≡ other
+SplitIsOne = (old new : Parted) (p q : AddressPrefix) (one other : Split) → Splits old new p one → Splits old new q other → one ≡ other
 
 -- So is what each part causes on `ext`.
 abbrev pub CausesAreOne : Type 0
 CausesAreOne =
-    (p : Network) (split : Split) (first second first' second' : Option (Change External)) (old new : Parted) → CausesOn p split first second old new
+    (p : AddressPrefix) (split : Split) (first second first' second' : Option (Change External)) (old new : Parted) → CausesOn p split first second old new
     → CausesOn p split first' second' old new → (first ≡ first') × (second ≡ second')
 
 -- From these best routes to those: the parts, what each causes, and the exit after them.
 abbrev pub FallIsOne : Type 0
 FallIsOne =
-    (p : Network) (int : Rows Interior) (split split' : Split) (first second first' second' : Caused) (was : Registry Interior) (e f f' : RibExit) (entries entries' : List (Entry Value))
+    (p : AddressPrefix) (int : Rows Interior) (split split' : Split) (first second first' second' : Caused) (was : Registry Interior) (e f f' : RibExit) (entries entries' : List (Entry Value))
     (best now : Rows Route) → IsExit f → IsExit f' → FallsOn p int split first second was e f entries best now → FallsOn p int split' first' second' was e f' entries' best now
     → (split ≡ split') × (first ≡ first') × (second ≡ second') × (f ≡ f')
 
@@ -44,14 +44,14 @@ FallIsOne =
 abbrev pub ExternalIsOne : Type 0
 ExternalIsOne =
     (change : Change Route) (int : Rows Interior) (sent sent' : Option (Change FibRow)) (was is is' : Registry Interior) (e f f' : RibExit) (entries entries' : List (Entry Value))
-    (best now : Rows Route) (p : Network) → StandsOver best e → IsSent best now p (Some change) → TakesExternal change int sent was is e f entries
+    (best now : Rows Route) (p : AddressPrefix) → StandsOver best e → IsSent best now p (Some change) → TakesExternal change int sent was is e f entries
     → TakesExternal change int sent' was is' e f' entries' → (sent ≡ sent') × (is ≡ is') × (f ≡ f') × (entries ≡ entries')
 
 -- ---- a change of the interior routes
 -- What comes of one on `fib` is one, where it leads from some rows to others, and so are the lines.
 abbrev pub InteriorIsOne : Type 0
 InteriorIsOne =
-    (change : Change Interior) (sent sent' : Option (Change FibRow)) (e : RibExit) (entries entries' : List (Entry Value)) (int now : Rows Interior) (p : Network)
+    (change : Change Interior) (sent sent' : Option (Change FibRow)) (e : RibExit) (entries entries' : List (Entry Value)) (int now : Rows Interior) (p : AddressPrefix)
     → IsSent int now p (Some change) → TakesInterior change sent e entries → TakesInterior change sent' e entries' → (sent ≡ sent') × (entries ≡ entries')
 
 -- Where the register gave these interests up, the exit is one.
@@ -75,6 +75,6 @@ TurnHasWork =
 -- The rows of a link, each with its prefix, in order, are one list.
 abbrev pub ListedIsOne : Type 0
 ListedIsOne =
-    (rows : Rows Value) (one other : List (Network × Value)) → IsStrictlySortedBy prefix_cmp (map (λ r. r.0) one) → AllByRecursion (λ r. rows r.0 ≡ Some r.1) one
-    → ((q : Network) → IsSome (rows q) → Contains (map (λ r. r.0) one) q) → IsStrictlySortedBy prefix_cmp (map (λ r. r.0) other)
-    → AllByRecursion (λ r. rows r.0 ≡ Some r.1) other → ((q : Network) → IsSome (rows q) → Contains (map (λ r. r.0) other) q) → one ≡ other
+    (rows : Rows Value) (one other : List (AddressPrefix × Value)) → IsStrictlySortedBy prefix_cmp (map (λ r. r.0) one) → AllByRecursion (λ r. rows r.0 ≡ Some r.1) one
+    → ((q : AddressPrefix) → IsSome (rows q) → Contains (map (λ r. r.0) one) q) → IsStrictlySortedBy prefix_cmp (map (λ r. r.0) other)
+    → AllByRecursion (λ r. rows r.0 ≡ Some r.1) other → ((q : AddressPrefix) → IsSome (rows q) → Contains (map (λ r. r.0) other) q) → one ≡ other

@@ -7,7 +7,7 @@ use Rattle.std.specs.Ordering.{eq_by_cmp}
 use Rattle.std.proofs.lemmas.Bool.Decides.{Decides-like, same_from_decides}
 use Rattle.std.proofs.lemmas.List.Elements.{Contains-append_right}
 use Rattle.std.proofs.lemmas.Map.Made.{is_member-Decides, length-from_same_keys}
-use Rattle.addr4.specs.Prefixes.{Network, prefix_cmp}
+use Rattle.addr4.specs.Prefixes.{AddressPrefix, prefix_cmp}
 use Rattle.addr4.proofs.PrefixOrder.{by_prefix, itself, one_prefix, prefixes_total}
 use Rattle.link_change.specs.Rows.{Rows}
 use Rattle.nexthop_known.specs.declared.answer.Hop.{Hop}
@@ -17,11 +17,11 @@ use Rattle.hop_determinism.specs.Laws.{CountsAreOne, LeastStaleIsOne}
 
 -- ---- how many rows name a next hop
 -- two prefixes are told apart by their order
-told_apart : (p q : Network) → Decides (eq_by_cmp prefix_cmp p q) (p ≡ q)
+told_apart : (p q : AddressPrefix) → Decides (eq_by_cmp prefix_cmp p q) (p ≡ q)
 told_apart p q = (one_prefix p q, λ same. ap (eq_by_cmp prefix_cmp p) (sym same) ∙ itself p)
 
 -- none of a list's is equal to one that it hasn't
-none_equal : (p : Network) (ps : List Network) → (Contains ps p → ⊥) → AllByRecursion (λ q. eq_by_cmp prefix_cmp p q ≡ false) ps
+none_equal : (p : AddressPrefix) (ps : List AddressPrefix) → (Contains ps p → ⊥) → AllByRecursion (λ q. eq_by_cmp prefix_cmp p q ≡ false) ps
 none_equal p [] out = tt
 none_equal p (q ∷ ps) out = (
   by_prefix p q (λ b. b ≡ false) (λ same. absurd (out (0, omega arith, sym same))) (λ _. refl),
@@ -29,7 +29,7 @@ none_equal p (q ∷ ps) out = (
 )
 
 -- where no prefix stands twice, none is equal to one behind it
-distinct : (ps : List Network) → AllApart ps → IsDistinct (eq_by_cmp prefix_cmp) ps
+distinct : (ps : List AddressPrefix) → AllApart ps → IsDistinct (eq_by_cmp prefix_cmp) ps
 unfolding IsDistinct
 distinct [] apart = tt
 distinct (p ∷ ps) apart = (none_equal p ps apart.0, distinct ps apart.1)

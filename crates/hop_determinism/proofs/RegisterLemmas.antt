@@ -2,7 +2,7 @@
 use Rattle.std.proofs.Common.{ℕ, List, Option, sym, ap, ◌∙◌, subst, arith}
 use Rattle.std.specs.FinMap.{get}
 use Rattle.std.specs.List.{Contains}
-use Rattle.addr4.specs.Prefixes.{Network}
+use Rattle.addr4.specs.Prefixes.{AddressPrefix}
 use Rattle.register_interest.specs.Width.{width}
 use Rattle.register_interest.specs.Covers.{longest, matched, IsSubnet}
 use Rattle.register_interest.specs.declared.interests.Interest.{Interest}
@@ -13,7 +13,7 @@ use Rattle.hop_determinism.specs.Laws.{ReachedIsOne, SubnetIsOne, CoverIsOne, La
 use Rattle.hop_determinism.proofs.ListLemmas.{sorted_is_one}
 
 -- an interest that is listed is reached, and so it is listed everywhere
-listed : (w : ℕ) (p : Network) (interests : Interest → Option (Option Network)) (a b : List Interest) → AreReached w p interests a → AreReached w p interests b → (k : Interest) → Contains a k → Contains b k
+listed : (w : ℕ) (p : AddressPrefix) (interests : Interest → Option (Option AddressPrefix)) (a b : List Interest) → AreReached w p interests a → AreReached w p interests b → (k : Interest) → Contains a k → Contains b k
 listed w p interests a b x y k c = let m = x.only k c in y.all k m.0 m.1 m.2
 
 pub reached_is_one : ReachedIsOne
@@ -30,7 +30,7 @@ module _ {V : Type 0} where
   pub cover_is_one : CoverIsOne V
   cover_is_one w rows a m n s t x y =
       let same = x.longest_is ∙ sym y.longest_is in
-      (same, subnet_is_one w rows a (matched n) s t (subst (λ (o : Option (Network × V)). IsSubnet w rows a (matched o) s) same x.subnet) y.subnet)
+      (same, subnet_is_one w rows a (matched n) s t (subst (λ (o : Option (AddressPrefix × V)). IsSubnet w rows a (matched o) s) same x.subnet) y.subnet)
 
 pub largest_is_one : LargestIsOne
 largest_is_one rows a s t x y = subnet_is_one width rows a (matched (longest width rows a)) s t x y

@@ -3,7 +3,7 @@ use Rattle.std.proofs.Common.{◌≡◌, ◌⊎◌, ℕ, true, Option, Some, sym
 use Rattle.std.specs.Cmp.{nat_cmp_total}
 use Rattle.std.specs.FinMap.{get, insert, same_map, nat_cmp-IsAntisymmetric}
 use Rattle.std.proofs.lemmas.Bool.{cases_eq}
-use Rattle.addr4.specs.Prefixes.{Network, Holds}
+use Rattle.addr4.specs.Prefixes.{AddressPrefix, Holds}
 use Rattle.addr4.proofs.BlockLemmas.{size_pos}
 use Rattle.link_change.specs.Changes.{IsSent}
 use Rattle.register_interest.specs.Width.{width}
@@ -27,14 +27,14 @@ use Rattle.hop_determinism.proofs.KnownLemmas.{same_option, counts_are_one}
 -- ---- the register of a client
 module _ {R : Type 0} where
   -- the first address of a subnet tells the match that is recorded
-  recorded : (r : Registry R) (k : Interest) (m : Option Network) → AllStand r → get r.interests k ≡ Some m → m ≡ matched (longest width (get r.rows) k.subnet.address)
+  recorded : (r : Registry R) (k : Interest) (m : Option AddressPrefix) → AllStand r → get r.interests k ≡ Some m → m ≡ matched (longest width (get r.rows) k.subnet.address)
   recorded r k m stand at =
       let first : Holds width k.subnet k.subnet.address = record { from = omega arith; to = omega (arith, size_pos width k.subnet.length) } in
       sym ((stand k m at).1 k.subnet.address first)
 
-module _ {A : Type 0} (kept : Option (Network × Interior) → A) (client : ℕ) (known : Hops A) where
+module _ {A : Type 0} (kept : Option (AddressPrefix × Interior) → A) (client : ℕ) (known : Hops A) where
   -- an interest is that of a known next hop, and so is one of each register that agrees
-  interest_stays : (is it : Registry Interior) → Agrees kept client known is → Agrees kept client known it → (s : Network) → interest_of client is s ≡ true → interest_of client it s ≡ true
+  interest_stays : (is it : Registry Interior) → Agrees kept client known is → Agrees kept client known it → (s : AddressPrefix) → interest_of client is s ≡ true → interest_of client it s ≡ true
   interest_stays is it agree other s has = let w = agree.wanted s has in (other.present w.0 w.1 s w.2 w.3).kept
 
 pub clients_register_is_one : {A : Type 0} → ClientsRegisterIsOne A
@@ -45,7 +45,7 @@ clients_register_is_one kept client known was is it x stand agree y stand' agree
     rows : is.rows ≡ it.rows
     rows = x.rows ∙ sym y.rows
 
-    own : (s : Network) → get is.interests (record { subnet = s; client = client }) ≡ get it.interests (record { subnet = s; client = client })
+    own : (s : AddressPrefix) → get is.interests (record { subnet = s; client = client }) ≡ get it.interests (record { subnet = s; client = client })
     own s = same_option _ _ (interest_stays kept client known is it agree agree' s) (interest_stays kept client known it is agree' agree s) (λ m n at there.
         recorded is _ m stand at ∙ ap (λ r. matched (longest width (get r) s.address)) rows ∙ sym (recorded it _ n stand' there))
 
@@ -77,14 +77,14 @@ module _ {A : Type 0} where
       x.1 ∙ ap (λ t. insert old a (renewed t (answer_of kept was a) (get old a))) s ∙ sym y.1
 
   -- a next hop that stays known has its answers, and one that is new those that it was told
-  one_hop : (kept : Option (Network × Interior) → A) (was : Registry Interior) (old : Hops A) (a : ℕ) (h g : Hop A) → (get old a ≡ Some h) ⊎ IsNew (told_of kept was) old a h → (get old a ≡ Some g) ⊎ IsNew (told_of kept was) old a g → h ≡ g
+  one_hop : (kept : Option (AddressPrefix × Interior) → A) (was : Registry Interior) (old : Hops A) (a : ℕ) (h g : Hop A) → (get old a ≡ Some h) ⊎ IsNew (told_of kept was) old a h → (get old a ≡ Some g) ⊎ IsNew (told_of kept was) old a g → h ≡ g
   one_hop kept was old a h g (inl at) (inl there) = same_some h g (sym at ∙ there)
   one_hop kept was old a h g (inl at) (inr new) = clash_some h _ (sym new.unknown ∙ at)
   one_hop kept was old a h g (inr new) (inl there) = clash_some g _ (sym new.unknown ∙ there)
   one_hop kept was old a h g (inr new) (inr too) = told_is_one kept (get was.rows) a h g new.is_told too.is_told
 
   -- exactly those that are counted are known
-  known_is_one : (kept : Option (Network × Interior) → A) (was : Registry Interior) (counts : Counts) (old new it : Hops A) → KeepsOrLearns (told_of kept was) old new → AreNamed counts new → KeepsOrLearns (told_of kept was) old it → AreNamed counts it
+  known_is_one : (kept : Option (AddressPrefix × Interior) → A) (was : Registry Interior) (counts : Counts) (old new it : Hops A) → KeepsOrLearns (told_of kept was) old new → AreNamed counts new → KeepsOrLearns (told_of kept was) old it → AreNamed counts it
       → new ≡ it
   known_is_one kept was counts old new it x named y named' = same_map nat_cmp_total nat_cmp-IsAntisymmetric new it (λ a.
       same_option (get new a) (get it a) (λ has. named' a ∙ sym (named a) ∙ has) (λ has. named a ∙ sym (named' a) ∙ has) (λ h g at there. one_hop kept was old a h g (x a h at) (y a g there)))

@@ -2,7 +2,7 @@
 use Rattle.std.proofs.Common.{◌≡◌, ℕ, true, Option, Some, None, refl, sym, ap, ◌∙◌, subst, inl, inr, is_some}
 use Rattle.std.specs.FinMap.{get}
 use Rattle.std.specs.Option.{option_map}
-use Rattle.addr4.specs.Prefixes.{Network}
+use Rattle.addr4.specs.Prefixes.{AddressPrefix}
 use Rattle.link_change.specs.Rows.{Rows, Candidates}
 use Rattle.link_change.specs.declared.change.Change.{Change}
 use Rattle.link_change.specs.declared.turn.Turn.{Turn}
@@ -35,7 +35,7 @@ module _ {A : Type 0} where
 
   -- ---- a step of the walk
   -- the place of a walk, as the walk of functions tells it
-  place_in : (fresh : Answers A) (walk : Option (Option Network)) → option_map (λ (w : Walked (Answers A)). w.place) (walk_to fresh walk) ≡ walk
+  place_in : (fresh : Answers A) (walk : Option (Option AddressPrefix)) → option_map (λ (w : Walked (Answers A)). w.place) (walk_to fresh walk) ≡ walk
   place_in fresh None = refl
   place_in fresh (Some place) = refl
 
@@ -53,7 +53,7 @@ module _ {A : Type 0} where
       sym (place_in (fresh_by s.known) s.walk) ∙ ap (λ (p : Passed (Answers A)). option_map (λ (w : Walked (Answers A)). w.place) p.walk) same ∙ place_in (fresh_by t.known) t.walk
 
   -- what is known when the walk goes on, or is over
-  after_is_one : (walk : Option (Option Network)) (old new it : Hops A) → KnownAfter walk old new → KnownAfter walk old it → new ≡ it
+  after_is_one : (walk : Option (Option AddressPrefix)) (old new it : Hops A) → KnownAfter walk old new → KnownAfter walk old it → new ≡ it
   after_is_one (Some place) old new it x y = x ∙ sym y
   after_is_one None old new it x y = mapped_is_one settled old new it x y
 
@@ -67,12 +67,12 @@ module _ {A R L : Type 0} (hop : R → ℕ) (made : R → A → Option L) (candi
       (same_parts new it (x.client ∙ sym y.client) (x.counts ∙ sym y.counts) known walk, same.1)
 
   -- where a turn is taken there was work
-  turned_work : (kept : Option (Network × Interior) → A) (was is : Registry Interior) (old new : Resolving A) (sent : Option (Change L)) → Turned hop made candidates upper kept was is old new sent → HasWork old
+  turned_work : (kept : Option (AddressPrefix × Interior) → A) (was is : Registry Interior) (old new : Resolving A) (sent : Option (Change L)) → Turned hop made candidates upper kept was is old new sent → HasWork old
   turned_work kept was is old new sent (inl x) = inl (ap is_some (on_walk old x.steps.walks.walk x.steps.walks.on))
   turned_work kept was is old new sent (inr (inl x)) = stale_work old (Some x.next_hop) true x.least refl refl
   turned_work kept was is old new sent (inr (inr x)) = inr (inr x.differs)
 
-  module _ (kept : Option (Network × Interior) → A) (was is it : Registry Interior) (old new then_new : Resolving A) where
+  module _ (kept : Option (AddressPrefix × Interior) → A) (was is it : Registry Interior) (old new then_new : Resolving A) where
     abbrev One : Registry Interior → Resolving A → Option (Change L) → Type 0
     One r s sent = Turned hop made candidates upper kept was r old s sent
 

@@ -1,7 +1,7 @@
 -- Whether a peer's row goes on to `res.K`.
 use Rattle.std.proofs.Common.{◌≡◌, ℕ, Option, Some, None, is_some, refl, sym, ap, ◌∙◌}
 use Rattle.std.specs.Prelude.{option_map, option_and_then}
-use Rattle.addr4.specs.Prefixes.{Network}
+use Rattle.addr4.specs.Prefixes.{AddressPrefix}
 use Rattle.bgp_attr.specs.declared.route.Route.{Route}
 use Rattle.link_change.specs.Rows.{Rows}
 use Rattle.nexthop_resolver.specs.declared.rows.Metric.{Metric}
@@ -18,7 +18,7 @@ igp_tells r (Some m) = by_igp m.igp refl
     by_igp None e = cc
     by_igp (Some n) e = cc
 
-row_goes_on : (s : Resolving Metric) (p : Network) (hop : ℕ) (upper : Rows Route) (row : Option Route) → upper p ≡ row → option_map route_hop row ≡ Some hop
+row_goes_on : (s : Resolving Metric) (p : AddressPrefix) (hop : ℕ) (upper : Rows Route) (row : Option Route) → upper p ≡ row → option_map route_hop row ≡ Some hop
     → is_some (option_and_then (λ m. m.igp) (function_at (passes s) p hop)) ≡ is_some (metric_rows s upper p)
 row_goes_on s p hop upper None at named = absurd (cc)
 row_goes_on s p hop upper (Some r) at named =
@@ -26,6 +26,6 @@ row_goes_on s p hop upper (Some r) at named =
     ap (λ (h : ℕ). is_some (option_and_then (λ m. m.igp) (function_at (passes s) p h))) (sym is) ∙ igp_tells r (function_at (passes s) p (route_hop r))
     ∙ ap (λ (o : Option Route). is_some (as_it_goes_on route_hop with_metric (function_at (passes s) p) o)) (sym at)
 
-pub goes_on : (a : Resolvers) (k : ℕ) (p : Network) (hop : ℕ) (named : Option ℕ) (upper : Rows Route) → option_map route_hop (upper p) ≡ named → named ≡ Some hop → (s : Resolving Metric) → resolver_at k a ≡ Some s
+pub goes_on : (a : Resolvers) (k : ℕ) (p : AddressPrefix) (hop : ℕ) (named : Option ℕ) (upper : Rows Route) → option_map route_hop (upper p) ≡ named → named ≡ Some hop → (s : Resolving Metric) → resolver_at k a ≡ Some s
     → is_some (option_and_then (λ m. m.igp) (function_at (passes s) p hop)) ≡ is_some (rows_by (resolver_at k a) upper p)
 goes_on a k p hop named upper is some s at = row_goes_on s p hop upper (upper p) refl (is ∙ some) ∙ ap (λ (o : Option (Resolving Metric)). is_some (rows_by o upper p)) (sym at)

@@ -8,7 +8,7 @@ use Rattle.std.specs.FinMap.{get-empty, contains_key-keys, nat_cmp-IsAntisymmetr
 use Rattle.std.specs.Ordering.{nat_cmp}
 use Rattle.std.specs.Cmp.{nat_cmp_total}
 use Rattle.std.proofs.lemmas.Map.Views.{Contains-from_any, tells_apart}
-use Rattle.addr4.specs.Prefixes.{Network}
+use Rattle.addr4.specs.Prefixes.{AddressPrefix}
 use Rattle.link_change.proofs.RowLemmas.{same_function}
 use Rattle.link_change.proofs.MapLemmas.{no_entries, all_entries, one_of_sum, sum_within}
 use Rattle.nexthop_resolver.specs.declared.rows.Metric.{Metric}
@@ -80,7 +80,7 @@ exact_unless_held_up a uppers r k s p hops agree counted at none =
     held.exact_unless_held_up same_metric tells_metrics route_hop with_metric metric_of (uppers k) r s p (agree k s at) (hops k s at).named (counted k s at)
     (sym (ap (λ (o : Option (Resolving Metric)). lags_by o p (option_map route_hop (uppers k p))) at) ∙ none)
 
-none_by : (p : Network) (hop : Option ℕ) (o : Option (Resolving Metric)) → busy_by o ≡ false → lags_by o p hop ≡ false
+none_by : (p : AddressPrefix) (hop : Option ℕ) (o : Option (Resolving Metric)) → busy_by o ≡ false → lags_by o p hop ≡ false
 none_by p hop None idle = refl
 none_by p hop (Some s) idle = held.none_held_up_at_rest same_metric tells_metrics s p hop (left.idle_rests same_metric s tells_metrics idle)
 

@@ -1,7 +1,7 @@
 -- A step of one resolver, as one of the side.
 use Rattle.std.proofs.Common.{◌≡◌, ℕ, true, false, ◌&&◌, cond, Option, Some, None, Result, Ok, Err, OnErr, nat_eq, refl, sym, ap, subst, ◌∙◌}
 use Rattle.bgp_attr.specs.declared.route.Route.{Route}
-use Rattle.addr4.specs.Prefixes.{Network}
+use Rattle.addr4.specs.Prefixes.{AddressPrefix}
 use Rattle.link_change.specs.Rows.{Rows, no_rows}
 use Rattle.link_change.specs.Changes.{IsSent}
 use Rattle.link_change.specs.declared.change.Change.{Change}
@@ -38,7 +38,7 @@ module _ (a : Resolvers) (k : ℕ) (s s' : Resolving Metric) (at : resolver_at k
   new = put_resolver k s' a
 
   -- ---- rows above that change to these
-  module _ (uppers now : PeerRows) (same : (j : ℕ) → nat_eq j k ≡ false → now j ≡ uppers j) (p : Network) (sent : Option (Change Route)) (is : IsSent (metric_rows s (uppers k)) (metric_rows s' (now k)) p sent) where
+  module _ (uppers now : PeerRows) (same : (j : ℕ) → nat_eq j k ≡ false → now j ≡ uppers j) (p : AddressPrefix) (sent : Option (Change Route)) (is : IsSent (metric_rows s (uppers k)) (metric_rows s' (now k)) p sent) where
     comes_on : ComesOn k p sent (res_at a uppers) (res_at new now)
     comes_on = record {
       here = subst (λ (old : Rows Route). IsSent old (res_at new now k) p sent) (sym (ap (λ (o : Option (Resolving Metric)). rows_by o (uppers k)) at))

@@ -6,7 +6,7 @@ use Rattle.std.specs.Map.{keys_of, values_of}
 use Rattle.std.specs.FinMap as tables
 use Rattle.std.specs.Cmp.{nat_cmp_total}
 use Rattle.link_change.proofs.MapLemmas.{all_entries, sum_none}
-use Rattle.addr4.specs.Prefixes.{Network}
+use Rattle.addr4.specs.Prefixes.{AddressPrefix}
 use Rattle.nexthop_resolver.specs.declared.rows.Metric.{Metric}
 use Rattle.nexthop_resolver.specs.Kept.{route_hop}
 use Rattle.nexthop_resolver.specs.Left.{is_busy, hop_lags}
@@ -32,14 +32,14 @@ first_such W E first none some (e ∷ es) all = ap (λ (b : Bool). cond b (Some 
     ∙ ap (λ (o : Option ℕ). cond (E e) (Some e.0) o) (first_such W E first none some es all.1) ∙ sym (some e es)
 
 -- whether an entry holds up a prefix, each of its peer
-abbrev lags_at : PeerRows → Network → ℕ × Resolving Metric → Bool
+abbrev lags_at : PeerRows → AddressPrefix → ℕ × Resolving Metric → Bool
 lags_at uppers p e = hop_lags same_metric e.1 p (option_map route_hop (uppers e.0 p))
 
-entries_lag : (uppers : PeerRows) (p : Network) (a : Resolvers) → AllByRecursion (λ e. hop_holds_up a e.0 p (option_map route_hop (uppers e.0 p)) ≡ lags_at uppers p e) (tables.entries a)
+entries_lag : (uppers : PeerRows) (p : AddressPrefix) (a : Resolvers) → AllByRecursion (λ e. hop_holds_up a e.0 p (option_map route_hop (uppers e.0 p)) ≡ lags_at uppers p e) (tables.entries a)
 entries_lag uppers p a = all_entries nat_cmp_total (λ k s. hop_holds_up a k p (option_map route_hop (uppers k p)) ≡ hop_lags same_metric s p (option_map route_hop (uppers k p))) a
     (λ k s at. ap (λ (o : Option (Resolving Metric)). lags_by o p (option_map route_hop (uppers k p))) at)
 
-pub first_that_lags : (uppers : PeerRows) (p : Network) (a : Resolvers) (es : Entries) → es ≡ tables.entries a
+pub first_that_lags : (uppers : PeerRows) (p : AddressPrefix) (a : Resolvers) (es : Entries) → es ≡ tables.entries a
     → first_lagging uppers p es ≡ find (λ k. hop_holds_up a k p (option_map route_hop (uppers k p))) (tables.keys a)
 first_that_lags uppers p a es is = ap (first_lagging uppers p) is
     ∙ sym (first_such (λ k. hop_holds_up a k p (option_map route_hop (uppers k p))) (lags_at uppers p) (first_lagging uppers p) refl (λ e es. refl) (tables.entries a) (entries_lag uppers p a))

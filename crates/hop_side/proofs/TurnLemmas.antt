@@ -2,7 +2,7 @@
 use Rattle.std.proofs.Common.{◌≡◌, ℕ, ◌+◌, ◌≤◌, Option, Some, None, refl, sym, ap, subst, ◌∙◌, arith}
 use Rattle.std.specs.Cmp.{nat_cmp_total}
 use Rattle.bgp_attr.specs.declared.route.Route.{Route}
-use Rattle.addr4.specs.Prefixes.{Network}
+use Rattle.addr4.specs.Prefixes.{AddressPrefix}
 use Rattle.link_change.specs.Rows.{Rows, Candidates}
 use Rattle.link_change.specs.Changes.{IsSent}
 use Rattle.link_change.specs.declared.change.Change.{Change}
@@ -33,7 +33,7 @@ module _ (candidates : Candidates) (upper : Rows Route) (was is : Registry Inter
   abbrev Turns : Option (Change Route) → Type 0
   Turns sent = Turned route_hop with_metric candidates upper metric_of was is s s' sent
 
-  turned_rows : (sent : Option (Change Route)) → Turns sent → (p : Network) × IsSent (metric_rows s upper) (metric_rows s' upper) p sent
+  turned_rows : (sent : Option (Change Route)) → Turns sent → (p : AddressPrefix) × IsSent (metric_rows s upper) (metric_rows s' upper) p sent
   turned_rows None t = (record { address = 0; length = 0 }, resolver.turn_leads route_hop with_metric candidates upper metric_of was is s s' turns.Quiet t)
   turned_rows (Some change) t = (change.prefix, resolver.turn_leads route_hop with_metric candidates upper metric_of was is s s' (turns.Sent change) t)
 

@@ -2,7 +2,7 @@
 use Rattle.std.specs.Prelude.{◌≡◌, ◌↔◌, ℕ, ◌+◌, ◌≤◌, true, false, List, length, Option, Some, None, IsSome, option_map}
 use Rattle.std.specs.List.{Contains}
 use Rattle.std.specs.FinMap as tables
-use Rattle.addr4.specs.Prefixes.{Network}
+use Rattle.addr4.specs.Prefixes.{AddressPrefix}
 use Rattle.rib_route.specs.declared.rows.Interior.{Interior}
 use Rattle.register_interest.specs.Registers.{Registry}
 use Rattle.nexthop_resolver.specs.declared.rows.Metric.{Metric}
@@ -45,13 +45,13 @@ StrangersAgree =
 -- There the row of `res.K` is the one that the register's answer makes of the row of `filt.K`.
 abbrev pub ExactUnlessHeldUp : Type 0
 ExactUnlessHeldUp =
-    (a : Resolvers) (uppers : PeerRows) (r : Registry Interior) (k : ℕ) (s : Resolving Metric) (p : Network) → IsHops a → AllAgree a r → AllCounted uppers a
+    (a : Resolvers) (uppers : PeerRows) (r : Registry Interior) (k : ℕ) (s : Resolving Metric) (p : AddressPrefix) → IsHops a → AllAgree a r → AllCounted uppers a
     → resolver_at k a ≡ Some s → hop_holds_up a k p (option_map route_hop (uppers k p)) ≡ false
     → metric_rows s (uppers k) p ≡ goes_on route_hop with_metric (λ (h : ℕ). Some (answer_of metric_of r h)) (uppers k p)
 
 -- A task without work holds up none,
 abbrev pub NoneHeldUpWithoutWork : Type 0
-NoneHeldUpWithoutWork = (a : Resolvers) (k : ℕ) (p : Network) (hop : Option ℕ) → has_hop_work a k ≡ false → hop_holds_up a k p hop ≡ false
+NoneHeldUpWithoutWork = (a : Resolvers) (k : ℕ) (p : AddressPrefix) (hop : Option ℕ) → has_hop_work a k ≡ false → hop_holds_up a k p hop ≡ false
 
 -- and one with work is a peer's.
 abbrev pub WorkIsListed : Type 0
@@ -65,16 +65,16 @@ NoneLeftWithoutWork = (a : Resolvers) (beyonds : Beyonds) → ((k : ℕ) → has
 -- and, whatever became stale, at most one for each known next hop and those of two whole walks for each peer.
 abbrev pub TurnsAreBounded : Type 0
 TurnsAreBounded =
-    (a : Resolvers) (beyonds : Beyonds) → ((k : ℕ) (place : Option Network) → beyonds k place ≤ beyonds k None) → left_in beyonds a ≤ known_in a + walks_in beyonds a
+    (a : Resolvers) (beyonds : Beyonds) → ((k : ℕ) (place : Option AddressPrefix) → beyonds k place ≤ beyonds k None) → left_in beyonds a ≤ known_in a + walks_in beyonds a
 
 -- Where no more candidates lie beyond any place than before, no more are left.
 abbrev pub LeftFollows : Type 0
 LeftFollows =
-    (a : Resolvers) (before now : Beyonds) → ((k : ℕ) (place : Option Network) → now k place ≤ before k place) → left_in now a ≤ left_in before a
+    (a : Resolvers) (before now : Beyonds) → ((k : ℕ) (place : Option AddressPrefix) → now k place ≤ before k place) → left_in now a ≤ left_in before a
 
 -- ---- how many next hops are known
 -- No more than the rows that name them: than the prefixes of a list that has the prefix of each row of `filt.K`.
 abbrev pub KnownAreFew : Type 0
 KnownAreFew =
-    (a : Resolvers) (uppers : PeerRows) (k : ℕ) (s : Resolving Metric) (prefixes : List Network) → IsHops a → AllCounted uppers a → resolver_at k a ≡ Some s
-    → ((q : Network) → IsSome (uppers k q) → Contains prefixes q) → known_of s ≤ length prefixes
+    (a : Resolvers) (uppers : PeerRows) (k : ℕ) (s : Resolving Metric) (prefixes : List AddressPrefix) → IsHops a → AllCounted uppers a → resolver_at k a ≡ Some s
+    → ((q : AddressPrefix) → IsSome (uppers k q) → Contains prefixes q) → known_of s ≤ length prefixes

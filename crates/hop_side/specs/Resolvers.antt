@@ -5,7 +5,7 @@ use Rattle.std.specs.List.{sum_by}
 use Rattle.std.specs.Ordering.{nat_cmp}
 use Rattle.std.specs.FinMap as tables
 use Rattle.std.specs.FinMap.{FinMap}
-use Rattle.addr4.specs.Prefixes.{Network}
+use Rattle.addr4.specs.Prefixes.{AddressPrefix}
 use Rattle.bgp_attr.specs.declared.route.Route.{Route}
 use Rattle.link_change.specs.Rows.{Rows, no_rows}
 use Rattle.rib_route.specs.declared.rows.Interior.{Interior}
@@ -93,12 +93,12 @@ abbrev pub busy_by : Option (Resolving Metric) → Bool
 busy_by None = false
 busy_by (Some s) = is_busy same_metric s
 
-abbrev pub lags_by : Option (Resolving Metric) → Network → Option ℕ → Bool
+abbrev pub lags_by : Option (Resolving Metric) → AddressPrefix → Option ℕ → Bool
 lags_by None q hop = false
 lags_by (Some s) q hop = hop_lags same_metric s q hop
 
 -- whether it holds up a prefix, where the row of `filt.K` there names this next hop, if it does
-abbrev pub hop_holds_up : Resolvers → ℕ → Network → Option ℕ → Bool
+abbrev pub hop_holds_up : Resolvers → ℕ → AddressPrefix → Option ℕ → Bool
 hop_holds_up a k = lags_by (resolver_at k a)
 
 -- whether the task of a peer's next hops has work
@@ -115,7 +115,7 @@ known_in a = sum_by known_of (tables.values a)
 
 -- how many candidates lie beyond a place of each `filt.K`, by the peer's number
 abbrev pub Beyonds : Type 0
-Beyonds = ℕ → Option Network → ℕ
+Beyonds = ℕ → Option AddressPrefix → ℕ
 
 abbrev pub left_of : Beyonds → Resolving Metric → ℕ
 left_of beyonds s = turns_left same_metric (beyonds s.client) s

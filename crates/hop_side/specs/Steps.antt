@@ -1,6 +1,6 @@
 -- What each call makes of the resolvers, and what it keeps.
 use Rattle.std.specs.Prelude.{◌≡◌, ℕ, ◌+◌, ◌≤◌, ◌==◌, false, is_some, List, [], ◌∷◌, Option, Some, None}
-use Rattle.addr4.specs.Prefixes.{Network}
+use Rattle.addr4.specs.Prefixes.{AddressPrefix}
 use Rattle.bgp_attr.specs.declared.route.Route.{Route}
 use Rattle.link_change.specs.Rows.{Rows, Candidates}
 use Rattle.link_change.specs.Changes.{IsSent}
@@ -35,12 +35,12 @@ abbrev pub LeadsRes : Links Value → List (Entry Value) → Links Value → Typ
 LeadsRes old entries new = (others : Links Value) → Leads (beside others old) entries (beside others new)
 
 -- a change, or none, comes on the link of peer k at a prefix; the rows of every other peer's link stay
-pub record ComesOn (k : ℕ) (p : Network) (sent : Option (Change Route)) (old new : PeerRows) : Type 0 where
+pub record ComesOn (k : ℕ) (p : AddressPrefix) (sent : Option (Change Route)) (old new : PeerRows) : Type 0 where
   pub here : IsSent (old k) (new k) p sent
   pub others : (j : ℕ) → (j == k) ≡ false → new j ≡ old j
 
 -- From these rows of all `filt.K` to those: a change, or none, came on `res.K` of peer k, the entries lead on, and the next hops are counted.
-pub record GoesOn (k : ℕ) (p : Network) (sent : Option (Change Route)) (a a' : Resolvers) (entries : List (Entry Value)) (uppers now : PeerRows) : Type 0 where
+pub record GoesOn (k : ℕ) (p : AddressPrefix) (sent : Option (Change Route)) (a a' : Resolvers) (entries : List (Entry Value)) (uppers now : PeerRows) : Type 0 where
   pub comes : ComesOn k p sent (res_at a uppers) (res_at a' now)
   pub leads : LeadsRes (hop_links a uppers) entries (hop_links a' now)
   pub counted : AllCounted now a'
@@ -55,7 +55,7 @@ begin_entries k = Begin (Res k) ∷ []
 
 -- the client of this number has no interest
 abbrev pub HasNoInterest : ℕ → Registry Interior → Type 0
-HasNoInterest k r = (s : Network) → interest_of k r s ≡ false
+HasNoInterest k r = (s : AddressPrefix) → interest_of k r s ≡ false
 
 -- the same peers have resolvers
 abbrev pub HaveSamePeers : Resolvers → Resolvers → Type 0
@@ -84,7 +84,7 @@ pub record KeepsAgreed (k : ℕ) (was is : Registry Interior) (a a' : Resolvers)
 pub record TakesBelow (k : ℕ) (change : Change Route) (sent : Option (Change Route)) (was is : Registry Interior) (a a' : Resolvers) (entries : List (Entry Value)) : Type 0 where
   pub takes : TakesHop k change sent was a a' entries
   pub agreed : KeepsAgreed k was is a a'
-  pub goes : (uppers now : PeerRows) (p : Network) → AllCounted uppers a → ComesOn k p (Some change) uppers now → GoesOn k p sent a a' entries uppers now
+  pub goes : (uppers now : PeerRows) (p : AddressPrefix) → AllCounted uppers a → ComesOn k p (Some change) uppers now → GoesOn k p sent a a' entries uppers now
 
 -- ---- what a turn makes
 -- The resolver of peer k takes a turn over these rows of `filt.K`; every other resolver stays.
@@ -100,7 +100,7 @@ pub record TurnsHop (k : ℕ) (candidates : Candidates) (upper : Rows Route) (se
 pub record TurnsBelow (k : ℕ) (candidates : Candidates) (upper : Rows Route) (sent : Option (Change Route)) (was is : Registry Interior) (a a' : Resolvers) (entries : List (Entry Value)) : Type 0 where
   pub turn : TurnsHop k candidates upper sent was is a a' entries
   pub agreed : KeepsAgreed k was is a a'
-  pub goes : (uppers : PeerRows) → uppers k ≡ upper → AllCounted uppers a → (p : Network) × GoesOn k p sent a a' entries uppers uppers
+  pub goes : (uppers : PeerRows) → uppers k ≡ upper → AllCounted uppers a → (p : AddressPrefix) × GoesOn k p sent a a' entries uppers uppers
   pub fewer : (beyonds : Beyonds) → CountsBeyond candidates (beyonds k) → left_in beyonds a' + 1 ≤ left_in beyonds a
   pub known : known_in a' ≡ known_in a
 

@@ -1,6 +1,6 @@
 -- A whole chain: the incoming filter below the stages whose links carry attributes.
 use Rattle.std.proofs.Common.{◌≡◌, ℕ, ◌==◌, ◌&&◌, ◌||◌, Bool, true, false, cond, List, [], ◌∷◌, ◌++◌, Option, Some, None, is_some, refl, sym, ap, subst, ◌∙◌}
-use Rattle.addr4.specs.Prefixes.{Network}
+use Rattle.addr4.specs.Prefixes.{AddressPrefix}
 use Rattle.bgp_attr.specs.declared.attrs.Attrs.{Attrs}
 use Rattle.bgp_attr.specs.declared.route.Route.{Route}
 use Rattle.link_change.specs.Rows.{Rows, with_rows}
@@ -105,7 +105,7 @@ as_chains old new entries same leads others =
     subst Q to (subst P (sym (beside_is others old)) (leads others))
 
 -- entries of the upper part, and then what the filter sends
-leads_on : (old new : Chained) (p : Network) (sent : Option (Change Route)) (entries : List (Entry Value)) → new.incoming.number ≡ old.incoming.number → LeadsIncoming old.incoming entries new.incoming
+leads_on : (old new : Chained) (p : AddressPrefix) (sent : Option (Change Route)) (entries : List (Entry Value)) → new.incoming.number ≡ old.incoming.number → LeadsIncoming old.incoming entries new.incoming
     → IsSent (filt_rows old) (filt_rows new) p sent → LeadsChain old (entries ++ filter_entries old.incoming.number sent) new
 leads_on old new p sent entries same leads is =
     as_chains old new (entries ++ filter_entries old.incoming.number sent) same (λ others.
@@ -121,7 +121,7 @@ leads_kept old new entries same leads is =
     subst P (sym is) (in_frame old.incoming new.incoming (Some (route_rows (filt_rows old))) entries same leads others))
 
 -- what the filter sends alone
-pub leads_walk : (old new : Chained) (p : Network) (sent : Option (Change Route)) → new.incoming ≡ old.incoming → IsSent (filt_rows old) (filt_rows new) p sent
+pub leads_walk : (old new : Chained) (p : AddressPrefix) (sent : Option (Change Route)) → new.incoming ≡ old.incoming → IsSent (filt_rows old) (filt_rows new) p sent
     → LeadsChain old (filter_entries old.incoming.number sent) new
 leads_walk old new p sent same is =
     let numbers : new.incoming.number ≡ old.incoming.number = ap (λ (i : Incoming). i.number) same in
@@ -136,7 +136,7 @@ filt_kept c t same = ap (passed_rows c.me c.peer c.filter) same
 -- ---- falls
 
 -- nothing comes into the filter
-pub falls_quietly : (old : Chained) (t : Tables Attrs) (p : Network) (way : List Link) (before now : Journaled) → lowest_rows t ≡ in_rows old.incoming
+pub falls_quietly : (old : Chained) (t : Tables Attrs) (p : AddressPrefix) (way : List Link) (before now : Journaled) → lowest_rows t ≡ in_rows old.incoming
     → Adds (FallsTables attrs_value (owners.Peer old.incoming.number) (old.incoming.tables) t p way None) before now → Adds (Falls old (with_tables old t) p (way ++ Filt old.incoming.number ∷ []) None) before now
 falls_quietly old t p way before now rows (entries, now_is, fall) = (
   entries,
@@ -145,7 +145,7 @@ falls_quietly old t p way before now rows (entries, now_is, fall) = (
 )
 
 -- a change comes into the filter
-pub falls_on : (old : Chained) (t : Tables Attrs) (p : Network) (way : List Link) (change : Change Attrs) (sent : Option (Change Route)) (before mid now : Journaled)
+pub falls_on : (old : Chained) (t : Tables Attrs) (p : AddressPrefix) (way : List Link) (change : Change Attrs) (sent : Option (Change Route)) (before mid now : Journaled)
     → Adds (FallsTables attrs_value (owners.Peer old.incoming.number) (old.incoming.tables) t p way (Some change)) before mid → IsSent (filt_rows old) (filt_rows (with_tables old t)) p sent → now ≡ with_entries mid (filter_entries old.incoming.number sent)
     → Adds (Falls old (with_tables old t) p (way ++ Filt old.incoming.number ∷ []) sent) before now
 falls_on old t p way change sent before mid now (entries, mid_is, fall) is now_is =

@@ -1,6 +1,6 @@
 -- How many turns a walk has left.
 use Rattle.std.proofs.Common.{◌≡◌, ℕ, ◌<◌, ◌≤◌, ◌+◌, ◌*◌, true, false, List, Option, Some, None, IsSome, is_some, refl, sym, subst, arith}
-use Rattle.addr4.specs.Prefixes.{Network}
+use Rattle.addr4.specs.Prefixes.{AddressPrefix}
 use Rattle.bgp_attr.specs.declared.attrs.Attrs.{Attrs}
 use Rattle.bgp_attr.specs.declared.speaker.Speaker.{Speaker}
 use Rattle.bgp_attr.specs.declared.speaker.Neighbour.{Neighbour}
@@ -14,15 +14,15 @@ use Rattle.loss_chain.proofs.BeyondLemmas.{listed_within, listed_fewer, listed_c
 use Rattle.in_chain.specs.Chains.{waiting_turns, walk_turns}
 use Rattle.in_chain.specs.Laws.{TurnsAreBounded, TurnsAreLeft, CandidatesAreCounted, FilteredRowsAreFew}
 
-within : (place : Option Network) (t : Tables Attrs) → tables_beyond place t ≤ tables_count t
+within : (place : Option AddressPrefix) (t : Tables Attrs) → tables_beyond place t ≤ tables_count t
 within place t = listed_within (tables_listed t).1 place
 
 -- the turn that ends a walk
-ended_turns : (t : Tables Attrs) (place : Option Network) (waiting : Option (List Rule)) → walk_turns t (walk_of_waiting waiting) < tables_beyond place t + 1 + waiting_turns (tables_count t) waiting
+ended_turns : (t : Tables Attrs) (place : Option AddressPrefix) (waiting : Option (List Rule)) → walk_turns t (walk_of_waiting waiting) < tables_beyond place t + 1 + waiting_turns (tables_count t) waiting
 ended_turns t place None = omega arith
 ended_turns t place (Some rules) = let all = within None t in omega (arith, all)
 
-pub fewer_turns : (t : Tables Attrs) (s new : Passed (List Rule)) (w : Walked (List Rule)) (next : Option Network) → s.walk ≡ Some w → new ≡ walked_on next s → IsNextCandidate (with_rows (lowest_rows t)) w.place next
+pub fewer_turns : (t : Tables Attrs) (s new : Passed (List Rule)) (w : Walked (List Rule)) (next : Option AddressPrefix) → s.walk ≡ Some w → new ≡ walked_on next s → IsNextCandidate (with_rows (lowest_rows t)) w.place next
     → walk_turns t new.walk < walk_turns t s.walk
 fewer_turns t s new w None on is least =
     let P : Passed (List Rule) → Type 0 = λ n. walk_turns t n.walk < walk_turns t s.walk in
@@ -57,7 +57,7 @@ pub candidates_are_counted : CandidatesAreCounted
 candidates_are_counted c = (listed_counts (tables_listed c.incoming.tables).1, within None c.incoming.tables)
 
 -- a row of `filt.K` stands where `in.K` has one
-judged_there : (me : Speaker) (peer : Neighbour) (rules : List Rule) (p : Network) (o : Option Attrs) → IsSome (filtered me peer rules p o) → IsSome o
+judged_there : (me : Speaker) (peer : Neighbour) (rules : List Rule) (p : AddressPrefix) (o : Option Attrs) → IsSome (filtered me peer rules p o) → IsSome o
 judged_there me peer rules p None there = there
 judged_there me peer rules p (Some a) there = refl
 

@@ -1,7 +1,7 @@
 -- What contracts see of a peer's chain: the stages whose links carry attributes, and below them the incoming filter.
 use Rattle.std.specs.Prelude.{ℕ, ◌+◌, ◌==◌, cond, Bool, false, is_some, List, Option, Some, None, refl}
 use Rattle.std.specs.Coded.{Coded, code_by, coded×}
-use Rattle.addr4.specs.Prefixes.{Network}
+use Rattle.addr4.specs.Prefixes.{AddressPrefix}
 use Rattle.bgp_attr.specs.declared.attrs.Attrs.{Attrs}
 use Rattle.bgp_attr.specs.declared.route.Route.{Route}
 use Rattle.bgp_attr.specs.declared.speaker.Speaker.{Speaker}
@@ -86,7 +86,7 @@ row_count c = tables_count c.incoming.tables
 -- ---- how many turns are left
 
 -- how many rows of `in.K` lie beyond a place
-abbrev pub filt_beyond : Chained → Option Network → ℕ
+abbrev pub filt_beyond : Chained → Option AddressPrefix → ℕ
 filt_beyond c place = tables_beyond place c.incoming.tables
 
 abbrev pub waiting_turns : ℕ → Option (List Rule) → ℕ

@@ -1,6 +1,6 @@
 -- What one change causes: messages at one prefix, down the links of the chain.
 use Rattle.std.specs.Prelude.{ℕ, List, [], ◌∷◌, ◌++◌, Option}
-use Rattle.addr4.specs.Prefixes.{Network}
+use Rattle.addr4.specs.Prefixes.{AddressPrefix}
 use Rattle.bgp_attr.specs.declared.route.Route.{Route}
 use Rattle.link_change.specs.declared.change.Change.{Change}
 use Rattle.journal_text.specs.declared.link.Link.{Link}
@@ -32,6 +32,6 @@ abbrev pub LeadsChain : Chained → List (Entry Value) → Chained → Type 0
 LeadsChain old entries new = (others : Links Value) → Leads (beside others old) entries (beside others new)
 
 -- a fall at a prefix down this way
-pub record Falls (old new : Chained) (p : Network) (way : List Link) (sent : Option (Change Route)) (entries : List (Entry Value)) : Type 0 where
+pub record Falls (old new : Chained) (p : AddressPrefix) (way : List Link) (sent : Option (Change Route)) (entries : List (Entry Value)) : Type 0 where
   pub leads : LeadsChain old entries new
   pub down : GoesDown p way sent entries

@@ -1,7 +1,7 @@
 -- Laws of chains, for the crates above.
 use Rattle.std.specs.Prelude.{◌≡◌, ◌+◌, ◌*◌, ◌<◌, ◌≤◌, is_some, IsSome, true, false, None, List, length}
 use Rattle.std.specs.List.{Contains}
-use Rattle.addr4.specs.Prefixes.{Network}
+use Rattle.addr4.specs.Prefixes.{AddressPrefix}
 use Rattle.pass_core.specs.Left.{CountsBeyond}
 use Rattle.in_chain.specs.Chains.{Chained, filt_rows, filt_candidates, filt_beyond, row_count, turns_left}
 
@@ -19,4 +19,4 @@ CandidatesAreCounted = (c : Chained) → CountsBeyond (filt_candidates c) (filt_
 
 -- The rows of `filt.K` stand at no more prefixes than `in.K` has rows.
 abbrev pub FilteredRowsAreFew : Type 0
-FilteredRowsAreFew = (c : Chained) → (prefixes : List Network) × (length prefixes ≤ row_count c) × ((q : Network) → IsSome (filt_rows c q) → Contains prefixes q)
+FilteredRowsAreFew = (c : Chained) → (prefixes : List AddressPrefix) × (length prefixes ≤ row_count c) × ((q : AddressPrefix) → IsSome (filt_rows c q) → Contains prefixes q)

@@ -2,7 +2,7 @@
 use Rattle.std.specs.Prelude.{◌≡◌, ℕ, ◌<◌, ◌==◌, ◌&&◌, Bool, false, is_some, List, [], Option, Some, None}
 use Rattle.std.specs.FinMap as tables
 use Rattle.std.specs.FinMap.{FinMap}
-use Rattle.addr4.specs.Prefixes.{Network, prefix_cmp}
+use Rattle.addr4.specs.Prefixes.{AddressPrefix, prefix_cmp}
 use Rattle.bgp_attr.specs.declared.attrs.Attrs.{Attrs}
 use Rattle.bgp_attr.specs.declared.route.Route.{Route}
 use Rattle.bgp_attr.specs.declared.speaker.Speaker.{Speaker}
@@ -39,7 +39,7 @@ new_chain me peer = record {
   filter = record { in_force = []; walk = None };
 }
 
-abbrev pub fed : Chained → Network → Option Attrs → Chained
+abbrev pub fed : Chained → AddressPrefix → Option Attrs → Chained
 fed c p row = with_tables c (fed_tables c.incoming.tables p row)
 
 -- a session is lost: its routes go to a stage of their own, if there are any
@@ -51,7 +51,7 @@ abbrev pub welded : Chained → Chained
 welded c = with_tables c (welded_tables c.incoming.tables)
 
 -- the row at a prefix leaves the lost table of a session
-abbrev pub swept : ℕ → Network → Chained → Chained
+abbrev pub swept : ℕ → AddressPrefix → Chained → Chained
 swept session p c = with_tables c (swept_tables session p c.incoming.tables)
 
 -- the filter has new rules, which hold nowhere yet
@@ -60,7 +60,7 @@ refiltered rules c = record c { filter = edited c.filter rules }
 
 -- A turn of the stage of a session: its least row goes, and the messages of that go down.
 pub record Sweeps (old new : Chained) (session : ℕ) (sent : Option (Change Route)) (entries : List (Entry Value)) : Type 0 where
-  pub prefix : Network
+  pub prefix : AddressPrefix
   pub row : Attrs
   pub table : FinMap prefix_cmp Attrs
   pub stands : table_of session old.incoming.tables.deletions ≡ Some table
@@ -89,7 +89,7 @@ has_turn c other = false
 
 -- whether a task of the chain holds up a prefix: the stage's table still has it, or the walk of the filter has yet to come to the row
 -- of `in.K` there
-abbrev pub chain_lags : Chained → Task → Network → Bool
+abbrev pub chain_lags : Chained → Task → AddressPrefix → Bool
 chain_lags c (Del k s) p = k == c.incoming.number && has_row (table_of s c.incoming.tables.deletions) p
 chain_lags c (Fin k) p = k == c.incoming.number && row_lags c.filter p (in_rows c.incoming p)
 chain_lags c other p = false

@@ -13,8 +13,8 @@ use Rattle.std.specs.FinMap.{FinMap, IsAntisymmetric, get, insert, empty, entrie
 use Rattle.std.proofs.lemmas.Map.{lookup-none}
 use Rattle.std.proofs.lemmas.Map.Entries.{none_past_head}
 use Rattle.std.proofs.lemmas.Map.Keys.{IsDistinct-from_sorted, sorted_tail}
-use Rattle.addr4.specs.Prefixes.{Network, same_prefix}
-use Rattle.addr4.proofs.HalfLemmas.{one_network}
+use Rattle.addr4.specs.Prefixes.{AddressPrefix, same_prefix}
+use Rattle.addr4.proofs.HalfLemmas.{one_address_prefix}
 use Rattle.link_change.proofs.MapLemmas.{find_at, entries_kept}
 
 -- the first of two, if there is one
@@ -61,16 +61,16 @@ module _ {K X : Type 0} {R : K → K → Ordering} where
     same_entries_of es fs g h same = sym (entries_kept total es g) ∙ (ap entries same ∙ entries_kept total fs h)
 
 -- what two maps of texts are compared by
-abbrev pub same_row : Network × List ℕ → Network × List ℕ → Bool
+abbrev pub same_row : AddressPrefix × List ℕ → AddressPrefix × List ℕ → Bool
 same_row e f = same_prefix e.0 f.0 && pointwise nat_eq e.1 f.1
 
-prefix_decides : (p q : Network) → Decides (same_prefix p q) (p ≡ q)
-prefix_decides p q = Decides-like (same_prefix p q) (λ h. one_network p q h.0 h.1) (λ e. (ap (λ (n : Network). n.address) e, ap (λ (n : Network). n.length) e))
+prefix_decides : (p q : AddressPrefix) → Decides (same_prefix p q) (p ≡ q)
+prefix_decides p q = Decides-like (same_prefix p q) (λ h. one_address_prefix p q h.0 h.1) (λ e. (ap (λ (n : AddressPrefix). n.address) e, ap (λ (n : AddressPrefix). n.length) e))
     (Decides-and (nat_eq p.address q.address) (nat_eq p.length q.length) (Decides-eqb p.address q.address) (Decides-eqb p.length q.length))
 
-row_decides : (e f : Network × List ℕ) → Decides (same_row e f) (e ≡ f)
-row_decides e f = Decides-like (same_row e f) (λ h. λ i. (h.0 i, h.1 i)) (λ x. (ap (λ (y : Network × List ℕ). y.0) x, ap (λ (y : Network × List ℕ). y.1) x))
+row_decides : (e f : AddressPrefix × List ℕ) → Decides (same_row e f) (e ≡ f)
+row_decides e f = Decides-like (same_row e f) (λ h. λ i. (h.0 i, h.1 i)) (λ x. (ap (λ (y : AddressPrefix × List ℕ). y.0) x, ap (λ (y : AddressPrefix × List ℕ). y.1) x))
     (Decides-and (same_prefix e.0 f.0) (pointwise nat_eq e.1 f.1) (prefix_decides e.0 f.0) (bytes_decides e.1 f.1))
 
-pub rows_decide : (es fs : List (Network × List ℕ)) → Decides (pointwise same_row es fs) (es ≡ fs)
+pub rows_decide : (es fs : List (AddressPrefix × List ℕ)) → Decides (pointwise same_row es fs) (es ≡ fs)
 rows_decide es fs = pointwise_decides row_decides es fs

@@ -8,7 +8,7 @@ use Rattle.std.specs.Str.{bytes_eq}
 use Rattle.std.specs.Str.Parse.{AllDigits}
 use Rattle.std.proofs.lemmas.Fmt.{decimal_is_IsNumeral}
 use Rattle.hex.specs.Hex.{encode_lower}
-use Rattle.addr4.specs.Prefixes.{Network}
+use Rattle.addr4.specs.Prefixes.{AddressPrefix}
 use Rattle.addr4.specs.Texts.{parts, prefix_text, addr_text, dotted}
 use Rattle.bgp_attr.specs.declared.path.SegmentKind.{SegmentKind}
 use Rattle.bgp_attr.specs.declared.path.SegmentKind.TheVariants.{Set, Sequence}
@@ -357,15 +357,15 @@ on_two : (c a b : List ℕ) (link other : Link) → link_of a ≡ Some link → 
 unfolding entry_of_three
 on_two c a b link other first second = ap (λ (o : Option Link). o >>= λ l. link_of b >>= λ m. entry_on_two c l m) first ∙ ap (λ (o : Option Link). o >>= λ m. entry_on_two c link m) second
 
-on_row : (c a b v : List ℕ) (link : Link) (p : Network) → link_of a ≡ Some link → printed_prefix b ≡ Some p → entry_of_four c a b v ≡ entry_on_row c link p v
+on_row : (c a b v : List ℕ) (link : Link) (p : AddressPrefix) → link_of a ≡ Some link → printed_prefix b ≡ Some p → entry_of_four c a b v ≡ entry_on_row c link p v
 unfolding entry_of_four
-on_row c a b v link p first second = ap (λ (o : Option Link). o >>= λ l. printed_prefix b >>= λ q. entry_on_row c l q v) first ∙ ap (λ (o : Option Network). o >>= λ q. entry_on_row c link q v) second
+on_row c a b v link p first second = ap (λ (o : Option Link). o >>= λ l. printed_prefix b >>= λ q. entry_on_row c l q v) first ∙ ap (λ (o : Option AddressPrefix). o >>= λ q. entry_on_row c link q v) second
 
-on_both : (a b v w old new : List ℕ) (link : Link) (p : Network) → link_of a ≡ Some link → printed_prefix b ≡ Some p → value_of v ≡ Some old → value_of w ≡ Some new → entry_of_five (codes "=") a b v w ≡ Some (Replace link p old new)
+on_both : (a b v w old new : List ℕ) (link : Link) (p : AddressPrefix) → link_of a ≡ Some link → printed_prefix b ≡ Some p → value_of v ≡ Some old → value_of w ≡ Some new → entry_of_five (codes "=") a b v w ≡ Some (Replace link p old new)
 unfolding entry_of_five
 on_both a b v w old new link p first second third fourth =
     ap (λ (o : Option Link). o >>= λ l. printed_prefix b >>= λ q. value_of v >>= λ x. value_of w >>= λ y. Some (Replace l q x y)) first
-    ∙ (ap (λ (o : Option Network). o >>= λ q. value_of v >>= λ x. value_of w >>= λ y. Some (Replace link q x y)) second
+    ∙ (ap (λ (o : Option AddressPrefix). o >>= λ q. value_of v >>= λ x. value_of w >>= λ y. Some (Replace link q x y)) second
     ∙ (ap (λ (o : Option (List ℕ)). o >>= λ x. value_of w >>= λ y. Some (Replace link p x y)) third
     ∙ ap (λ (o : Option (List ℕ)). o >>= λ y. Some (Replace link p old y)) fourth))
 
@@ -425,7 +425,7 @@ has_skipped first others word skipped inked = record {
   reads = ap (λ b. cond b Skipped (read_or_not (entry_from (first ∷ others)))) skipped;
 }
 
-row_ink : (link : Link) (p : Network) (value : Value) → IsNamed link × IsPrefix p × IsValue value → AllByRecursion AreInk (link_text link ∷ prefix_text p ∷ value_text value ∷ [])
+row_ink : (link : Link) (p : AddressPrefix) (value : Value) → IsNamed link × IsPrefix p × IsValue value → AllByRecursion AreInk (link_text link ∷ prefix_text p ∷ value_text value ∷ [])
 row_ink link p value h = (link_ink link h.0, (ink_prefix p h.1, (value_ink value h.2, tt)))
 
 links_ink : (link other : Link) → IsNamed link × IsNamed other → AllByRecursion AreInk (link_text link ∷ link_text other ∷ [])
@@ -446,7 +446,7 @@ entry_has (Asked link p row) h =
 entry_has (Weld upper lower) h = has_entry (codes "w") (link_text upper ∷ link_text lower ∷ []) (Weld upper lower) refl refl (links_ink upper lower h) (entry_back (Weld upper lower) h)
 entry_has (End link) h = has_entry (codes "e") (link_text link ∷ []) (End link) refl refl (link_ink link h, tt) (entry_back (End link) h)
 
-match_ink : (found : Option Network) → IsMatch found → AreInk (match_text found)
+match_ink : (found : Option AddressPrefix) → IsMatch found → AreInk (match_text found)
 match_ink None h = ink_by (codes "-") refl
 match_ink (Some p) h = ink_prefix p h
 

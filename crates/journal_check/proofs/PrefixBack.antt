@@ -10,8 +10,8 @@ use Rattle.std.specs.Str.Parse.{digits_value}
 use Rattle.std.proofs.lemmas.Fmt.{decimal_is_IsNumeral, first_decimal, decimal_digit}
 use Rattle.std.proofs.lemmas.Slice.Eq.{bytes_eq-Decides}
 use Rattle.addr4.specs.Blocks.{masked_to}
-use Rattle.addr4.specs.Prefixes.{Network}
-use Rattle.addr4.specs.Texts.{is_numeral, value_below, number_below, parts, addr_from_octets, addr_from_parts, addr_of, dotted, addr_text, network_of, prefix_from_parts, prefix_of, prefix_text}
+use Rattle.addr4.specs.Prefixes.{AddressPrefix}
+use Rattle.addr4.specs.Texts.{is_numeral, value_below, number_below, parts, addr_from_octets, addr_from_parts, addr_of, dotted, addr_text, address_prefix_of, prefix_from_parts, prefix_of, prefix_text}
 use Rattle.addr4.proofs.NumberLemmas.{value_small}
 use Rattle.journal_check.specs.Laws.{IsPrefix}
 use Rattle.journal_check.specs.Readings.{◌>>=◌, as_printed, printed_prefix}
@@ -114,27 +114,27 @@ slashless a = dotted_are (λ c. nat_eq c 47 ≡ false) not_slash refl (to_be_byt
 pub slashless_length : (n : ℕ) → n ≤ 32 → AllByRecursion (λ c. nat_eq c 47 ≡ false) (decimal n)
 slashless_length n small = decimal_are (λ c. nat_eq c 47 ≡ false) not_slash n (omega arith)
 
-pub ink_prefix : (p : Network) → IsPrefix p → AreInk (prefix_text p)
+pub ink_prefix : (p : AddressPrefix) → IsPrefix p → AreInk (prefix_text p)
 unfolding prefix_text
 ink_prefix p h =
     let short = h.0.0 in
     all_append IsInk (addr_text p.address) (47 ∷ decimal p.length) (ink_addr p.address) ((omega arith, omega arith), ink_decimal p.length (omega arith))
 
-masked_itself : (p : Network) → IsPrefix p → masked_to 32 p.address p.length ≡ p.address
+masked_itself : (p : AddressPrefix) → IsPrefix p → masked_to 32 p.address p.length ≡ p.address
 masked_itself p h = let rest = h.0.1 in omega arith
 
-prefix_back : (p : Network) → IsPrefix p → prefix_of 32 (prefix_text p) ≡ Some p
+prefix_back : (p : AddressPrefix) → IsPrefix p → prefix_of 32 (prefix_text p) ≡ Some p
 unfolding prefix_of prefix_text
 prefix_back p h =
     let short = h.0.0 in
     ap (prefix_from_parts 32) (apart_then 47 (addr_text p.address) (decimal p.length) refl (slashless p.address) ∙ ap (λ ps. addr_text p.address ∷ ps) (apart_alone 47 (decimal p.length) (slashless_length p.length short)))
-    ∙ ((λ i. network_of 32 (addr_back p.address h.1 i) (number_back 33 p.length (omega arith) (omega arith) i))
+    ∙ ((λ i. address_prefix_of 32 (addr_back p.address h.1 i) (number_back 33 p.length (omega arith) (omega arith) i))
     ∙ ap (λ (a : ℕ). Some (record { address = a; length = p.length })) (masked_itself p h))
 
-as_itself : (p : Network) → as_printed (prefix_text p) p ≡ Some p
+as_itself : (p : AddressPrefix) → as_printed (prefix_text p) p ≡ Some p
 unfolding as_printed
 as_itself p = ap (λ b. cond b (Some p) None) ((bytes_eq-Decides (prefix_text p) (prefix_text p)).1 refl)
 
-pub printed_back : (p : Network) → IsPrefix p → printed_prefix (prefix_text p) ≡ Some p
+pub printed_back : (p : AddressPrefix) → IsPrefix p → printed_prefix (prefix_text p) ≡ Some p
 unfolding printed_prefix
-printed_back p h = ap (λ (o : Option Network). o >>= λ q. as_printed (prefix_text p) q) (prefix_back p h) ∙ as_itself p
+printed_back p h = ap (λ (o : Option AddressPrefix). o >>= λ q. as_printed (prefix_text p) q) (prefix_back p h) ∙ as_itself p

@@ -14,8 +14,8 @@ use Rattle.std.specs.List.{list_all, join_with_byte}
 use Rattle.std.specs.Str.{bytes_eq}
 use Rattle.std.specs.Str.Parse.{AllDigits, digits_value}
 use Rattle.addr4.specs.Blocks.{masked_to}
-use Rattle.addr4.specs.Prefixes.{Network}
-use Rattle.addr4.specs.Texts.{is_numeral, value_below, number_below, parts, addr_from_octets, addr_from_parts, addr_of, dotted, addr_text, network_of, prefix_from_parts, prefix_of, prefix_text}
+use Rattle.addr4.specs.Prefixes.{AddressPrefix}
+use Rattle.addr4.specs.Texts.{is_numeral, value_below, number_below, parts, addr_from_octets, addr_from_parts, addr_of, dotted, addr_text, address_prefix_of, prefix_from_parts, prefix_of, prefix_text}
 use Rattle.addr4.proofs.NumberLemmas.{and_left, and_right, digits_of_numeral}
 use Rattle.journal_check.specs.Readings.{◌>>=◌, as_printed, printed_prefix}
 use Rattle.journal_check.proofs.InkLemmas.{apart_then, apart_alone}
@@ -108,7 +108,7 @@ address_text text a e = by_parts (parts 46 text) refl e
 
 -- ---- prefixes
 
-abbrev pub masked : ℕ → ℕ → Network
+abbrev pub masked : ℕ → ℕ → AddressPrefix
 masked a n = record { address = masked_to 32 a n; length = n }
 
 -- the word spells this address and this length
@@ -126,7 +126,7 @@ spelled_word word a n s =
 
 read_so : (word : List ℕ) (a n : ℕ) → Spells word a n → printed_prefix word ≡ as_printed word (masked a n)
 unfolding printed_prefix prefix_of
-read_so word a n s = ap (λ (o : Option Network). o >>= λ q. as_printed word q) (ap (prefix_from_parts 32) s.parted ∙ (λ i. network_of 32 (s.is_address i) (s.is_length i)))
+read_so word a n s = ap (λ (o : Option AddressPrefix). o >>= λ q. as_printed word q) (ap (prefix_from_parts 32) s.parted ∙ (λ i. address_prefix_of 32 (s.is_address i) (s.is_length i)))
 
 pub printed_where_masked : (word : List ℕ) (a n : ℕ) → Spells word a n → masked_to 32 a n ≡ a → printed_prefix word ≡ Some (masked a n)
 unfolding as_printed prefix_text

@@ -7,7 +7,7 @@ use Rattle.std.specs.declared.cmp.Ordering.{Ordering}
 use Rattle.std.specs.declared.cmp.Ordering.TheVariants.{Less, Equal, Greater}
 use Rattle.std.specs.FinMap as map
 use Rattle.std.specs.FinMap.{get-insert, get-remove, get-empty}
-use Rattle.addr4.specs.Prefixes.{Network}
+use Rattle.addr4.specs.Prefixes.{AddressPrefix}
 use Rattle.link_change.specs.Rows.{Rows, no_rows, with_row}
 use Rattle.link_change.proofs.RowLemmas.{same_function, empty_rows}
 use Rattle.journal_text.specs.Links.{same_link, kind_of, owner_of, number_of}
@@ -63,7 +63,7 @@ pub inherited_none : (m n : LinkMap) (link from : Link) → map.get m (key_of fr
 inherited_none m n link from none is = ap links_of is ∙ (links_taken m link ∙ ap (with_link (links_of m) link) (sym (ap (option_map map.get) none)))
 
 -- a row of a link that is live is set, or taken out
-pub row_set : (m n : LinkMap) (link : Link) (rows now : RowMap) (p : Network) (row : Option (List ℕ)) → Some rows ≡ map.get m (key_of link) → map.get now ≡ with_row (map.get rows) p row → n ≡ map.insert m (key_of link) now
+pub row_set : (m n : LinkMap) (link : Link) (rows now : RowMap) (p : AddressPrefix) (row : Option (List ℕ)) → Some rows ≡ map.get m (key_of link) → map.get now ≡ with_row (map.get rows) p row → n ≡ map.insert m (key_of link) now
     → links_of n ≡ with_row_on (links_of m) link p row
 row_set m n link rows now p row has set put =
     ap links_of put ∙ (links_put m link now
@@ -77,7 +77,7 @@ not_live links link q none = by_same (same_link q link) refl
     by_same false is = refl
 
 -- a link that isn't live has no row
-pub row_unset : (m n : LinkMap) (link : Link) (p : Network) (row : Option (List ℕ)) → n ≡ m → map.get m (key_of link) ≡ None → links_of n ≡ with_row_on (links_of m) link p row
+pub row_unset : (m n : LinkMap) (link : Link) (p : AddressPrefix) (row : Option (List ℕ)) → n ≡ m → map.get m (key_of link) ≡ None → links_of n ≡ with_row_on (links_of m) link p row
 row_unset m n link p row same none =
     let gone : links_of m link ≡ None = ap (option_map map.get) none in
     ap links_of same ∙ (same_function _ _ (λ (q : Link). not_live (links_of m) link q gone)

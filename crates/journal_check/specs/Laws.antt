@@ -1,7 +1,7 @@
 -- Laws of the judge: printed lines are read back, and there is one answer.
 use Rattle.std.specs.Prelude.{◌≡◌, ℕ, ◌^◌, ◌<◌, ◌≤◌, true, List, [], ◌∷◌, ◌++◌, length, Option, Some, None, option_map}
 use Rattle.std.specs.List.{AllByRecursion}
-use Rattle.addr4.specs.Prefixes.{Network, IsMasked}
+use Rattle.addr4.specs.Prefixes.{AddressPrefix, IsMasked}
 use Rattle.bgp_attr.specs.declared.path.Segment.{Segment}
 use Rattle.bgp_attr.specs.declared.attrs.Aggregator.{Aggregator}
 use Rattle.bgp_attr.specs.declared.unrecognized.Unrecognized.{Unrecognized}
@@ -26,7 +26,7 @@ use Rattle.journal_check.specs.declared.reading.Reading.TheVariants.{Skipped, Re
 -- ---- values that the program can have: numbers and octets in their ranges
 
 -- an address below 2^32, masked to a length of at most 32 bits
-abbrev pub IsPrefix : Network → Type 0
+abbrev pub IsPrefix : AddressPrefix → Type 0
 IsPrefix p = IsMasked 32 p × (p.address < 2 ^ 32)
 
 abbrev pub AreOctets : List ℕ → Type 0
@@ -83,7 +83,7 @@ IsEntry (Asked link p row) = IsNamed link × IsPrefix p × IsAnswer row
 IsEntry (Weld upper lower) = IsNamed upper × IsNamed lower
 IsEntry (End link) = IsNamed link
 
-abbrev pub IsMatch : Option Network → Type 0
+abbrev pub IsMatch : Option AddressPrefix → Type 0
 IsMatch None = Unit {0}
 IsMatch (Some p) = IsPrefix p
 

@@ -4,7 +4,7 @@ use Rattle.std.specs.Coded.{Coded, code_by, coded×, coded_ℕ, coded_list}
 use Rattle.std.specs.declared.cmp.Ordering.{Ordering}
 use Rattle.std.specs.Ordering.{nat_cmp, ordering_then}
 use Rattle.std.specs.FinMap as map
-use Rattle.addr4.specs.Prefixes.{prefix_cmp, network_code}
+use Rattle.addr4.specs.Prefixes.{prefix_cmp, address_prefix_code}
 use Rattle.journal_text.specs.Links.{kind_of, owner_of, number_of}
 use Rattle.journal_text.specs.Walk.{Links}
 use Rattle.journal_text.specs.declared.link.Link.{Link}
@@ -15,7 +15,7 @@ abbrev pub RowMap : Type 0
 RowMap = map.FinMap prefix_cmp (List ℕ)
 
 abbrev pub row_map_code : Coded RowMap
-row_map_code = map.code network_code (coded_list coded_ℕ)
+row_map_code = map.code address_prefix_code (coded_list coded_ℕ)
 
 -- a link as a key
 abbrev pub key_of : Link → Key

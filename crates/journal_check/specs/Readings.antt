@@ -2,7 +2,7 @@
 use Rattle.std.specs.Prelude.{ℕ, Bool, ◌&&◌, ◌||◌, ◌==◌, nat_le, if◌then◌else◌, List, [], ◌∷◌, length, Option, Some, None, option_map, codes}
 use Rattle.std.specs.Str.{bytes_eq}
 use Rattle.std.specs.List.{list_all}
-use Rattle.addr4.specs.Prefixes.{Network}
+use Rattle.addr4.specs.Prefixes.{AddressPrefix}
 use Rattle.addr4.specs.Texts.{parts, prefix_of, prefix_text}
 use Rattle.journal_text.specs.Names.{link_of}
 use Rattle.journal_text.specs.declared.link.Link.{Link}
@@ -25,11 +25,11 @@ unfoldable pub is_clean : List ℕ → Bool
 is_clean line = nat_le (length line) 65536 && list_all (λ b. nat_le 32 b && nat_le b 126) line
 
 -- the prefix, if this is how it is printed
-unfoldable pub as_printed : List ℕ → Network → Option Network
+unfoldable pub as_printed : List ℕ → AddressPrefix → Option AddressPrefix
 as_printed word p = if bytes_eq word (prefix_text p) then Some p else None
 
 -- the prefix of a word that is exactly as it is printed
-unfoldable pub printed_prefix : List ℕ → Option Network
+unfoldable pub printed_prefix : List ℕ → Option AddressPrefix
 printed_prefix word = prefix_of 32 word >>= λ p. as_printed word p
 
 -- a value: any word but `-`
@@ -62,7 +62,7 @@ entry_of_three c a b = do
   entry_on_two c link other
 
 -- what is said of a row
-unfoldable pub entry_on_row : List ℕ → Link → Network → List ℕ → Option TextEntry
+unfoldable pub entry_on_row : List ℕ → Link → AddressPrefix → List ℕ → Option TextEntry
 entry_on_row c link p v =
     if bytes_eq c (codes "+") then option_map (λ new. Add link p new) (value_of v)
     else if bytes_eq c (codes "-") then option_map (λ old. Delete link p old) (value_of v)
@@ -77,7 +77,7 @@ entry_of_four c a b v = do
   entry_on_row c link p v
 
 -- what is said of a row that takes another's place
-abbrev pub entry_on_both : Link → Network → List ℕ → List ℕ → Option TextEntry
+abbrev pub entry_on_both : Link → AddressPrefix → List ℕ → List ℕ → Option TextEntry
 entry_on_both link p v w = do
   old ← value_of v
   new ← value_of w

@@ -2,7 +2,7 @@
 use Rattle.std.proofs.Common.{◌≡◌, ℕ, Bool, true, false, cond, List, [], ◌∷◌, Option, Some, None, IfSome, option_map, refl, sym, ap, subst, ◌∙◌, inl, inr, arith}
 use Rattle.std.specs.Ordering.{eq_by_cmp}
 use Rattle.std.specs.List.{AllByRecursion}
-use Rattle.addr4.specs.Prefixes.{Network, prefix_cmp}
+use Rattle.addr4.specs.Prefixes.{AddressPrefix, prefix_cmp}
 use Rattle.addr4.proofs.PrefixOrder.{itself}
 use Rattle.bgp_attr.specs.declared.speaker.Neighbour.{Neighbour}
 use Rattle.link_change.specs.Rows.{Rows, with_row}
@@ -22,13 +22,13 @@ use Rattle.journal_laws.specs.Laws.{AreEachOnce, HasPrintable, FallsArePrinted, 
 
 -- ---- single entries
 
-add_printed : (peers : ℕ → Option Neighbour) (link : Link) (p : Network) (new : Value) → IsNamed link → IsPrefix p → IsPrintable peers new → IsPrinted peers (Journal (Add link p new))
+add_printed : (peers : ℕ → Option Neighbour) (link : Link) (p : AddressPrefix) (new : Value) → IsNamed link → IsPrefix p → IsPrintable peers new → IsPrinted peers (Journal (Add link p new))
 add_printed peers link p new named prefix is = record { short = record { ranges = (named, prefix, is.well_told.ranges); values = (is.short, tt); octets = omega arith }; told = (is.well_told.told, tt) }
 
-delete_printed : (peers : ℕ → Option Neighbour) (link : Link) (p : Network) (old : Value) → IsNamed link → IsPrefix p → IsPrintable peers old → IsPrinted peers (Journal (Delete link p old))
+delete_printed : (peers : ℕ → Option Neighbour) (link : Link) (p : AddressPrefix) (old : Value) → IsNamed link → IsPrefix p → IsPrintable peers old → IsPrinted peers (Journal (Delete link p old))
 delete_printed peers link p old named prefix was = record { short = record { ranges = (named, prefix, was.well_told.ranges); values = (was.short, tt); octets = omega arith }; told = (was.well_told.told, tt) }
 
-replace_printed : (peers : ℕ → Option Neighbour) (link : Link) (p : Network) (old new : Value) → IsNamed link → IsPrefix p → IsPrintable peers old → IsPrintable peers new → IsPrinted peers (Journal (Replace link p old new))
+replace_printed : (peers : ℕ → Option Neighbour) (link : Link) (p : AddressPrefix) (old new : Value) → IsNamed link → IsPrefix p → IsPrintable peers old → IsPrintable peers new → IsPrinted peers (Journal (Replace link p old new))
 replace_printed peers link p old new named prefix was is = record {
   short = record { ranges = (named, prefix, was.well_told.ranges, is.well_told.ranges); values = (was.short, (is.short, tt)); octets = omega arith };
   told = (was.well_told.told, (is.well_told.told, tt));
@@ -43,27 +43,27 @@ changes_printed peers link p (Some old) (Some new) named prefix was is = (replac
 -- ---- a way
 
 -- changes at the prefix, on these links from the first on
-abbrev IsDown : Network → List Link → List (Entry Value) → Type 0
+abbrev IsDown : AddressPrefix → List Link → List (Entry Value) → Type 0
 IsDown p way [] = Unit {0}
 IsDown p [] (e ∷ es) = ⊥
 IsDown p (link ∷ way) (e ∷ es) = IsChangeOn link p e × IsDown p way es
 
-whole_down : (p : Network) (way : List Link) (es : List (Entry Value)) → IsWhole p way es → IsDown p way es
+whole_down : (p : AddressPrefix) (way : List Link) (es : List (Entry Value)) → IsWhole p way es → IsDown p way es
 whole_down p way [] down = tt
 whole_down p [] (e ∷ es) down = absurd down
 whole_down p (link ∷ way) (e ∷ es) down = (down.0, whole_down p way es down.1)
 
-cut_down : (p : Network) (way : List Link) (es : List (Entry Value)) → IsCut p way es → IsDown p way es
+cut_down : (p : AddressPrefix) (way : List Link) (es : List (Entry Value)) → IsCut p way es → IsDown p way es
 cut_down p way [] down = tt
 cut_down p [] (e ∷ es) down = absurd down
 cut_down p (link ∷ way) (e ∷ es) down = (down.0, cut_down p way es down.1)
 
 -- ---- other links stay
 
-set_other : (links : Links Value) (link j k : Link) (q : Network) (row : Option Value) → j ≡ k → same_link link k ≡ false → with_row_on links j q row link ≡ links link
+set_other : (links : Links Value) (link j k : Link) (q : AddressPrefix) (row : Option Value) → j ≡ k → same_link link k ≡ false → with_row_on links j q row link ≡ links link
 set_other links link j k q row is apart = ap (λ (b : Bool). cond b (option_map (λ (rows : Rows Value). with_row rows q row) (links j)) (links link)) (ap (same_link link) is ∙ apart)
 
-others_stay : (link : Link) (p : Network) (way : List Link) (es : List (Entry Value)) (links : Links Value) → IsDown p way es → AllByRecursion (λ k. same_link link k ≡ false) way → fold_links links es link ≡ links link
+others_stay : (link : Link) (p : AddressPrefix) (way : List Link) (es : List (Entry Value)) (links : Links Value) → IsDown p way es → AllByRecursion (λ k. same_link link k ≡ false) way → fold_links links es link ≡ links link
 others_stay link p way [] links down apart = refl
 others_stay link p [] (e ∷ es) links down apart = absurd down
 others_stay link p (k ∷ way) (Add j q new ∷ es) links down apart = others_stay link p way es (with_row_on links j q (Some new)) down.1 apart.1 ∙ set_other links link j k q (Some new) down.0.0 apart.0
@@ -73,9 +73,9 @@ others_stay link p (k ∷ way) (e ∷ es) links down apart = absurd down.0
 
 -- ---- the rows at the prefix
 
-module _ (peers : ℕ → Option Neighbour) (p : Network) where
+module _ (peers : ℕ → Option Neighbour) (p : AddressPrefix) where
   -- a row is set that can be printed, or none
-  set_printable : (links : Links Value) (j : Link) (q : Network) (row : Option Value) → HasPrintable peers p links → IfSome row (IsPrintable peers) → HasPrintable peers p (with_row_on links j q row)
+  set_printable : (links : Links Value) (j : Link) (q : AddressPrefix) (row : Option Value) → HasPrintable peers p links → IfSome row (IsPrintable peers) → HasPrintable peers p (with_row_on links j q row)
   set_printable links j q row has new link rows value at is = by_link (same_link link j) at
     where
       by_row : (b : Bool) (was : Option Value) → (was ≡ Some value → IsPrintable peers value) → cond b row was ≡ Some value → IsPrintable peers value
@@ -93,7 +93,7 @@ module _ (peers : ℕ → Option Neighbour) (p : Network) where
       by_link false at = has link rows value at is
 
   -- the row that was set on a link stands there at the end
-  new_stands : (links : Links Value) (j k : Link) (q : Network) (new : Value) (row : Option Value) (way : List Link) (es : List (Entry Value)) → HasRow links j q row → j ≡ k → q ≡ p → IsDown p way es → AllByRecursion (λ l. same_link k l ≡ false) way
+  new_stands : (links : Links Value) (j k : Link) (q : AddressPrefix) (new : Value) (row : Option Value) (way : List Link) (es : List (Entry Value)) → HasRow links j q row → j ≡ k → q ≡ p → IsDown p way es → AllByRecursion (λ l. same_link k l ≡ false) way
       → HasPrintable peers p (fold_links (with_row_on links j q (Some new)) es) → IsPrintable peers new
   new_stands links j k q new row way es has on at down apart then =
       let here : with_row_on links j q (Some new) j ≡ Some (with_row has.0 q (Some new)) =
@@ -101,7 +101,7 @@ module _ (peers : ℕ → Option Neighbour) (p : Network) where
       let stays = others_stay j p way es (with_row_on links j q (Some new)) down (subst (λ (x : Link). AllByRecursion (λ l. same_link x l ≡ false) way) (sym on) apart) in
       then j (with_row has.0 q (Some new)) new (stays ∙ here) (ap (λ (b : Bool). cond b (Some new) (has.0 p)) (ap (eq_by_cmp prefix_cmp p) at ∙ itself p))
 
-  old_stood : (links : Links Value) (j : Link) (q : Network) (old : Value) → HasRow links j q (Some old) → q ≡ p → HasPrintable peers p links → IsPrintable peers old
+  old_stood : (links : Links Value) (j : Link) (q : AddressPrefix) (old : Value) → HasRow links j q (Some old) → q ≡ p → HasPrintable peers p links → IsPrintable peers old
   old_stood links j q old has at before = before j has.0 old has.1 (ap has.0 (sym at) ∙ has.2)
 
   each_printed : (way : List Link) (es : List (Entry Value)) (links : Links Value) → IsPrefix p → AreEachOnce way → IsDown p way es → IsLawful links es → HasPrintable peers p links → HasPrintable peers p (fold_links links es)

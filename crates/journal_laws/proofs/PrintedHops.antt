@@ -5,7 +5,7 @@ use Rattle.std.specs.Ordering.{nat_cmp, eq_by_cmp}
 use Rattle.std.specs.Cmp.{nat_cmp_total}
 use Rattle.std.specs.FinMap as tables
 use Rattle.std.specs.FinMap.{get-insert}
-use Rattle.addr4.specs.Prefixes.{Network}
+use Rattle.addr4.specs.Prefixes.{AddressPrefix}
 use Rattle.bgp_attr.specs.declared.route.Route.{Route}
 use Rattle.bgp_attr.specs.declared.speaker.Neighbour.{Neighbour}
 use Rattle.link_change.specs.Rows.{Rows, Candidates}
@@ -42,14 +42,14 @@ module _ {A : Type 0} (Is : A → Type 0) where
   by_hop f (Some h) x each is = let same : f h ≡ x = cc in subst Is same (each h refl)
 
   -- those that hold at a prefix
-  pub answers_fit : (known : Hops A) (walk : Option (Option Network)) (p : Network) → AreAnswers Is known → (a : ℕ) (x : A) → function_of (in_force_by known) (walk_to (fresh_by known) walk) p a ≡ Some x → Is x
+  pub answers_fit : (known : Hops A) (walk : Option (Option AddressPrefix)) (p : AddressPrefix) → AreAnswers Is known → (a : ℕ) (x : A) → function_of (in_force_by known) (walk_to (fresh_by known) walk) p a ≡ Some x → Is x
   answers_fit known None p each a x is = by_hop (λ h. h.in_force) (tables.get known a) x (λ h at. (each a h at).0) is
   answers_fit known (Some place) p each a x is =
       by_bool (is_beyond place p) (λ b. cond b (in_force_by known) (fresh_by known) a ≡ Some x → Is x)
       (λ _ e. by_hop (λ h. h.in_force) (tables.get known a) x (λ h at. (each a h at).0) e) (λ _ e. by_hop (λ h. h.fresh) (tables.get known a) x (λ h at. (each a h at).1) e) is
 
   -- those that stay known, and those that came
-  pub answers_kept : (kept : Option (Network × Interior) → A) (r : Registry Interior) (old new : Resolving A) → ((a : ℕ) → Is (answer_of kept r a)) → Keeps (told_of kept r) old new
+  pub answers_kept : (kept : Option (AddressPrefix × Interior) → A) (r : Registry Interior) (old new : Resolving A) → ((a : ℕ) → Is (answer_of kept r a)) → Keeps (told_of kept r) old new
       → AreAnswers Is old.known → AreAnswers Is new.known
   answers_kept kept r old new fit keeps each a h at = elim (keeps.hops a h at) as (λ _. Is h.in_force × Is h.fresh) [
     | inl was ↦ each a h was
@@ -63,11 +63,11 @@ module _ {A : Type 0} (Is : A → Type 0) where
       by_old None was e = absurd (cc)
       by_old (Some g) was e = let same : f g ≡ h = cc in subst (λ (x : Hop A). Is x.in_force × Is x.fresh) same (keeps g (each a g was))
 
-  walked : (walk : Option (Option Network)) (old new : Hops A) → KnownAfter walk old new → AreAnswers Is old → AreAnswers Is new
+  walked : (walk : Option (Option AddressPrefix)) (old new : Hops A) → KnownAfter walk old new → AreAnswers Is old → AreAnswers Is new
   walked None old new after each = answers_mapped settled (λ h x. (x.1, x.1)) old new after each
   walked (Some place) old new after each = subst (AreAnswers Is) (sym after) each
 
-  asked : (old new : Hops A) (hop : ℕ) (s : Network) (answer : A) → Is answer → new ≡ tables.insert old hop (renewed s answer (tables.get old hop)) → AreAnswers Is old → AreAnswers Is new
+  asked : (old new : Hops A) (hop : ℕ) (s : AddressPrefix) (answer : A) → Is answer → new ≡ tables.insert old hop (renewed s answer (tables.get old hop)) → AreAnswers Is old → AreAnswers Is new
   asked old new hop s answer fit is each a h at =
       by_bool (eq_by_cmp nat_cmp a hop) (λ b. cond b (Some (renewed s answer (tables.get old hop))) (tables.get old a) ≡ Some h → Is h.in_force × Is h.fresh)
       (λ _ e. let same : renewed s answer (tables.get old hop) ≡ h = cc in subst (λ (x : Hop A). Is x.in_force × Is x.fresh) same (by_old (tables.get old hop) refl, fit)) (λ _ e. each a h e)
@@ -77,7 +77,7 @@ module _ {A : Type 0} (Is : A → Type 0) where
       by_old None was = fit
       by_old (Some g) was = (each hop g was).0
 
-  pub answers_turned : {R L : Type 0} (hop : R → ℕ) (made : R → A → Option L) (kept : Option (Network × Interior) → A) (candidates : Candidates) (upper : Rows R) (was is : Registry Interior) (old new : Resolving A) (sent : Option (Change L))
+  pub answers_turned : {R L : Type 0} (hop : R → ℕ) (made : R → A → Option L) (kept : Option (AddressPrefix × Interior) → A) (candidates : Candidates) (upper : Rows R) (was is : Registry Interior) (old new : Resolving A) (sent : Option (Change L))
       → ((a : ℕ) → Is (answer_of kept was a)) → Turned hop made candidates upper kept was is old new sent → AreAnswers Is old.known → AreAnswers Is new.known
   answers_turned hop made kept candidates upper was is old new sent fit (inl goes) each = walked new.walk old.known new.known goes.steps.known each
   answers_turned hop made kept candidates upper was is old new sent fit (inr (inl asks)) each = asked old.known new.known asks.next_hop asks.renews.0 (answer_of kept was asks.next_hop) (fit asks.next_hop) asks.renews.1 each
@@ -102,7 +102,7 @@ module _ (peers : ℕ → Option Neighbour) where
         short = h.short;
       })
 
-  goes_prints : (p : Network) (answers : ℕ → Option Metric) → ((a : ℕ) (x : Metric) → answers a ≡ Some x → IsNumberIfAny x.igp) → (o : Option Route) (row : Route) → ((r : Route) → o ≡ Some r → IsPrefix p × IsPrintable peers (route_value r))
+  goes_prints : (p : AddressPrefix) (answers : ℕ → Option Metric) → ((a : ℕ) (x : Metric) → answers a ≡ Some x → IsNumberIfAny x.igp) → (o : Option Route) (row : Route) → ((r : Route) → o ≡ Some r → IsPrefix p × IsPrintable peers (route_value r))
       → goes_on route_hop with_metric answers o ≡ Some row → IsPrefix p × IsPrintable peers (route_value row)
   goes_prints p answers fit None row each is = absurd (cc)
   goes_prints p answers fit (Some r) row each is = by_answer (answers (route_hop r)) refl is
@@ -120,11 +120,11 @@ module _ (peers : ℕ → Option Neighbour) where
   rows_print (Some s) upper metrics before p row is = res_prints s upper (metrics s refl) before p row is
 
   -- ---- the register's answers
-  pub present_fit : {A : Type 0} (Is : A → Type 0) (kept : Option (Network × Interior) → A) (r : Registry Interior) (rows : Rows Interior)
-      → Is (kept None) → ((q : Network) (row : Interior) → IsPrintable peers (interior_value row) → Is (kept (Some (q, row)))) → tables.get r.rows ≡ rows → Prints peers interior_value rows → (a : ℕ) → Is (answer_of kept r a)
+  pub present_fit : {A : Type 0} (Is : A → Type 0) (kept : Option (AddressPrefix × Interior) → A) (r : Registry Interior) (rows : Rows Interior)
+      → Is (kept None) → ((q : AddressPrefix) (row : Interior) → IsPrintable peers (interior_value row) → Is (kept (Some (q, row)))) → tables.get r.rows ≡ rows → Prints peers interior_value rows → (a : ℕ) → Is (answer_of kept r a)
   present_fit Is kept r rows none some same prints a = subst (λ (x : Rows Interior). Is (kept (longest width x a))) (sym same) (by_found (longest width rows a) (longest_is width rows a))
     where
-      by_found : (o : Option (Network × Interior)) → IsLongest width rows a o → Is (kept o)
+      by_found : (o : Option (AddressPrefix × Interior)) → IsLongest width rows a o → Is (kept o)
       by_found None is = none
       by_found (Some x) is = some x.0 x.1 (prints x.0 x.1 is.2).1
 

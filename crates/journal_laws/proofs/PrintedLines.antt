@@ -1,7 +1,7 @@
 -- Lines that can be printed, beside those of falls.
 use Rattle.std.proofs.Common.{◌≡◌, ℕ, ◌≤◌, List, [], ◌∷◌, map, length, Option, Some, None, refl, sym, subst, arith}
 use Rattle.std.specs.List.{AllByRecursion}
-use Rattle.addr4.specs.Prefixes.{Network}
+use Rattle.addr4.specs.Prefixes.{AddressPrefix}
 use Rattle.bgp_attr.specs.declared.speaker.Neighbour.{Neighbour}
 use Rattle.link_change.specs.Rows.{Rows}
 use Rattle.journal_text.specs.Names.{IsNamed, IsNameNumber}
@@ -29,8 +29,8 @@ module _ (peers : ℕ → Option Neighbour) where
   note_printed k octets named each few = record { short = record { ranges = (named.1, each); values = tt; octets = few }; told = tt }
 
   -- rows, and answers of lookups
-  module _ (link : Link) (rows : Rows Value) (named : IsNamed link) (prints : (p : Network) (v : Value) → rows p ≡ Some v → IsPrefix p × IsPrintable peers v) where
-    pub answer_printed : (p : Network) → IsPrefix p → IsPrinted peers (lines.Journal (entries.Asked link p (rows p)))
+  module _ (link : Link) (rows : Rows Value) (named : IsNamed link) (prints : (p : AddressPrefix) (v : Value) → rows p ≡ Some v → IsPrefix p × IsPrintable peers v) where
+    pub answer_printed : (p : AddressPrefix) → IsPrefix p → IsPrinted peers (lines.Journal (entries.Asked link p (rows p)))
     answer_printed p prefix = by_row (rows p) refl
       where
         by_row : (o : Option Value) → rows p ≡ o → IsPrinted peers (lines.Journal (entries.Asked link p o))
@@ -39,7 +39,7 @@ module _ (peers : ℕ → Option Neighbour) where
             let own = (prints p v is).1 in
             record { short = record { ranges = (named, prefix, own.well_told.ranges); values = (own.short, tt); octets = omega arith }; told = (own.well_told.told, tt) }
 
-    pub rows_printed : (listed : List (Network × Value)) → AllByRecursion (λ r. rows r.0 ≡ Some r.1) listed → AllByRecursion (IsPrinted peers) (map (λ r. lines.Row link r.0 r.1) listed)
+    pub rows_printed : (listed : List (AddressPrefix × Value)) → AllByRecursion (λ r. rows r.0 ≡ Some r.1) listed → AllByRecursion (IsPrinted peers) (map (λ r. lines.Row link r.0 r.1) listed)
     rows_printed [] each = tt
     rows_printed (r ∷ rs) each =
         let own = prints r.0 r.1 each.0 in

@@ -3,7 +3,7 @@ use Rattle.std.proofs.Common.{◌≡◌, ℕ, ◌^◌, ◌<◌, ◌==◌, Bool, 
 use Rattle.std.specs.Prelude.{filter}
 use Rattle.std.specs.List.{AllByRecursion}
 use Rattle.std.specs.FinMap.{FinMap}
-use Rattle.addr4.specs.Prefixes.{Network, prefix_cmp}
+use Rattle.addr4.specs.Prefixes.{AddressPrefix, prefix_cmp}
 use Rattle.bgp_attr.specs.declared.attrs.Attrs.{Attrs}
 use Rattle.bgp_attr.specs.declared.speaker.Neighbour.{Neighbour}
 use Rattle.bgp_attr.specs.declared.speaker.Profile.{Profile}
@@ -45,7 +45,7 @@ use Rattle.journal_laws.proofs.ReadAttrs.{read_printable}
 
 -- ---- tables
 -- of such rows, and the losses rise
-pub record AreFit {R : Type 0} (Is : Network → R → Type 0) (t : Tables R) : Type 0 where
+pub record AreFit {R : Type 0} (Is : AddressPrefix → R → Type 0) (t : Tables R) : Type 0 where
   pub printable : AreTablesOf Is t
   pub rising : AreRising t.deletions
 
@@ -64,27 +64,27 @@ module _ {R : Type 0} where
     | false ↦ rising_filtered test ds rising.1
   ]
 
-  rising_fed : (ds : List (Lost R)) (p : Network) (row : Option R) → AreRising ds → AreRising (deletions_after ds p row)
+  rising_fed : (ds : List (Lost R)) (p : AddressPrefix) (row : Option R) → AreRising ds → AreRising (deletions_after ds p row)
   rising_fed ds p None rising = rising
   rising_fed ds p (Some row) rising = rising_mapped (without p) (λ d. refl) ds rising
 
-module _ {R : Type 0} (Is : Network → R → Type 0) where
+module _ {R : Type 0} (Is : AddressPrefix → R → Type 0) where
   pub none_printable : AreTablesOf Is no_tables
   none_printable = record { rows = λ p row is. absurd (no_row_at_first p row is); losses = tt }
 
-  pub fed_fit : (t : Tables R) (p : Network) (row : Option R) → AreFit Is t → IfSome row (Is p) → AreFit Is (fed_tables t p row)
+  pub fed_fit : (t : Tables R) (p : AddressPrefix) (row : Option R) → AreFit Is t → IfSome row (Is p) → AreFit Is (fed_tables t p row)
   fed_fit t p row fit new = record {
     printable = record {
       rows = λ q r is. elim (feeds_bring_one_row t p row q r is) as (λ _. Is q r) [
         | inl old ↦ fit.printable.rows q r old
-        | inr fed ↦ subst (λ (x : Network). Is x r) (sym fed.0) (subst (λ (o : Option R). IfSome o (Is p)) fed.1 new)
+        | inr fed ↦ subst (λ (x : AddressPrefix). Is x r) (sym fed.0) (subst (λ (o : Option R). IfSome o (Is p)) fed.1 new)
       ];
       losses = numbers_fed IsNameNumber t.deletions p row fit.printable.losses;
     };
     rising = rising_fed t.deletions p row fit.rising;
   }
 
-  pub swept_fit : (number : ℕ) (p : Network) (t : Tables R) → AreFit Is t → AreFit Is (swept_tables number p t)
+  pub swept_fit : (number : ℕ) (p : AddressPrefix) (t : Tables R) → AreFit Is t → AreFit Is (swept_tables number p t)
   swept_fit number p t fit = record {
     printable = record { rows = λ q r is. fit.printable.rows q r (turns_bring_no_row number p t q r is); losses = numbers_swept IsNameNumber number p t.deletions fit.printable.losses };
     rising = rising_mapped (swept_one number p) (swept_number number p) t.deletions fit.rising;
@@ -101,7 +101,7 @@ module _ {R : Type 0} (Is : Network → R → Type 0) where
 
 -- ---- rules
 module _ (as4 : Bool) where
-  rules_stepped : (walk : Option (Walked (List Rule))) (p : Network) → AreRulesOfWalk as4 walk → AreRulesOfWalk as4 (walk_stepped walk p)
+  rules_stepped : (walk : Option (Walked (List Rule))) (p : AddressPrefix) → AreRulesOfWalk as4 walk → AreRulesOfWalk as4 (walk_stepped walk p)
   rules_stepped None p are = tt
   rules_stepped (Some w) p are = are
 
@@ -113,7 +113,7 @@ module _ (as4 : Bool) where
   rules_edited None rules are new = (new, tt)
   rules_edited (Some w) rules are new = (are.0, new)
 
-  rules_at : (in_force : List Rule) (walk : Option (Walked (List Rule))) (p : Network) → AreRules as4 in_force → AreRulesOfWalk as4 walk → AreRules as4 (function_of in_force walk p)
+  rules_at : (in_force : List Rule) (walk : Option (Walked (List Rule))) (p : AddressPrefix) → AreRules as4 in_force → AreRulesOfWalk as4 walk → AreRules as4 (function_of in_force walk p)
   rules_at in_force None p are on = are
   rules_at in_force (Some w) p are on = elim (is_beyond w.place p) as (λ (b : Bool). AreRules as4 (cond b in_force w.next)) [ true ↦ are | false ↦ on.0 ]
 
@@ -121,7 +121,7 @@ finished_printable : (profile : Profile) (c : Chained) (walk : Option (Walked (L
 finished_printable profile c None h are = record { tables = h.tables; in_force = h.in_force; walk = tt }
 finished_printable profile c (Some w) h are = record { tables = h.tables; in_force = are.0; walk = rules_waiting profile.as4 w.waiting are.1 }
 
-pub walked_printable : (profile : Profile) (c : Chained) (next : Option Network) → IsPrintableChain profile c → IsPrintableChain profile (record c { filter = walked_on next c.filter })
+pub walked_printable : (profile : Profile) (c : Chained) (next : Option AddressPrefix) → IsPrintableChain profile c → IsPrintableChain profile (record c { filter = walked_on next c.filter })
 walked_printable profile c None h = finished_printable profile c c.filter.walk h h.walk
 walked_printable profile c (Some p) h = record { tables = h.tables; in_force = h.in_force; walk = rules_stepped profile.as4 c.filter.walk p h.walk }
 
@@ -131,11 +131,11 @@ edited_printable profile c rules h new = record { tables = h.tables; in_force = 
 -- ---- links
 -- each of these rows can be printed at its prefix
 abbrev pub Prints : (ℕ → Option Neighbour) → {R : Type 0} → (R → Value) → Rows R → Type 0
-Prints peers {R} value rows = (p : Network) (row : R) → rows p ≡ Some row → IsPrefix p × IsPrintable peers (value row)
+Prints peers {R} value rows = (p : AddressPrefix) (row : R) → rows p ≡ Some row → IsPrefix p × IsPrintable peers (value row)
 
 -- and each row of a link, if it is live
 abbrev pub PrintsIfAny : (ℕ → Option Neighbour) → Option (Rows Value) → Type 0
-PrintsIfAny peers of = (rows : Rows Value) (p : Network) (v : Value) → of ≡ Some rows → rows p ≡ Some v → IsPrefix p × IsPrintable peers v
+PrintsIfAny peers of = (rows : Rows Value) (p : AddressPrefix) (v : Value) → of ≡ Some rows → rows p ≡ Some v → IsPrefix p × IsPrintable peers v
 
 module _ (peers : ℕ → Option Neighbour) where
   none_prints : PrintsIfAny peers None
@@ -150,18 +150,18 @@ module _ (peers : ℕ → Option Neighbour) where
         by_row (Some row) at is = let same : value row ≡ v = cc in subst (λ (x : Value). IsPrefix p × IsPrintable peers x) same (prints p row at)
 
     -- rows of which each can be printed
-    module _ (Is : Network → R → Type 0) (shown : (p : Network) (row : R) → Is p row → IsPrefix p × IsPrintable peers (value row)) where
+    module _ (Is : AddressPrefix → R → Type 0) (shown : (p : AddressPrefix) (row : R) → Is p row → IsPrefix p × IsPrintable peers (value row)) where
       tables_print : (t : Tables R) → AreTablesOf Is t → Prints peers value (lowest_rows t)
       tables_print t h p row is = shown p row (h.rows p row (lowest_rows_are_rows t p row is))
 
-      above_prints : (live : FinMap prefix_cmp R) (n : ℕ) (ds : List (Lost R)) → ((p : Network) (row : R) → IsRow (record { live = live; deletions = ds }) p row → Is p row) → PrintsIfAny peers (option_map (valued value) (rows_above live n ds))
+      above_prints : (live : FinMap prefix_cmp R) (n : ℕ) (ds : List (Lost R)) → ((p : AddressPrefix) (row : R) → IsRow (record { live = live; deletions = ds }) p row → Is p row) → PrintsIfAny peers (option_map (valued value) (rows_above live n ds))
       above_prints live n [] each = none_prints
       above_prints live n (d ∷ ds) each = elim (d.number == n) as (λ (b : Bool). PrintsIfAny peers (option_map (valued value) (cond b (Some (lowest_rows (record { live = live; deletions = ds }))) (rows_above live n ds)))) [
         | true ↦ live_prints (lowest_rows (record { live = live; deletions = ds })) (λ p row is. shown p row (higher p row (lowest_rows_are_rows (record { live = live; deletions = ds }) p row is)))
         | false ↦ above_prints live n ds higher
       ]
         where
-          higher : (p : Network) (row : R) → IsRow (record { live = live; deletions = ds }) p row → Is p row
+          higher : (p : AddressPrefix) (row : R) → IsRow (record { live = live; deletions = ds }) p row → Is p row
           higher p row (inl own) = each p row (inl own)
           higher p row (inr lost) = each p row (inr (inr lost))
 
@@ -171,7 +171,7 @@ module _ (peers : ℕ → Option Neighbour) where
 
   -- ---- a chain
   module _ (profile : Profile) where
-    heard_prints : (external : Bool) (p : Network) (a : Attrs) → IsHeardRow profile external p a → IsPrefix p × IsPrintable peers (attrs_value a)
+    heard_prints : (external : Bool) (p : AddressPrefix) (a : Attrs) → IsHeardRow profile external p a → IsPrefix p × IsPrintable peers (attrs_value a)
     heard_prints external p a h = (h.0, read_printable peers profile external h.1.0 h.1.1 a h.1.2 h.1.3 h.1.4)
 
     -- whose peer is known, and which can be printed
@@ -235,7 +235,7 @@ module _ (peers : ℕ → Option Neighbour) where
 
   -- ---- the tree
   module _ (t : Treed) (each : (proto : Proto) → AreTablesOf IsInteriorRow (branch_of proto t).tables) where
-    interior_prints : (p : Network) (row : Interior) → IsInteriorRow p row → IsPrefix p × IsPrintable peers (interior_value row)
+    interior_prints : (p : AddressPrefix) (row : Interior) → IsInteriorRow p row → IsPrefix p × IsPrintable peers (interior_value row)
     interior_prints p row h = (h.prefix, h.printed peers)
 
     org_prints : (proto : Proto) → Prints peers interior_value (org_rows (branch_of proto t))

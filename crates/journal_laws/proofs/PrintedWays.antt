@@ -3,7 +3,7 @@ use Rattle.std.proofs.Common.{◌≡◌, ◌⊎◌, ℕ, ◌+◌, ◌<◌, ◌�
 use Rattle.std.specs.List.{AllByRecursion}
 use Rattle.std.specs.FinMap as tables
 use Rattle.std.specs.FinMap.{FinMap}
-use Rattle.addr4.specs.Prefixes.{Network, prefix_cmp}
+use Rattle.addr4.specs.Prefixes.{AddressPrefix, prefix_cmp}
 use Rattle.addr4.proofs.PrefixOrder.{itself}
 use Rattle.bgp_attr.specs.declared.attrs.Attrs.{Attrs}
 use Rattle.bgp_attr.specs.declared.route.Route.{Route}
@@ -135,11 +135,11 @@ route_once proto way is =
     subst AreEachOnce (append_assoc way (merge_below proto ∷ []) (Int ∷ []))
     (each_once 0 ((way ++ merge_below proto ∷ []) ++ Int ∷ []) (way_pushed 1 0 (way ++ merge_below proto ∷ []) Int (way_pushed 2 1 way (merge_below proto) is (omega (arith, at)) (omega (arith, at)) (merge_at proto).1) (omega arith) (omega arith) tt))
 
-pub down_of : {R : Type 0} (p : Network) (way : List Link) (sent : Option (Change R)) (es : List (Entry Value)) → GoesDown p way sent es → IsWhole p way es ⊎ IsCut p way es
+pub down_of : {R : Type 0} (p : AddressPrefix) (way : List Link) (sent : Option (Change R)) (es : List (Entry Value)) → GoesDown p way sent es → IsWhole p way es ⊎ IsCut p way es
 down_of p way None es down = inr down
 down_of p way (Some change) es down = inl down.1
 
-pub table_row : {R : Type 0} (n : ℕ) (ds : List (Lost R)) (t : FinMap prefix_cmp R) (p : Network) (row : R) → table_of n ds ≡ Some t → tables.get t p ≡ Some row → IsLostRow ds p row
+pub table_row : {R : Type 0} (n : ℕ) (ds : List (Lost R)) (t : FinMap prefix_cmp R) (p : AddressPrefix) (row : R) → table_of n ds ≡ Some t → tables.get t p ≡ Some row → IsLostRow ds p row
 table_row n [] t p row there is = absurd (cc)
 table_row {R} n (d ∷ ds) t p row there is = elim (d.number == n) as (λ (b : Bool). cond b (Some d.rows) (table_of n ds) ≡ Some t → IsLostRow (d ∷ ds) p row) [
   | true ↦ λ here. let same : d.rows ≡ t = cc in inl (subst (λ (x : FinMap prefix_cmp R). tables.get x p ≡ Some row) (sym same) is)
@@ -173,20 +173,20 @@ module _ (peers : ℕ → Option Neighbour) where
 
   -- what a stage sends
   module _ {R : Type 0} (value : R → Value) where
-    abbrev PrintsAt : Network → R → Type 0
+    abbrev PrintsAt : AddressPrefix → R → Type 0
     PrintsAt p row = IsPrefix p × IsPrintable peers (value row)
 
-    row_prints : (rows : Rows R) (p : Network) (o : Option R) → Prints peers value rows → rows p ≡ o → IfSome o (PrintsAt p)
+    row_prints : (rows : Rows R) (p : AddressPrefix) (o : Option R) → Prints peers value rows → rows p ≡ o → IfSome o (PrintsAt p)
     row_prints rows p None prints at = tt
     row_prints rows p (Some row) prints at = prints p row at
 
-    change_printed : (link : Link) (p : Network) (a b : Option R) → IsNamed link → IfSome a (PrintsAt p) → IfSome b (PrintsAt p) → ArePrintedEntries (change_entries link p (option_map value a) (option_map value b))
+    change_printed : (link : Link) (p : AddressPrefix) (a b : Option R) → IsNamed link → IfSome a (PrintsAt p) → IfSome b (PrintsAt p) → ArePrintedEntries (change_entries link p (option_map value a) (option_map value b))
     change_printed link p None None named x y = tt
     change_printed link p None (Some b) named x y = changes_printed peers link p None (Some (value b)) named y.0 tt y.1
     change_printed link p (Some a) None named x y = changes_printed peers link p (Some (value a)) None named x.0 x.1 tt
     change_printed link p (Some a) (Some b) named x y = changes_printed peers link p (Some (value a)) (Some (value b)) named x.0 x.1 y.1
 
-    pub sent_printed : (link : Link) (old new : Rows R) (p : Network) (sent : Option (Change R)) → IsNamed link → Prints peers value old → Prints peers value new → IsSent old new p sent → ArePrintedEntries (sent_entries value link sent)
+    pub sent_printed : (link : Link) (old new : Rows R) (p : AddressPrefix) (sent : Option (Change R)) → IsNamed link → Prints peers value old → Prints peers value new → IsSent old new p sent → ArePrintedEntries (sent_entries value link sent)
     sent_printed link old new p None named before then is = tt
     sent_printed link old new p (Some change) named before then is =
         let q = change.prefix in
@@ -196,7 +196,7 @@ module _ (peers : ℕ → Option Neighbour) where
   module _ (profile : Profile) where
     -- ---- the chain of a peer
     -- the rows of a peer
-    abbrev pub Heard : Chained → Network → Attrs → Type 0
+    abbrev pub Heard : Chained → AddressPrefix → Attrs → Type 0
     Heard c = IsHeardRow profile (not c.peer.internal)
 
     pub with_fit : (c : Chained) (t : Tables Attrs) → IsFit peers profile c → AreFit (Heard c) t → IsFit peers profile (with_tables c t)
@@ -223,7 +223,7 @@ module _ (peers : ℕ → Option Neighbour) where
       sweep_once s = peer_once c.incoming.number (way_from (owners.Peer c.incoming.number) s (In c.incoming.number) c.incoming.tables.deletions) fit.named
           (from_way (owners.Peer c.incoming.number) (λ n named. (fit.named, named)) s (In c.incoming.number) c.incoming.tables.deletions fit.named (above_in c.incoming.tables.deletions fit.printable.tables.losses) fit.rising fit.printable.tables.losses)
 
-      pub chain_fall : (c' : Chained) (p : Network) (way : List Link) (sent : Option (Change Route)) (fall : List (Entry Value)) → IsFit peers profile c' → IsPrefix p → AreEachOnce way → Falls c c' p way sent fall → ArePrintedEntries fall
+      pub chain_fall : (c' : Chained) (p : AddressPrefix) (way : List Link) (sent : Option (Change Route)) (fall : List (Entry Value)) → IsFit peers profile c' → IsPrefix p → AreEachOnce way → Falls c c' p way sent fall → ArePrintedEntries fall
       chain_fall c' p way sent fall fit' prefix once falls =
           falls_printed peers p way fall (beside no_links c) (beside no_links c') prefix once (down_of p way sent fall falls.down) (falls.leads no_links)
           (λ link rows v at is. (beside_prints peers profile c fit link rows p v at is).1) (λ link rows v at is. (beside_prints peers profile c' fit' link rows p v at is).1)
@@ -243,7 +243,7 @@ module _ (peers : ℕ → Option Neighbour) where
           let changes : IsSentAt next (filt_rows c) (filt_rows less) sent = subst (λ (x : Chained). IsSentAt next (filt_rows c) (filt_rows x) sent) (sym w.after) w.walks.changes in
           (less_fit, subst ArePrintedEntries (sym w.lines) (by_next next (filt_rows less) (filt_prints peers profile less less_fit) changes))
         where
-          by_next : (next : Option Network) (new : Rows Route) → Prints peers route_value new → IsSentAt next (filt_rows c) new sent → ArePrintedEntries (sent_entries route_value (Filt c.incoming.number) sent)
+          by_next : (next : Option AddressPrefix) (new : Rows Route) → Prints peers route_value new → IsSentAt next (filt_rows c) new sent → ArePrintedEntries (sent_entries route_value (Filt c.incoming.number) sent)
           by_next None new then is = subst (λ (s : Option (Change Route)). ArePrintedEntries (sent_entries route_value (Filt c.incoming.number) s)) (sym is.0) tt
           by_next (Some p) new then is = sent_printed route_value (Filt c.incoming.number) (filt_rows c) new p sent fit.named (filt_prints peers profile c fit) then is
       turned_fit other less sent fall t = absurd t

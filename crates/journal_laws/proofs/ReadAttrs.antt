@@ -1,7 +1,7 @@
 -- Attributes that a peer said can be printed.
 use Rattle.std.proofs.Common.{◌≡◌, ℕ, ◌^◌, ◌<◌, Bool, true, false, List, [], ◌∷◌, Option, Some, None, refl, sym, subst, ◌∙◌, inl, inr, arith}
 use Rattle.std.specs.List.{AllByRecursion}
-use Rattle.addr4.specs.Prefixes.{Network}
+use Rattle.addr4.specs.Prefixes.{AddressPrefix}
 use Rattle.bgp_attr.specs.declared.attrs.Aggregator.{Aggregator}
 use Rattle.bgp_attr.specs.declared.attrs.Attrs.{Attrs}
 use Rattle.bgp_attr.specs.declared.path.Segment.{Segment}
@@ -110,7 +110,7 @@ attrs_printable p external bytes r is octets a are =
     let shorter = attributes_no_longer p external is.attributes is.steps is.runs a is.are f.attributes kept readable (omega (arith, whole, top)) in
     printable_by p external a readable (unrecognized_ranges p external is.attributes is.steps is.runs a is.are f.attributes kept) (p.as4, omega (arith, shorter, whole, top))
 
-by_prefixes : (p : Profile) (external : Bool) (bytes : List ℕ) (r : Reading) (is : IsReading p external bytes r) → Octets bytes → (ns : List Network) (attrs : Option Attrs) (a : Attrs) → AreAttrsFor p external r.kept ns attrs → attrs ≡ Some a → ArePrintable a
+by_prefixes : (p : Profile) (external : Bool) (bytes : List ℕ) (r : Reading) (is : IsReading p external bytes r) → Octets bytes → (ns : List AddressPrefix) (attrs : Option Attrs) (a : Attrs) → AreAttrsFor p external r.kept ns attrs → attrs ≡ Some a → ArePrintable a
 by_prefixes p external bytes r is octets [] attrs a are e = absurd (not_some a (sym are ∙ e))
 by_prefixes p external bytes r is octets (n ∷ ns) None a are e = absurd are
 by_prefixes p external bytes r is octets (n ∷ ns) (Some b) a are e = subst ArePrintable (some_same b a e) (attrs_printable p external bytes r is octets b are)

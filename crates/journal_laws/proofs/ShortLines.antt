@@ -5,7 +5,7 @@ use Rattle.std.specs.Fmt.{decimal}
 use Rattle.std.proofs.lemmas.List.{length-append}
 use Rattle.hex.specs.Hex.{encode_lower, lower_digits}
 use Rattle.hex.proofs.HexLemmas.{length-encode_with}
-use Rattle.addr4.specs.Prefixes.{Network}
+use Rattle.addr4.specs.Prefixes.{AddressPrefix}
 use Rattle.addr4.specs.Texts.{addr_text, prefix_text}
 use Rattle.bgp_attr.specs.declared.attrs.Attrs.{Attrs}
 use Rattle.bgp_attr.specs.declared.route.Route.{Route}
@@ -109,7 +109,7 @@ answer_short (Some value) h short = value_short value h short.0
 -- ---- lines
 
 -- a line of a link, a prefix and a value
-row_line : (word : List ℕ) (link : Link) (p : Network) (text : List ℕ) → length word ≤ 4 → IsNamed link → IsPrefix p → length text ≤ 24631 → length (words_line (word ∷ link_text link ∷ prefix_text p ∷ text ∷ [])) ≤ 65537
+row_line : (word : List ℕ) (link : Link) (p : AddressPrefix) (text : List ℕ) → length word ≤ 4 → IsNamed link → IsPrefix p → length text ≤ 24631 → length (words_line (word ∷ link_text link ∷ prefix_text p ∷ text ∷ [])) ≤ 65537
 row_line word link p text few named prefix short =
     let words = word ∷ link_text link ∷ prefix_text p ∷ text ∷ [] in
     omega (arith, short_link link named, short_prefix p prefix, joined 32 words, length-append (join_with_byte 32 words) (10 ∷ []))
@@ -153,7 +153,7 @@ entry_line (Asked link p row) h short = row_line (codes "?") link p (answer_text
 entry_line (Weld upper lower) h short = links_line (codes "w") upper lower (omega arith) h.0 h.1
 entry_line (End link) h short = link_line (codes "e") link (omega arith) h
 
-short_match : (found : Option Network) → IsMatch found → length (match_text found) ≤ 19
+short_match : (found : Option AddressPrefix) → IsMatch found → length (match_text found) ≤ 19
 short_match None h = omega arith
 short_match (Some p) h = short_prefix p h
 
@@ -162,7 +162,7 @@ short_code E1 = omega arith
 short_code other = omega arith
 
 -- the words of whether a prefix is settled
-settled_short : (p : Network) (held : Option Task) → IsPrefix p → IsNamedIfAny held → length (words_line (codes "settled" ∷ prefix_text p ∷ held_words held)) ≤ 65537
+settled_short : (p : AddressPrefix) (held : Option Task) → IsPrefix p → IsNamedIfAny held → length (words_line (codes "settled" ∷ prefix_text p ∷ held_words held)) ≤ 65537
 settled_short p None prefix named =
     let words = codes "settled" ∷ prefix_text p ∷ codes "yes" ∷ [] in
     omega (arith, short_prefix p prefix, joined 32 words, length-append (join_with_byte 32 words) (10 ∷ []))

@@ -5,7 +5,7 @@ use Rattle.std.proofs.lemmas.List.{length-append}
 use Rattle.std.proofs.lemmas.Fmt.{length-decimal-le, length-decimal-le_wide}
 use Rattle.std.specs.Fmt.{decimal}
 use Rattle.std.specs.List.{AllByRecursion, list_all}
-use Rattle.addr4.specs.Prefixes.{Network}
+use Rattle.addr4.specs.Prefixes.{AddressPrefix}
 use Rattle.addr4.specs.Texts.{dotted, addr_text, prefix_text}
 use Rattle.rib_route.specs.declared.Proto.{Proto}
 use Rattle.rib_route.specs.declared.protocol.FibProto.{FibProto}
@@ -69,7 +69,7 @@ short_addresses [] = omega arith
 short_addresses (a ∷ []) = omega (arith, short_addr a)
 short_addresses (a ∷ b ∷ addresses) = omega (arith, short_addr a, short_addresses (b ∷ addresses), length-append (addr_text a) (59 ∷ addresses_text (b ∷ addresses)))
 
-pub short_prefix : (p : Network) → IsPrefix p → length (prefix_text p) ≤ 19
+pub short_prefix : (p : AddressPrefix) → IsPrefix p → length (prefix_text p) ≤ 19
 unfolding prefix_text
 short_prefix p h =
     let short = h.0.0 in

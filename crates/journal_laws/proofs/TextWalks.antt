@@ -3,7 +3,7 @@ use Rattle.std.proofs.Common.{◌≡◌, ℕ, Bool, true, false, cond, List, [],
 use Rattle.std.specs.Prelude.{IsSome}
 use Rattle.std.specs.List.{AllByRecursion}
 use Rattle.std.specs.Ordering.{eq_by_cmp}
-use Rattle.addr4.specs.Prefixes.{Network, prefix_cmp}
+use Rattle.addr4.specs.Prefixes.{AddressPrefix, prefix_cmp}
 use Rattle.bgp_attr.specs.declared.speaker.Neighbour.{Neighbour}
 use Rattle.link_change.specs.Rows.{Rows, no_rows, with_row}
 use Rattle.link_change.proofs.RowLemmas.{same_function}
@@ -26,13 +26,13 @@ chosen f false x y = refl
 
 -- ---- what an entry makes of the links
 
-rows_set : (rows : Rows Value) (p : Network) (row : Option Value) → text_rows (with_row rows p row) ≡ with_row (text_rows rows) p (option_map value_text row)
+rows_set : (rows : Rows Value) (p : AddressPrefix) (row : Option Value) → text_rows (with_row rows p row) ≡ with_row (text_rows rows) p (option_map value_text row)
 rows_set rows p row = same_function _ _ (λ q. chosen value_text (eq_by_cmp prefix_cmp q p) row (rows q))
 
 link_set : (links : Links Value) (link : Link) (rows : Option (Rows Value)) → text_links (with_link links link rows) ≡ with_link (text_links links) link (option_map text_rows rows)
 link_set links link rows = same_function _ _ (λ q. chosen text_rows (same_link q link) rows (links q))
 
-row_set : (links : Links Value) (link : Link) (p : Network) (row : Option Value) → text_links (with_row_on links link p row) ≡ with_row_on (text_links links) link p (option_map value_text row)
+row_set : (links : Links Value) (link : Link) (p : AddressPrefix) (row : Option Value) → text_links (with_row_on links link p row) ≡ with_row_on (text_links links) link p (option_map value_text row)
 row_set links link p row = link_set links link (option_map (λ rows. with_row rows p row) (links link)) ∙ ap (with_link (text_links links) link) (by (links link))
   where
     by : (o : Option (Rows Value)) → option_map text_rows (option_map (λ rows. with_row rows p row) o) ≡ option_map (λ rows. with_row rows p (option_map value_text row)) (option_map text_rows o)
@@ -55,7 +55,7 @@ some_mapped : {A B : Type 0} (f : A → B) (o : Option A) → IsSome o → IsSom
 some_mapped f (Some x) is = is
 some_mapped f None is = is
 
-row_texts : (links : Links Value) (link : Link) (p : Network) (row : Option Value) → HasRow links link p row → HasRow (text_links links) link p (option_map value_text row)
+row_texts : (links : Links Value) (link : Link) (p : AddressPrefix) (row : Option Value) → HasRow links link p row → HasRow (text_links links) link p (option_map value_text row)
 row_texts links link p row has = (text_rows has.0, ap (option_map text_rows) has.1, ap (option_map value_text) has.2)
 
 demand_texts : (peers : ℕ → Option Neighbour) (links : Links Value) (entry : Entry Value) → AllByRecursion (IsWellTold peers) (values_of entry) → Demands links entry → Demands (text_links links) (texts_of entry)

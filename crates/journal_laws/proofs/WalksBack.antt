@@ -3,7 +3,7 @@ use Rattle.std.proofs.Common.{◌≡◌, ℕ, Bool, true, false, cond, List, [],
 use Rattle.std.specs.Prelude.{IsSome}
 use Rattle.std.specs.List.{AllByRecursion}
 use Rattle.std.specs.Ordering.{eq_by_cmp}
-use Rattle.addr4.specs.Prefixes.{Network, prefix_cmp}
+use Rattle.addr4.specs.Prefixes.{AddressPrefix, prefix_cmp}
 use Rattle.bgp_attr.specs.declared.speaker.Neighbour.{Neighbour}
 use Rattle.link_change.specs.Rows.{Rows, no_rows, with_row}
 use Rattle.link_change.proofs.RowLemmas.{same_function}
@@ -26,7 +26,7 @@ use Rattle.journal_laws.proofs.TextWalks.{after_texts, lawful_texts}
 
 -- each row is told by its text
 abbrev AreExactRows : (ℕ → Option Neighbour) → Rows Value → Type 0
-AreExactRows peers rows = (p : Network) (value : Value) → rows p ≡ Some value → IsWellTold peers value
+AreExactRows peers rows = (p : AddressPrefix) (value : Value) → rows p ≡ Some value → IsWellTold peers value
 
 abbrev AreExactLinks : (ℕ → Option Neighbour) → Links Value → Type 0
 AreExactLinks peers links = (link : Link) (rows : Rows Value) → links link ≡ Some rows → AreExactRows peers rows
@@ -67,7 +67,7 @@ mapped_is_some : {A B : Type 0} (f : A → B) (o : Option A) → IsSome (option_
 mapped_is_some f (Some x) is = is
 mapped_is_some f None is = is
 
-row_back : (peers : ℕ → Option Neighbour) (links : Links Value) (link : Link) (p : Network) (row : Option Value) → AreExactLinks peers links → IsExactIfAny peers row → HasRow (text_links links) link p (option_map value_text row) → HasRow links link p row
+row_back : (peers : ℕ → Option Neighbour) (links : Links Value) (link : Link) (p : AddressPrefix) (row : Option Value) → AreExactLinks peers links → IsExactIfAny peers row → HasRow (text_links links) link p (option_map value_text row) → HasRow links link p row
 row_back peers links link p row exact h has =
     let s = mapped_some text_rows (links link) has.0 has.1 in
     (s.0, s.1, row_told peers (s.0 p) row (exact link s.0 s.1 p) h (ap (λ (r : Rows (List ℕ)). r p) s.2 ∙ has.2))
@@ -97,14 +97,14 @@ link_exact peers links link rows exact here q r is = by (same_link q link) is
     by true e = here r e
     by false e = exact q r e
 
-with_row_exact : (peers : ℕ → Option Neighbour) (rows : Rows Value) (p : Network) (row : Option Value) → AreExactRows peers rows → IsExactIfAny peers row → AreExactRows peers (with_row rows p row)
+with_row_exact : (peers : ℕ → Option Neighbour) (rows : Rows Value) (p : AddressPrefix) (row : Option Value) → AreExactRows peers rows → IsExactIfAny peers row → AreExactRows peers (with_row rows p row)
 with_row_exact peers rows p row exact here q value is = by (eq_by_cmp prefix_cmp q p) is
   where
     by : (b : Bool) → cond b row (rows q) ≡ Some value → IsWellTold peers value
     by true e = here value e
     by false e = exact q value e
 
-row_exact : (peers : ℕ → Option Neighbour) (links : Links Value) (link : Link) (p : Network) (row : Option Value) → AreExactLinks peers links → IsExactIfAny peers row → AreExactLinks peers (with_row_on links link p row)
+row_exact : (peers : ℕ → Option Neighbour) (links : Links Value) (link : Link) (p : AddressPrefix) (row : Option Value) → AreExactLinks peers links → IsExactIfAny peers row → AreExactLinks peers (with_row_on links link p row)
 row_exact peers links link p row exact here =
     link_exact peers links link (option_map (λ rows. with_row rows p row) (links link)) exact (λ r is.
     let s = mapped_some (λ (rows : Rows Value). with_row rows p row) (links link) r is in

@@ -1,7 +1,7 @@
 -- Laws of what is printed, and of what `check` says of it.
 use Rattle.std.specs.Prelude.{◌≡◌, ◌↔◌, ◌⊎◌, ℕ, ◌^◌, ◌<◌, ◌≤◌, Bool, false, List, [], ◌∷◌, ◌++◌, length, Option, Some, IfSome}
 use Rattle.std.specs.List.{AllByRecursion}
-use Rattle.addr4.specs.Prefixes.{Network}
+use Rattle.addr4.specs.Prefixes.{AddressPrefix}
 use Rattle.bgp_attr.specs.declared.attrs.Attrs.{Attrs}
 use Rattle.bgp_attr.specs.declared.route.Route.{Route}
 use Rattle.bgp_attr.specs.declared.speaker.Speaker.{Speaker}
@@ -47,7 +47,7 @@ ReadIsPrintable =
 -- A route that rules make of attributes that can be printed can be printed.
 abbrev pub FilteredIsPrintable : Type 0
 FilteredIsPrintable =
-    (peers : ℕ → Option Neighbour) (me : Speaker) (peer : Neighbour) (as4 : Bool) (rules : List Rule) (p : Network) (a : Attrs) (r : Route) → peers peer.number ≡ Some peer → peer.number < 2 ^ 8 → AreRules as4 rules
+    (peers : ℕ → Option Neighbour) (me : Speaker) (peer : Neighbour) (as4 : Bool) (rules : List Rule) (p : AddressPrefix) (a : Attrs) (r : Route) → peers peer.number ≡ Some peer → peer.number < 2 ^ 8 → AreRules as4 rules
     → IsPrintable peers (values.Attrs a) → filtered me peer rules p (Some a) ≡ Some r → IsPrintable peers (values.Route r)
 
 -- A printed line has at most 65,536 bytes and its LF.
@@ -98,17 +98,17 @@ AreEachOnce [] = Unit {0}
 AreEachOnce (link ∷ links) = IsNamed link × AllByRecursion (λ other. same_link link other ≡ false) links × AreEachOnce links
 
 -- each row at the prefix can be printed
-abbrev pub HasPrintable : (ℕ → Option Neighbour) → Network → Links Value → Type 0
+abbrev pub HasPrintable : (ℕ → Option Neighbour) → AddressPrefix → Links Value → Type 0
 HasPrintable peers p links = (link : Link) (rows : Rows Value) (value : Value) → links link ≡ Some rows → rows p ≡ Some value → IsPrintable peers value
 
 -- Messages at one prefix down a way can be printed, where the rows before and after them can.
 abbrev pub FallsArePrinted : Type 0
 FallsArePrinted =
-    (peers : ℕ → Option Neighbour) (p : Network) (way : List Link) (entries : List (Entry Value)) (old new : Links Value) → IsPrefix p → AreEachOnce way → IsWhole p way entries ⊎ IsCut p way entries
+    (peers : ℕ → Option Neighbour) (p : AddressPrefix) (way : List Link) (entries : List (Entry Value)) (old new : Links Value) → IsPrefix p → AreEachOnce way → IsWhole p way entries ⊎ IsCut p way entries
     → Leads old entries new → HasPrintable peers p old → HasPrintable peers p new → AllByRecursion (λ e. IsPrinted peers (Journal e)) entries
 
 -- So can the entry of a change of rows that can.
 abbrev pub ChangesArePrinted : Type 0
 ChangesArePrinted =
-    (peers : ℕ → Option Neighbour) (link : Link) (p : Network) (before after : Option Value) → IsNamed link → IsPrefix p → IfSome before (IsPrintable peers) → IfSome after (IsPrintable peers)
+    (peers : ℕ → Option Neighbour) (link : Link) (p : AddressPrefix) (before after : Option Value) → IsNamed link → IsPrefix p → IfSome before (IsPrintable peers) → IfSome after (IsPrintable peers)
     → AllByRecursion (λ e. IsPrinted peers (Journal e)) (change_entries link p before after)

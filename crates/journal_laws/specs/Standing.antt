@@ -9,7 +9,7 @@ use Rattle.nexthop_resolver.specs.declared.rows.Metric.{Metric}
 use Rattle.nexthop_resolver.specs.declared.rows.Outlet.{Outlet}
 use Rattle.nexthop_resolver.specs.declared.rows.Way.{Way}
 use Rattle.nexthop_resolver.specs.Resolving.{Resolving}
-use Rattle.addr4.specs.Prefixes.{Network}
+use Rattle.addr4.specs.Prefixes.{AddressPrefix}
 use Rattle.bgp_attr.specs.declared.attrs.Attrs.{Attrs}
 use Rattle.bgp_attr.specs.declared.speaker.Neighbour.{Neighbour}
 use Rattle.bgp_attr.specs.declared.speaker.Profile.{Profile}
@@ -32,11 +32,11 @@ use Rattle.in_chain.specs.Chains.{Chained}
 use Rattle.journal_laws.specs.Printed.{IsPrintable, IsAddressIfAny}
 
 -- a row that can be printed at its prefix, whoever the peers are
-pub record IsPrintableRow (p : Network) (value : Value) : Type 0 where
+pub record IsPrintableRow (p : AddressPrefix) (value : Value) : Type 0 where
   pub prefix : IsPrefix p
   pub printed : (peers : ℕ → Option Neighbour) → IsPrintable peers value
 
-abbrev pub IsInteriorRow : Network → Interior → Type 0
+abbrev pub IsInteriorRow : AddressPrefix → Interior → Type 0
 IsInteriorRow p row = IsPrintableRow p (interior_value row)
 
 -- some octets of a peer, external or internal, said these attributes (RFC 4271, section 4.3)
@@ -44,12 +44,12 @@ abbrev pub WasHeard : Profile → Bool → Attrs → Type 0
 WasHeard profile external a = (octets : List ℕ) × (u : Update) × AreOctets octets × Reads profile external octets (messages.Update u) × (u.attrs ≡ Some a)
 
 -- such attributes, at a prefix
-abbrev pub IsHeardRow : Profile → Bool → Network → Attrs → Type 0
+abbrev pub IsHeardRow : Profile → Bool → AddressPrefix → Attrs → Type 0
 IsHeardRow profile external p a = IsPrefix p × WasHeard profile external a
 
 -- each row, live or lost, is such, and the numbers of the losses are in their range
-pub record AreTablesOf {R : Type 0} (Is : Network → R → Type 0) (t : Tables R) : Type 0 where
-  pub rows : (p : Network) (row : R) → IsRow t p row → Is p row
+pub record AreTablesOf {R : Type 0} (Is : AddressPrefix → R → Type 0) (t : Tables R) : Type 0 where
+  pub rows : (p : AddressPrefix) (row : R) → IsRow t p row → Is p row
   pub losses : AllByRecursion (λ d. IsNameNumber d.number) t.deletions
 
 -- rules of a file with such AS numbers

@@ -1,7 +1,7 @@
 -- Links that are set, walks one after the other, and the entry of one change.
 use Rattle.std.proofs.Common.{◌≡◌, Bool, true, false, cond, List, [], ◌∷◌, ◌++◌, Option, Some, None, IsSome, refl, sym, ap, subst, ◌∙◌}
 use Rattle.std.specs.Option.{option_map}
-use Rattle.addr4.specs.Prefixes.{Network, prefix_cmp}
+use Rattle.addr4.specs.Prefixes.{AddressPrefix, prefix_cmp}
 use Rattle.std.specs.Ordering.{eq_by_cmp}
 use Rattle.link_change.specs.Rows.{Rows, no_rows, with_row}
 use Rattle.link_change.specs.Changes.{IsSent}
@@ -69,7 +69,7 @@ module _ {V : Type 0} where
   }
 
   -- a change that is lawful on a live link
-  pub leads_change : (links : Links V) (link : Link) (rows : Rows V) (p : Network) (old new : Option V) → links link ≡ Some rows → rows p ≡ old → (new ≡ old → ⊥)
+  pub leads_change : (links : Links V) (link : Link) (rows : Rows V) (p : AddressPrefix) (old new : Option V) → links link ≡ Some rows → rows p ≡ old → (new ≡ old → ⊥)
       → Leads links (change_entries link p old new) (with_link links link (Some (with_row rows p new)))
   leads_change links link rows p None None live at differ = absurd (differ refl)
   leads_change links link rows p None (Some new) live at differ = record {
@@ -102,12 +102,12 @@ module _ {R : Type 0} (value : R → Value) (one : (a b : R) → value a ≡ val
   one_value (Some a) None e = cc
   one_value (Some a) (Some b) e = let same : value a ≡ value b = cc in ap Some (one a b same)
 
-  values_set : (rows : Rows R) (p : Network) (row : Option R) → valued value (with_row rows p row) ≡ with_row (valued value rows) p (option_map value row)
+  values_set : (rows : Rows R) (p : AddressPrefix) (row : Option R) → valued value (with_row rows p row) ≡ with_row (valued value rows) p (option_map value row)
   values_set rows p row = same_function _ _ (λ q.
       elim (eq_by_cmp prefix_cmp q p) as (λ b. option_map value (cond b row (rows q)) ≡ cond b (option_map value row) (option_map value (rows q))) [ true ↦ refl | false ↦ refl ])
 
   -- the entry of a lawful change leads on
-  pub values_lead : (links : Links Value) (link : Link) (old new : Rows R) (p : Network) (change : Change R) → links link ≡ Some (valued value old) → IsSent old new p (Some change)
+  pub values_lead : (links : Links Value) (link : Link) (old new : Rows R) (p : AddressPrefix) (change : Change R) → links link ≡ Some (valued value old) → IsSent old new p (Some change)
       → Leads links (valued_change value link change) (with_link links link (Some (valued value new)))
   values_lead links link old new p change live sent =
       let at : valued value old change.prefix ≡ option_map value change.before = ap (option_map value) sent.1.0 in
@@ -116,14 +116,14 @@ module _ {R : Type 0} (value : R → Value) (one : (a b : R) → value a ≡ val
       subst (λ (rows : Rows Value). Leads links (valued_change value link change) (with_link links link (Some rows))) is lead
 
   -- what a stage sends leads on from the rows of its link to the new ones
-  pub leads_sent : (links : Links Value) (link : Link) (old new : Rows R) (p : Network) (sent : Option (Change R)) → links link ≡ Some (valued value old) → IsSent old new p sent
+  pub leads_sent : (links : Links Value) (link : Link) (old new : Rows R) (p : AddressPrefix) (sent : Option (Change R)) → links link ≡ Some (valued value old) → IsSent old new p sent
       → Leads links (sent_entries value link sent) (with_link links link (Some (valued value new)))
   leads_sent links link old new p None live is =
       leads_nowhere _ _ (sym (with_link_same links link (Some (valued value new)) (live ∙ ap (λ (r : Rows R). Some (valued value r)) (sym is))))
   leads_sent links link old new p (Some change) live is = values_lead links link old new p change live is
 
   -- the same where the link's rows are set before
-  pub leads_over : (links : Links Value) (link : Link) (old new : Rows R) (p : Network) (sent : Option (Change R)) → IsSent old new p sent
+  pub leads_over : (links : Links Value) (link : Link) (old new : Rows R) (p : AddressPrefix) (sent : Option (Change R)) → IsSent old new p sent
       → Leads (with_link links link (Some (valued value old))) (sent_entries value link sent) (with_link links link (Some (valued value new)))
   leads_over links link old new p sent is =
       let step = leads_sent (with_link links link (Some (valued value old))) link old new p sent (with_link_here links link (Some (valued value old))) is in

@@ -1,6 +1,6 @@
 -- Laws of links and walks, for the crates above.
 use Rattle.std.specs.Prelude.{◌≡◌, ℕ, true, false, List, ◌++◌, Option, Some}
-use Rattle.addr4.specs.Prefixes.{Network}
+use Rattle.addr4.specs.Prefixes.{AddressPrefix}
 use Rattle.link_change.specs.Rows.{Rows}
 use Rattle.link_change.specs.Changes.{IsSent}
 use Rattle.link_change.specs.declared.change.Change.{Change}
@@ -32,7 +32,7 @@ LinksAreSetInEitherOrder V =
 -- The entry of a change that is lawful on a live link's rows leads on, and that link's rows alone become the new ones.
 abbrev pub ChangesLead : {R : Type 0} → (R → Value) → Type 0
 ChangesLead {R} value =
-    (links : Links Value) (link : Link) (old new : Rows R) (p : Network) (change : Change R)
+    (links : Links Value) (link : Link) (old new : Rows R) (p : AddressPrefix) (change : Change R)
     → links link ≡ Some (valued value old) → IsSent old new p (Some change)
     → Leads links (valued_change value link change) (with_link links link (Some (valued value new)))
 

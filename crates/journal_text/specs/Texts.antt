@@ -3,7 +3,7 @@ use Rattle.std.specs.Prelude.{ℕ, Bool, true, false, ◌&&◌, cond, List, [], 
 use Rattle.std.specs.List.{join_with_byte, flat_map}
 use Rattle.std.specs.Fmt.{decimal}
 use Rattle.hex.specs.Hex.{encode_lower}
-use Rattle.addr4.specs.Prefixes.{Network}
+use Rattle.addr4.specs.Prefixes.{AddressPrefix}
 use Rattle.addr4.specs.Texts.{addr_text, dotted, prefix_text}
 use Rattle.rib_route.specs.declared.Proto.{Proto}
 use Rattle.rib_route.specs.declared.protocol.FibProto.{FibProto}
@@ -210,7 +210,7 @@ entry_words (Weld upper lower) = codes "w" ∷ link_text upper ∷ link_text low
 entry_words (End link) = codes "e" ∷ link_text link ∷ []
 
 -- a prefix, or `-` for none
-abbrev pub match_text : Option Network → List ℕ
+abbrev pub match_text : Option AddressPrefix → List ℕ
 match_text None = codes "-"
 match_text (Some p) = prefix_text p
 

@@ -1,7 +1,7 @@
 -- The walk through a journal, with one map of rows for each live link: what its two consistency rules ask
 -- (NSDI 2005, "Designing Extensible IP Router Software", section 5.1).
 use Rattle.std.specs.Prelude.{◌≡◌, ◌≢◌, cond, List, [], ◌∷◌, ◌++◌, Option, Some, None, IsSome, option_map}
-use Rattle.addr4.specs.Prefixes.{Network}
+use Rattle.addr4.specs.Prefixes.{AddressPrefix}
 use Rattle.link_change.specs.Rows.{Rows, no_rows, with_row}
 use Rattle.journal_text.specs.Links.{same_link}
 use Rattle.journal_text.specs.declared.link.Link.{Link}
@@ -20,11 +20,11 @@ abbrev pub with_link : {V : Type 0} → Links V → Link → Option (Rows V) →
 with_link links link rows q = cond (same_link q link) rows (links q)
 
 -- the links with this row at the prefix of one of them
-abbrev pub with_row_on : {V : Type 0} → Links V → Link → Network → Option V → Links V
+abbrev pub with_row_on : {V : Type 0} → Links V → Link → AddressPrefix → Option V → Links V
 with_row_on links link p row = with_link links link (option_map (λ rows. with_row rows p row) (links link))
 
 -- the link is live, and has this row at the prefix
-abbrev pub HasRow : {V : Type 0} → Links V → Link → Network → Option V → Type 0
+abbrev pub HasRow : {V : Type 0} → Links V → Link → AddressPrefix → Option V → Type 0
 HasRow {V} links link p row = (rows : Rows V) × (links link ≡ Some rows) × (rows p ≡ row)
 
 -- both links are live, and have the same rows
@@ -68,7 +68,7 @@ pub record Leads {V : Type 0} (old : Links V) (entries : List (Entry V)) (new : 
   pub ends : fold_links old entries ≡ new
 
 -- the entry of a change of the row at a prefix
-abbrev pub change_entries : {V : Type 0} → Link → Network → Option V → Option V → List (Entry V)
+abbrev pub change_entries : {V : Type 0} → Link → AddressPrefix → Option V → Option V → List (Entry V)
 change_entries link p None None = []
 change_entries link p None (Some new) = Add link p new ∷ []
 change_entries link p (Some old) None = Delete link p old ∷ []

@@ -1,7 +1,7 @@
 -- Changes that are applied in order.
 use Rattle.std.proofs.Common.{◌≡◌, Bool, true, false, cond, List, [], ◌∷◌, ◌++◌, Option, Some, refl, sym, ap, ◌∙◌, subst}
 use Rattle.std.specs.Ordering.{eq_by_cmp}
-use Rattle.addr4.specs.Prefixes.{Network, prefix_cmp}
+use Rattle.addr4.specs.Prefixes.{AddressPrefix, prefix_cmp}
 use Rattle.addr4.proofs.PrefixOrder.{by_prefix, itself}
 use Rattle.link_change.specs.Rows.{Rows, with_row}
 use Rattle.link_change.specs.Changes.{IsSent}
@@ -12,7 +12,7 @@ use Rattle.link_change.proofs.RowLemmas.{same_function, with_row_here, with_row_
 
 module _ {V : Type 0} where
   -- at another prefix the row is the one that was there
-  pub with_row_elsewhere : (rows : Rows V) (p : Network) (row : Option V) (q : Network) → (q ≡ p → ⊥) → with_row rows p row q ≡ rows q
+  pub with_row_elsewhere : (rows : Rows V) (p : AddressPrefix) (row : Option V) (q : AddressPrefix) → (q ≡ p → ⊥) → with_row rows p row q ≡ rows q
   with_row_elsewhere rows p row q apart = by_prefix q p (λ b. cond b row (rows q) ≡ rows q) (λ same. absurd (apart same)) (λ _. refl)
 
   cond_twice : (b : Bool) (x y z : Option V) → cond b x (cond b y z) ≡ cond b x z
@@ -20,12 +20,12 @@ module _ {V : Type 0} where
   cond_twice false x y z = refl
 
   -- the row that was set last is the one that stands
-  pub with_row_twice : (rows : Rows V) (p : Network) (one other : Option V) → with_row (with_row rows p one) p other ≡ with_row rows p other
+  pub with_row_twice : (rows : Rows V) (p : AddressPrefix) (one other : Option V) → with_row (with_row rows p one) p other ≡ with_row rows p other
   with_row_twice rows p one other = same_function _ _ (λ q. cond_twice (eq_by_cmp prefix_cmp q p) other one (rows q))
 
 module _ {R : Type 0} where
   -- a change is undone by the row before it
-  pub undone : (old new : Rows R) (p : Network) (c : Change R) → IsSent old new p (Some c) → with_row new c.prefix c.before ≡ old
+  pub undone : (old new : Rows R) (p : AddressPrefix) (c : Change R) → IsSent old new p (Some c) → with_row new c.prefix c.before ≡ old
   undone old new p c sent =
       ap (λ rows. with_row rows c.prefix c.before) sent.2 ∙ with_row_twice old c.prefix c.after c.before
       ∙ with_row_same old c.prefix c.before sent.1.0
@@ -82,24 +82,24 @@ module _ {R : Type 0} where
 
   -- ---- prefix by prefix
   -- what the first leaves at its prefix, and elsewhere
-  leads_here : (old new : Rows R) (c : Change R) (cs : List (Change R)) → ((p : Network) → RowLeads (old p) (changes_at p (c ∷ cs)) (new p))
+  leads_here : (old new : Rows R) (c : Change R) (cs : List (Change R)) → ((p : AddressPrefix) → RowLeads (old p) (changes_at p (c ∷ cs)) (new p))
       → RowLeads (old c.prefix) (c ∷ changes_at c.prefix cs) (new c.prefix)
   leads_here old new c cs each = subst (λ l. RowLeads (old c.prefix) l (new c.prefix)) (first_here c cs) (each c.prefix)
 
-  rest_leads : (old new : Rows R) (c : Change R) (cs : List (Change R)) → ((p : Network) → RowLeads (old p) (changes_at p (c ∷ cs)) (new p))
-      → (p : Network) → RowLeads (with_row old c.prefix c.after p) (changes_at p cs) (new p)
+  rest_leads : (old new : Rows R) (c : Change R) (cs : List (Change R)) → ((p : AddressPrefix) → RowLeads (old p) (changes_at p (c ∷ cs)) (new p))
+      → (p : AddressPrefix) → RowLeads (with_row old c.prefix c.after p) (changes_at p cs) (new p)
   rest_leads old new c cs each p =
       by_prefix p c.prefix (λ b. RowLeads (cond b c.after (old p)) (changes_at p cs) (new p))
       (λ same. subst (λ q. RowLeads c.after (changes_at q cs) (new q)) (sym same) (leads_here old new c cs each).2)
       (λ apart. subst (λ l. RowLeads (old p) l (new p)) (first_elsewhere c cs p apart) (each p))
 
-  all_lead : (old new : Rows R) (cs : List (Change R)) → ((p : Network) → RowLeads (old p) (changes_at p cs) (new p)) → ChangesLead old cs new
+  all_lead : (old new : Rows R) (cs : List (Change R)) → ((p : AddressPrefix) → RowLeads (old p) (changes_at p cs) (new p)) → ChangesLead old cs new
   all_lead old new [] each = same_function _ _ each
   all_lead old new (c ∷ cs) each =
       let first = leads_here old new c cs each in
       ((first.0, first.1), all_lead (with_row old c.prefix c.after) new cs (rest_leads old new c cs each))
 
-  each_leads : (old new : Rows R) (cs : List (Change R)) (p : Network) → ChangesLead old cs new → RowLeads (old p) (changes_at p cs) (new p)
+  each_leads : (old new : Rows R) (cs : List (Change R)) (p : AddressPrefix) → ChangesLead old cs new → RowLeads (old p) (changes_at p cs) (new p)
   each_leads old new [] p leads = ap (λ rows. rows p) leads
   each_leads old new (c ∷ cs) p leads =
       let rest = each_leads (with_row old c.prefix c.after) new cs p leads.1 in

@@ -1,7 +1,7 @@
 -- Changes that are applied in order, the first one first.
 use Rattle.std.specs.Prelude.{◌≡◌, ◌≢◌, false, ◌||◌, if◌then◌else◌, List, [], ◌∷◌, ◌++◌, Option}
 use Rattle.std.specs.Ordering.{eq_by_cmp}
-use Rattle.addr4.specs.Prefixes.{Network, prefix_cmp}
+use Rattle.addr4.specs.Prefixes.{AddressPrefix, prefix_cmp}
 use Rattle.link_change.specs.Rows.{Rows, Candidates, with_row}
 use Rattle.link_change.specs.Changes.{IsLawfulOn}
 use Rattle.link_change.specs.declared.change.Change.{Change}
@@ -22,7 +22,7 @@ module _ {R : Type 0} where
   with_last change changes = changes ++ change ∷ []
 
   -- the changes at a prefix
-  abbrev pub changes_at : Network → List (Change R) → List (Change R)
+  abbrev pub changes_at : AddressPrefix → List (Change R) → List (Change R)
   changes_at p [] = []
   changes_at p (c ∷ cs) = if eq_by_cmp prefix_cmp c.prefix p then c ∷ changes_at p cs else changes_at p cs
 

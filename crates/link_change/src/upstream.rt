@@ -1,7 +1,7 @@
 //! A link as the stage below sees it.
 
 ghost use Rattle.std.specs.Prelude.{◌≡◌, IfOk, Option, Bool};
-ghost use Rattle.addr4.specs.Prefixes.{Network};
+ghost use Rattle.addr4.specs.Prefixes.{AddressPrefix};
 ghost use Rattle.addr4.specs.Places.{key_of};
 ghost use Rattle.link_change.specs.Rows.{Rows, Candidates, IsNextCandidate, IsNextOfBoth, CoversRows};
 

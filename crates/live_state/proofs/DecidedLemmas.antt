@@ -4,7 +4,7 @@ use Rattle.std.specs.Prelude.{Contains}
 use Rattle.std.proofs.lemmas.Bool.{ltb-false}
 use Rattle.std.specs.List.{find, list_any, cons_option}
 use Rattle.std.specs.FinMap as tables
-use Rattle.addr4.specs.Prefixes.{Network}
+use Rattle.addr4.specs.Prefixes.{AddressPrefix}
 use Rattle.rib_route.specs.declared.Proto.{Proto}
 use Rattle.rib_route.specs.declared.rows.Interior.{Interior}
 use Rattle.live_state.specs.Lives.{Interiors}
@@ -53,7 +53,7 @@ never [] u none h = h
 never (x ∷ xs) u none h = let f = found x xs in let clash : None ≡ Some f.one = sym none ∙ f.least_is in absurd (cc)
 
 -- ---- protocols
-module _ (interior : Proto → Interiors) (p : Network) where
+module _ (interior : Proto → Interiors) (p : AddressPrefix) where
   some_protocol : (protocols : List Proto) (u : Interior) → Has (routes_at interior protocols p) u → (proto : Proto) × Contains protocols proto × (tables.get (interior proto) p ≡ Some u)
   some_protocol [] u h = absurd h
   some_protocol (q ∷ qs) u h =

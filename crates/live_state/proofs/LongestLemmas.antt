@@ -1,7 +1,7 @@
 -- The longest match, as it is decided, and as the register answers it.
 use Rattle.std.proofs.Common.{◌≡◌, ℕ, zero, suc, Option, Some, None, refl, subst}
 use Rattle.std.specs.Prelude.{option_map}
-use Rattle.addr4.specs.Prefixes.{Network, block}
+use Rattle.addr4.specs.Prefixes.{AddressPrefix, block}
 use Rattle.link_change.specs.Rows.{Rows}
 use Rattle.rib_route.specs.declared.rows.Interior.{Interior}
 use Rattle.register_interest.specs.Covers.{keyed_or, longest, longest_to, IsLongest}
@@ -29,6 +29,6 @@ match_is rows a = found_is rows a 32
 pub the_longest_match : TheLongestMatchIsDecided
 the_longest_match rows a = subst (IsLongestMatch rows a) (match_is rows a) (by_found (longest 32 rows a) (longest_is 32 rows a))
   where
-    by_found : (o : Option (Network × Interior)) → IsLongest 32 rows a o → IsLongestMatch rows a (option_map (λ r. r.1) o)
+    by_found : (o : Option (AddressPrefix × Interior)) → IsLongest 32 rows a o → IsLongestMatch rows a (option_map (λ r. r.1) o)
     by_found None is = is
     by_found (Some r) is = (r.0, is.0, is.1, is.2, is.3)

@@ -3,7 +3,7 @@ use Rattle.std.proofs.Common.{◌≡◌, ℕ, zero, suc, ◌+◌, ◌<◌, ◌==
 use Rattle.std.specs.Prelude.{filter_map, option_map}
 use Rattle.std.specs.List.{cons_option, range_with_len}
 use Rattle.std.specs.FinMap as tables
-use Rattle.addr4.specs.Prefixes.{Network}
+use Rattle.addr4.specs.Prefixes.{AddressPrefix}
 use Rattle.bgp_attr.specs.declared.attrs.Attrs.{Attrs}
 use Rattle.bgp_attr.specs.declared.route.Route.{Route}
 use Rattle.bgp_attr.specs.declared.speaker.Speaker.{Speaker}
@@ -55,7 +55,7 @@ own_is : (me : Speaker) (redistributed : Proto → Bool) (way : Option Interior)
 own_is me redistributed None row e = absurd (none_is e)
 own_is me redistributed (Some way) row e = own_by me (redistributed way.proto) row e
 
-own_counts : (speaker : Option Speaker) (redistributed : Proto → Bool) (interior : Rows Interior) (p : Network) (row : Route) → rows_if_any (own_rows speaker redistributed interior) p ≡ Some row → row.from ≡ None
+own_counts : (speaker : Option Speaker) (redistributed : Proto → Bool) (interior : Rows Interior) (p : AddressPrefix) (row : Route) → rows_if_any (own_rows speaker redistributed interior) p ≡ Some row → row.from ≡ None
 own_counts None redistributed interior p row e = absurd (none_is e)
 own_counts (Some me) redistributed interior p row e = own_is me redistributed (interior p) row e
 
@@ -88,7 +88,7 @@ is_new true been hop judged r e = absurd (none_is e)
 is_new false true hop judged r e = absurd (none_is e)
 is_new false false hop judged r e = refl
 
-accepted : FilteredKeepsAttrs → (me : Speaker) (peer : Neighbour) (rules : List Rule) (p : Network) (attrs : Option Attrs) (r : Route) → filtered me peer rules p attrs ≡ Some r → IsAccepted me peer attrs r
+accepted : FilteredKeepsAttrs → (me : Speaker) (peer : Neighbour) (rules : List Rule) (p : AddressPrefix) (attrs : Option Attrs) (r : Route) → filtered me peer rules p attrs ≡ Some r → IsAccepted me peer attrs r
 accepted keeps me peer rules p None r e = absurd (none_is e)
 accepted keeps me peer rules p (Some attrs) r e =
     let is = keeps me peer rules p attrs r e in
@@ -97,13 +97,13 @@ accepted keeps me peer rules p (Some attrs) r e =
 
 -- ---- whose route it is
 -- a peer's route was received from it, and hadn't been here
-abbrev HasSource : LiveState → Speaker → Network → Route → Type 0
+abbrev HasSource : LiveState → Speaker → AddressPrefix → Route → Type 0
 HasSource l me p row = (from : Neighbour) → row.from ≡ Some from → IsReceivedFrom l from p row.attrs × (has_been_at row.attrs.reflection me.id ≡ false)
 
-own_has : (l : LiveState) (me : Speaker) (p : Network) (row : Route) → row.from ≡ None → HasSource l me p row
+own_has : (l : LiveState) (me : Speaker) (p : AddressPrefix) (row : Route) → row.from ≡ None → HasSource l me p row
 own_has l me p row none from is = absurd (none_is (sym none ∙ is))
 
-module _ (l : LiveState) (me : Speaker) (p : Network) (row : Route) where
+module _ (l : LiveState) (me : Speaker) (p : AddressPrefix) (row : Route) where
   received : (k : ℕ) (q : DeclaredPeer) (r : Route) → peer_at k l.declared.peers ≡ Some q → q.words.number ≡ k → IsAccepted me q.words (tables.get (l.routes k) p) r → row.attrs ≡ r.attrs → row.from ≡ r.from → HasSource l me p row
   received k q r at number is attrs of from named =
       let same : q.words ≡ from = let e : Some q.words ≡ Some from = sym is.from ∙ sym of ∙ named in cc in
@@ -144,7 +144,7 @@ record IsFormed (profile : Profile) (me : Speaker) (to : Neighbour) (row : Route
   from : made.from ≡ row.from
   form : sent ≡ sent_form profile me (not to.internal) made
 
-formed_so : OnlyFormsOfRows → (profile : Profile) (me : Speaker) (to : Neighbour) (rules : List Rule) (p : Network) (row : Route) (sent : Attrs) → outgoing (as_sent profile me (not to.internal)) to (Some rules) p (Some row) ≡ Some sent → IsFormed profile me to row sent
+formed_so : OnlyFormsOfRows → (profile : Profile) (me : Speaker) (to : Neighbour) (rules : List Rule) (p : AddressPrefix) (row : Route) (sent : Attrs) → outgoing (as_sent profile me (not to.internal)) to (Some rules) p (Some row) ≡ Some sent → IsFormed profile me to row sent
 formed_so forms profile me to rules p row sent e =
     let of = forms (as_sent profile me (not to.internal)) to (Some rules) p row sent e in
     record { made = of.0; attrs = of.2; from = of.3; form = fits _ (sent_form profile me (not to.internal) of.0) sent of.1 }
@@ -201,7 +201,7 @@ client_of : (profile : Profile) (me : Speaker) (peers : List DeclaredPeer) (k : 
 client_of profile me peers k q declared at client = (found_peer profile me peers k q declared.each at).0.words.reflected client
 
 -- ---- what is passed on
-module _ (l : LiveState) (j : ℕ) (me : Speaker) (to : DeclaredPeer) (p : Network) (row : Route) (sent : Attrs) where
+module _ (l : LiveState) (j : ℕ) (me : Speaker) (to : DeclaredPeer) (p : AddressPrefix) (row : Route) (sent : Attrs) where
   passed : AreDeclared l.declared.profile me l.declared.peers → peer_at j l.declared.peers ≡ Some to → HasSource l me p row → MayGo to.words p row
       → IsFormed l.declared.profile me to.words row sent → IsPassedTo me to.words row sent
   passed declared at source may so = record {

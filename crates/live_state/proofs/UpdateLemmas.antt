@@ -8,47 +8,47 @@ use Rattle.std.proofs.lemmas.Bool.Decides.{nat_tests}
 use Rattle.std.proofs.lemmas.Grind.{common_steps}
 use Rattle.std.proofs.lemmas.List.{map-append}
 use Rattle.std.proofs.lemmas.List.Elements.{filter_more}
-use Rattle.addr4.specs.Prefixes.{Network, prefix_cmp, same_prefix}
+use Rattle.addr4.specs.Prefixes.{AddressPrefix, prefix_cmp, same_prefix}
 use Rattle.addr4.proofs.PrefixOrder.{by_prefix}
 use Rattle.bgp_attr.specs.declared.attrs.Attrs.{Attrs}
 use Rattle.bgp_wire.specs.Grammar.{without}
 use Rattle.live_state.specs.Messages.{withdrawn_from}
 
-same_itself : (p : Network) → same_prefix p p ≡ true
+same_itself : (p : AddressPrefix) → same_prefix p p ≡ true
 same_itself p = grind (arith, nat_tests)
 
-same_is : (p q : Network) → same_prefix p q ≡ true → q ≡ p
+same_is : (p q : AddressPrefix) → same_prefix p q ≡ true → q ≡ p
 same_is p q e =
     let a : q.address ≡ p.address = grind (arith, nat_tests) in
     let l : q.length ≡ p.length = grind (arith, nat_tests) in
     by_parts q.address p.address q.length p.length a l
   where
-    by_parts : (a b l m : ℕ) → a ≡ b → l ≡ m → ◌≡◌ {A = Network} (record { address = a; length = l }) (record { address = b; length = m })
+    by_parts : (a b l m : ℕ) → a ≡ b → l ≡ m → ◌≡◌ {A = AddressPrefix} (record { address = a; length = l }) (record { address = b; length = m })
     by_parts a b l m e f = cc
 
-same_test : (q p : Network) → eq_by_cmp prefix_cmp q p ≡ same_prefix p q
+same_test : (q p : AddressPrefix) → eq_by_cmp prefix_cmp q p ≡ same_prefix p q
 same_test q p = by_prefix q p (λ b. b ≡ same_prefix p q) (λ same. subst (λ x. true ≡ same_prefix p x) (sym same) (sym (same_itself p))) (λ apart. other (same_prefix p q) refl apart)
   where
     other : (b : Bool) → same_prefix p q ≡ b → q ≢ p → false ≡ same_prefix p q
     other true e apart = absurd (apart (same_is p q e))
     other false e apart = sym e
 
-pub member_same : (others : List Network) (q : Network) → list_any (eq_by_cmp prefix_cmp q) others ≡ list_any (λ other. same_prefix other q) others
+pub member_same : (others : List AddressPrefix) (q : AddressPrefix) → list_any (eq_by_cmp prefix_cmp q) others ≡ list_any (λ other. same_prefix other q) others
 member_same [] q = refl
 member_same (p ∷ ps) q = ap (λ b. b || list_any (eq_by_cmp prefix_cmp q) ps) (same_test q p) ∙ ap (λ b. same_prefix p q || b) (member_same ps q)
 
 -- what the set has is what the list has
-pub set_has : (others : List Network) (s : BTreeSet Network) (q : Network) → IsFromIterResult prefix_cmp others s → contains prefix_cmp s q ≡ list_any (λ other. same_prefix other q) others
+pub set_has : (others : List AddressPrefix) (s : BTreeSet AddressPrefix) (q : AddressPrefix) → IsFromIterResult prefix_cmp others s → contains prefix_cmp s q ≡ list_any (λ other. same_prefix other q) others
 set_has others s q is = is.0 q ∙ member_same others q
 
 -- one prefix more was looked at
-pub one_more : (others ws : List Network) (i : ℕ) (p : Network) (b : Bool) (before now : List (Network × Option Attrs)) → i < length ws → p ≡ get_or ws i p → list_any (λ other. same_prefix other p) others ≡ b → now ≡ before ++ map withdrawn_from (without others (take i ws)) → now ++ cond b [] ((p, None) ∷ []) ≡ before ++ map withdrawn_from (without others (take (i + 1) ws))
+pub one_more : (others ws : List AddressPrefix) (i : ℕ) (p : AddressPrefix) (b : Bool) (before now : List (AddressPrefix × Option Attrs)) → i < length ws → p ≡ get_or ws i p → list_any (λ other. same_prefix other p) others ≡ b → now ≡ before ++ map withdrawn_from (without others (take i ws)) → now ++ cond b [] ((p, None) ∷ []) ≡ before ++ map withdrawn_from (without others (take (i + 1) ws))
 one_more others ws i p b before now lt here is done =
-    let keeps : Network → Bool = λ q. not (list_any (λ other. same_prefix other q) others) in
+    let keeps : AddressPrefix → Bool = λ q. not (list_any (λ other. same_prefix other q) others) in
     let more : filter keeps (take (i + 1) ws) ≡ filter keeps (take i ws) ++ cond (not b) (p ∷ []) [] =
     filter_more keeps ws i p lt ∙ ap (λ x. filter keeps (take i ws) ++ cond (keeps x) (x ∷ []) []) (sym here) ∙ ap (λ k. filter keeps (take i ws) ++ cond (not k) (p ∷ []) []) is in
     ap (λ l. l ++ cond b [] ((p, None) ∷ [])) done ∙ by_test b (filter keeps (take i ws)) ∙ ap (λ l. before ++ map withdrawn_from l) (sym more)
   where
-    by_test : (b : Bool) (ps : List Network) → (before ++ map withdrawn_from ps) ++ cond b [] ((p, None) ∷ []) ≡ before ++ map withdrawn_from (ps ++ cond (not b) (p ∷ []) [])
+    by_test : (b : Bool) (ps : List AddressPrefix) → (before ++ map withdrawn_from ps) ++ cond b [] ((p, None) ∷ []) ≡ before ++ map withdrawn_from (ps ++ cond (not b) (p ∷ []) [])
     by_test true ps = grind (arith, common_steps, append-nil)
     by_test false ps = grind (arith, common_steps, map-append)

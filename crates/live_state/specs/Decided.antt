@@ -7,7 +7,7 @@ use Rattle.std.specs.Prelude.{ℕ, zero, suc, nat_lt, Bool, true, not, ◌==◌,
 use Rattle.std.specs.List.{list_any, range_with_len}
 use Rattle.best_path.specs.Steps.{pick}
 use Rattle.std.specs.FinMap as tables
-use Rattle.addr4.specs.Prefixes.{Network, block}
+use Rattle.addr4.specs.Prefixes.{AddressPrefix, block}
 use Rattle.bgp_attr.specs.declared.attrs.Attrs.{Attrs}
 use Rattle.bgp_attr.specs.declared.route.Route.{Route}
 use Rattle.bgp_attr.specs.declared.speaker.Speaker.{Speaker}
@@ -61,7 +61,7 @@ abbrev pub least_of : List Interior → Option Interior
 least_of routes = find (λ r. not (list_any (λ other. nat_lt (distance_of other) (distance_of r)) routes)) routes
 
 -- the live routes of some protocols at a prefix
-abbrev pub routes_at : (Proto → Interiors) → List Proto → Network → List Interior
+abbrev pub routes_at : (Proto → Interiors) → List Proto → AddressPrefix → List Interior
 routes_at interior protocols p = filter_map (λ proto. tables.get (interior proto) p) protocols
 
 -- at each prefix the one of least distance among them
@@ -132,7 +132,7 @@ rows_if_any None p = None
 rows_if_any (Some rows) p = rows p
 
 -- the routes at a prefix: this speaker's own has number 0, and that of a peer its number, from 1 to 64
-abbrev pub routes_of_all : (ℕ → Rows Route) → Network → List Route
+abbrev pub routes_of_all : (ℕ → Rows Route) → AddressPrefix → List Route
 routes_of_all rows p = filter_map (λ k. rows k p) (range_with_len 0 65)
 
 -- `best` has at each prefix the one that the decision process picks of them

@@ -1,7 +1,7 @@
 -- Laws of these definitions alone, for the crates above.
 use Rattle.std.specs.Prelude.{◌≡◌, ◌≤◌, ◌<◌, ◌⊎◌, ℕ, not, List, Contains, Option, Some, None}
 use Rattle.std.specs.FinMap as tables
-use Rattle.addr4.specs.Prefixes.{Network, IsMasked, Holds}
+use Rattle.addr4.specs.Prefixes.{AddressPrefix, IsMasked, Holds}
 use Rattle.bgp_attr.specs.declared.speaker.Profile.{Profile}
 use Rattle.link_change.specs.Rows.{Rows}
 use Rattle.bgp_wire.specs.declared.message.Message.{Message}
@@ -28,22 +28,22 @@ DeclarationsFollow = (l : LiveState) (event : Event) (l' : LiveState) → LiveAf
 -- lesser distance. So it is of the protocols of `low`, of `dyn`, and of all, which those of `int` and `fib` are.
 abbrev pub TheLeastDistanceIsDecided : Type 0
 TheLeastDistanceIsDecided =
-    (interior : Proto → Interiors) (protocols : List Proto) (p : Network) (row : Interior) → least_rows interior protocols p ≡ Some row
+    (interior : Proto → Interiors) (protocols : List Proto) (p : AddressPrefix) (row : Interior) → least_rows interior protocols p ≡ Some row
     → ((proto : Proto) × Contains protocols proto × (tables.get (interior proto) p ≡ Some row))
     × ((proto : Proto) (other : Interior) → Contains protocols proto → tables.get (interior proto) p ≡ Some other → distance_of row ≤ distance_of other)
 
 -- Nothing is decided only where none of them has a live one.
 abbrev pub EachLiveRouteCounts : Type 0
 EachLiveRouteCounts =
-    (interior : Proto → Interiors) (protocols : List Proto) (p : Network) → least_rows interior protocols p ≡ None
+    (interior : Proto → Interiors) (protocols : List Proto) (p : AddressPrefix) → least_rows interior protocols p ≡ None
     → (proto : Proto) → Contains protocols proto → tables.get (interior proto) p ≡ None
 
 -- A match is the row of a prefix that holds the address, and no longer one that holds it has a row; there is none only where no
 -- prefix that holds the address has one.
 abbrev pub IsLongestMatch : Rows Interior → ℕ → Option Interior → Type 0
-IsLongestMatch rows address None = (q : Network) → IsMasked 32 q → Holds 32 q address → rows q ≡ None
+IsLongestMatch rows address None = (q : AddressPrefix) → IsMasked 32 q → Holds 32 q address → rows q ≡ None
 IsLongestMatch rows address (Some row) =
-    (p : Network) × IsMasked 32 p × Holds 32 p address × (rows p ≡ Some row) × ((q : Network) → IsMasked 32 q → Holds 32 q address → p.length < q.length → rows q ≡ None)
+    (p : AddressPrefix) × IsMasked 32 p × Holds 32 p address × (rows p ≡ Some row) × ((q : AddressPrefix) → IsMasked 32 q → Holds 32 q address → p.length < q.length → rows q ≡ None)
 
 abbrev pub TheLongestMatchIsDecided : Type 0
 TheLongestMatchIsDecided = (rows : Rows Interior) (address : ℕ) → IsLongestMatch rows address (longest_match rows address)

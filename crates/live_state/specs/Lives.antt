@@ -4,7 +4,7 @@
 use Rattle.std.specs.Prelude.{◌≡◌, ℕ, ◌+◌, ◌==◌, Bool, true, false, if◌then◌else◌, List, [], ◌∷◌, Option, Some, None}
 use Rattle.std.specs.FinMap as tables
 use Rattle.std.specs.FinMap.{FinMap}
-use Rattle.addr4.specs.Prefixes.{Network, prefix_cmp}
+use Rattle.addr4.specs.Prefixes.{AddressPrefix, prefix_cmp}
 use Rattle.bgp_attr.specs.declared.attrs.Attrs.{Attrs}
 use Rattle.bgp_wire.specs.declared.message.Message.{Message}
 use Rattle.bgp_wire.specs.declared.message.Message.TheVariants as messages
@@ -45,11 +45,11 @@ first_live = record { declared = no_declaration; routes = λ k. tables.empty; ru
 
 -- ---- the routes of peers
 -- with this route at a prefix, in the place of the one that stood there, or with none (RFC 4271, section 3.1)
-abbrev pub with_route : Routes → Network → Option Attrs → Routes
+abbrev pub with_route : Routes → AddressPrefix → Option Attrs → Routes
 with_route routes p None = tables.remove routes p
 with_route routes p (Some attrs) = tables.insert routes p attrs
 
-abbrev pub routes_after : Routes → List (Network × Option Attrs) → Routes
+abbrev pub routes_after : Routes → List (AddressPrefix × Option Attrs) → Routes
 routes_after routes [] = routes
 routes_after routes (c ∷ cs) = routes_after (with_route routes c.0 c.1) cs
 
@@ -62,7 +62,7 @@ abbrev pub ended : LiveState → ℕ → LiveState
 ended l k = record l { declared = without_session l.declared k; routes = with_routes l.routes k tables.empty }
 
 -- these changes are made to the routes of a peer
-abbrev pub live_fed : LiveState → ℕ → List (Network × Option Attrs) → LiveState
+abbrev pub live_fed : LiveState → ℕ → List (AddressPrefix × Option Attrs) → LiveState
 live_fed l k changes = record l { routes = with_routes l.routes k (routes_after (l.routes k) changes) }
 
 -- a message came from a peer that is up. A ROUTE-REFRESH changes no route (RFC 2918)

@@ -1,7 +1,7 @@
 -- What a peer says: the message that octets are, what an UPDATE does to its routes, and which messages end the session (RFC 4271,
 -- sections 3.1, 4 and 6; and, where the profile says so, RFC 6793 and RFC 7606).
 use Rattle.std.specs.Prelude.{ℕ, ◌==◌, ◌||◌, Bool, true, false, not, List, ◌++◌, map, filter, slice_index, Option, None, is_some}
-use Rattle.addr4.specs.Prefixes.{Network}
+use Rattle.addr4.specs.Prefixes.{AddressPrefix}
 use Rattle.bgp_attr.specs.Hosts.{is_host_prefix}
 use Rattle.bgp_attr.specs.declared.attrs.Attrs.{Attrs}
 use Rattle.bgp_attr.specs.declared.speaker.Profile.{Profile}
@@ -19,15 +19,15 @@ Says profile p octets message = Answers profile (not p.words.internal) octets me
 
 -- ---- what an UPDATE does
 -- an announced prefix with its attributes
-abbrev pub announced_with : Option Attrs → Network → Network × Option Attrs
+abbrev pub announced_with : Option Attrs → AddressPrefix → AddressPrefix × Option Attrs
 announced_with attrs p = (p, attrs)
 
-abbrev pub withdrawn_from : Network → Network × Option Attrs
+abbrev pub withdrawn_from : AddressPrefix → AddressPrefix × Option Attrs
 withdrawn_from p = (p, None)
 
 -- What an UPDATE does, prefix by prefix (section 3.1): first it withdraws the withdrawn prefixes that it doesn't announce, then
 -- it announces those of hosts (none covered by 224.0.0.0/3).
-abbrev pub changes_of : Update → List (Network × Option Attrs)
+abbrev pub changes_of : Update → List (AddressPrefix × Option Attrs)
 changes_of u = map withdrawn_from (without u.announced u.withdrawn) ++ map (announced_with u.attrs) (filter is_host_prefix u.announced)
 
 -- ---- the end of a session

@@ -2,7 +2,7 @@
 -- is named on it then. It speaks of what a peer announced and of what another one gets of it, whatever filters and rules lie between.
 use Rattle.std.specs.Prelude.{◌≡◌, ◌≢◌, ◌&&◌, ℕ, Bool, true, false, ◌∷◌, Option, Some, None, unwrap_or}
 use Rattle.std.specs.FinMap as tables
-use Rattle.addr4.specs.Prefixes.{Network}
+use Rattle.addr4.specs.Prefixes.{AddressPrefix}
 use Rattle.bgp_attr.specs.declared.attrs.Attrs.{Attrs}
 use Rattle.bgp_attr.specs.declared.route.Route.{Route}
 use Rattle.bgp_attr.specs.declared.speaker.Speaker.{Speaker}
@@ -15,7 +15,7 @@ use Rattle.live_state.specs.Lives.{LiveState}
 use Rattle.live_state.specs.Decided.{best_of, sent_rows}
 
 -- The neighbour is a declared peer, and these are the attributes with which it announced the prefix, still live.
-pub record IsReceivedFrom (l : LiveState) (from : Neighbour) (p : Network) (attrs : Attrs) : Type 0 where
+pub record IsReceivedFrom (l : LiveState) (from : Neighbour) (p : AddressPrefix) (attrs : Attrs) : Type 0 where
   pub peer : DeclaredPeer
   pub there : peer_at from.number l.declared.peers ≡ Some peer
   pub words : peer.words ≡ from
@@ -50,7 +50,7 @@ pub record IsPassedTo (me : Speaker) (to : Neighbour) (row : Route) (sent : Attr
   pub elsewhere : stays_inside row.from to ≡ false → sent.reflection ≡ not_reflected
 
 -- What a peer gets at a prefix is the best route there, as the peer that it is from announced it, passed on.
-pub record IsBestAsSent (l : LiveState) (me : Speaker) (to : Neighbour) (p : Network) (sent : Attrs) : Type 0 where
+pub record IsBestAsSent (l : LiveState) (me : Speaker) (to : Neighbour) (p : AddressPrefix) (sent : Attrs) : Type 0 where
   pub row : Route
   pub best : best_of l p ≡ Some row
   pub received : (from : Neighbour) → row.from ≡ Some from → IsReceivedFrom l from p row.attrs
@@ -59,6 +59,6 @@ pub record IsBestAsSent (l : LiveState) (me : Speaker) (to : Neighbour) (p : Net
 -- So it is of everything that the decided state has for a declared peer.
 abbrev pub ReflectionIsMarked : Type 0
 ReflectionIsMarked =
-    (l : LiveState) (j : ℕ) (me : Speaker) (to : DeclaredPeer) (p : Network) (sent : Attrs)
+    (l : LiveState) (j : ℕ) (me : Speaker) (to : DeclaredPeer) (p : AddressPrefix) (sent : Attrs)
     → IsDeclaration l.declared → l.declared.speaker ≡ Some me → peer_at j l.declared.peers ≡ Some to
     → sent_rows l.declared.profile me to.words (l.outgoing j) (best_of l) p ≡ Some sent → IsBestAsSent l me to.words p sent

@@ -1,6 +1,6 @@
 -- What a peer asks for by a ROUTE-REFRESH, and what it is told then (RFC 2918).
 use Rattle.std.specs.Prelude.{◌≡◌, ℕ, Bool, true, List, Contains, Some}
-use Rattle.addr4.specs.Prefixes.{Network}
+use Rattle.addr4.specs.Prefixes.{AddressPrefix}
 use Rattle.bgp_attr.specs.declared.attrs.Attrs.{Attrs}
 use Rattle.bgp_attr.specs.declared.speaker.Profile.{Profile}
 use Rattle.bgp_wire.specs.declared.message.RouteRefresh.{RouteRefresh}
@@ -28,7 +28,7 @@ pub record AsksAgain (d : Declaration) (event : Event) (k : ℕ) (p : DeclaredPe
 
 -- One of these lines is an UPDATE to peer j, which is external or internal, that announces the prefix with these attributes; the peer reads
 -- it as that, and as nothing else (RFC 4271, section 4.3).
-pub record IsAnnounced (profile : Profile) (external : Bool) (j : ℕ) (lines : List Line) (p : Network) (attrs : Attrs) : Type 0 where
+pub record IsAnnounced (profile : Profile) (external : Bool) (j : ℕ) (lines : List Line) (p : AddressPrefix) (attrs : Attrs) : Type 0 where
   pub octets : List ℕ
   pub among : Contains lines (Out j octets)
   pub reads : IsReadAs profile external octets (announcement p attrs)

@@ -3,7 +3,7 @@ use Rattle.std.proofs.Common.{◌≡◌, ℕ, ◌+◌, cond, zero, suc, List, []
 use Rattle.std.specs.Ordering.{eq_by_cmp}
 use Rattle.std.specs.FinMap as tables
 use Rattle.std.specs.FinMap.{FinMap, get-entries, len-entries, len-insert, empty_of_len, find}
-use Rattle.addr4.specs.Prefixes.{Network, prefix_cmp}
+use Rattle.addr4.specs.Prefixes.{AddressPrefix, prefix_cmp}
 use Rattle.addr4.proofs.PrefixOrder.{prefixes_total, by_prefix, itself}
 use Rattle.link_change.specs.Rows.{Rows, with_row}
 use Rattle.link_change.proofs.RowLemmas.{same_function, rows_inserted, rows_removed, with_row_here}
@@ -15,21 +15,21 @@ use Rattle.loss_chain.specs.Laws.{Counts}
 use Rattle.loss_chain.proofs.TurnLemmas.{one_less}
 
 module _ {R : Type 0} where
-  first_of : (n : ℕ) (es : List (Network × R)) → length es ≡ n + 1 → (e : Network × R) × (find prefix_cmp e.0 es ≡ Some e.1)
+  first_of : (n : ℕ) (es : List (AddressPrefix × R)) → length es ≡ n + 1 → (e : AddressPrefix × R) × (find prefix_cmp e.0 es ≡ Some e.1)
   first_of n [] is = absurd (omega (arith, is))
   first_of n (e ∷ es) is = (e, ap (λ b. cond b (Some e.1) (find prefix_cmp e.0 es)) (itself e.0))
 
   -- a table that isn't empty has a row
-  a_row : (t : FinMap prefix_cmp R) (n : ℕ) → tables.len t ≡ n + 1 → (e : Network × R) × (tables.get t e.0 ≡ Some e.1)
+  a_row : (t : FinMap prefix_cmp R) (n : ℕ) → tables.len t ≡ n + 1 → (e : AddressPrefix × R) × (tables.get t e.0 ≡ Some e.1)
   a_row t n is =
       let first = first_of n (tables.entries t) (sym (len-entries t) ∙ is) in
       (first.0, get-entries t first.0.0 ∙ first.1)
 
-  one_more : (t : FinMap prefix_cmp R) (p : Network) (row : R) → tables.get t p ≡ None → tables.len (tables.insert t p row) ≡ tables.len t + 1
+  one_more : (t : FinMap prefix_cmp R) (p : AddressPrefix) (row : R) → tables.get t p ≡ None → tables.len (tables.insert t p row) ≡ tables.len t + 1
   one_more t p row none = len-insert prefixes_total t p row ∙ ap (λ o. cond (is_some o) (tables.len t) (tables.len t + 1)) none
 
   -- a row that is taken out, put over the rest, gives all
-  put_back : (t : FinMap prefix_cmp R) (upper : Rows R) (p : Network) (row : R) → tables.get t p ≡ Some row → with_row (covered (tables.get (tables.remove t p)) upper) p (Some row) ≡ covered (tables.get t) upper
+  put_back : (t : FinMap prefix_cmp R) (upper : Rows R) (p : AddressPrefix) (row : R) → tables.get t p ≡ Some row → with_row (covered (tables.get (tables.remove t p)) upper) p (Some row) ≡ covered (tables.get t) upper
   put_back t upper p row at = same_function _ _ (λ q.
       ap (λ (r : Rows R). cond (eq_by_cmp prefix_cmp q p) (Some row) (row_over (r q) (upper q))) (rows_removed t p)
       ∙ by_prefix q p (λ b. cond b (Some row) (row_over (cond b None (tables.get t q)) (upper q)) ≡ row_over (tables.get t q) (upper q))

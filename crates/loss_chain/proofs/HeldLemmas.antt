@@ -4,7 +4,7 @@ use Rattle.std.specs.List.{AllByRecursion, Contains}
 use Rattle.std.proofs.lemmas.List.Elements.{Contains-append_right}
 use Rattle.std.specs.FinMap as tables
 use Rattle.std.specs.FinMap.{FinMap}
-use Rattle.addr4.specs.Prefixes.{Network, prefix_cmp}
+use Rattle.addr4.specs.Prefixes.{AddressPrefix, prefix_cmp}
 use Rattle.loss_chain.specs.Lost.{Lost}
 use Rattle.loss_chain.specs.Covering.{row_over}
 use Rattle.loss_chain.specs.Tables.{rows_below}
@@ -25,7 +25,7 @@ live_where_none_is_lost {R} live (d ∷ ds) q rising none =
     later n false apart held = sym (ap (λ (b : Bool). has_row (cond b (Some d.rows) (table_of n ds)) q) apart) ∙ held
 
 module _ {R : Type 0} where
-  pub no_stage_has : (t : Option (FinMap prefix_cmp R)) (q : Network) → is_some t ≡ false → has_row t q ≡ false
+  pub no_stage_has : (t : Option (FinMap prefix_cmp R)) (q : AddressPrefix) → is_some t ≡ false → has_row t q ≡ false
   no_stage_has t q none = ap (λ (o : Option (FinMap prefix_cmp R)). has_row o q) (no_table t none)
 
   pub no_stage_has_over : (t : Option (FinMap prefix_cmp R)) (a : ℕ) → is_some t ≡ false → has_over t a ≡ false

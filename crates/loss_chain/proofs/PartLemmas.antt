@@ -2,7 +2,7 @@
 use Rattle.std.proofs.Common.{◌≡◌, ℕ, ◌<◌, ◌≤◌, ◌+◌, List, [], ◌∷◌, ◌++◌, Option, Some, None, refl, sym, ap, subst, ◌∙◌, arith}
 use Rattle.std.specs.FinMap as map
 use Rattle.std.specs.FinMap.{FinMap}
-use Rattle.addr4.specs.Prefixes.{Network, prefix_cmp}
+use Rattle.addr4.specs.Prefixes.{AddressPrefix, prefix_cmp}
 use Rattle.link_change.specs.Rows.{Rows, no_rows}
 use Rattle.link_change.proofs.RowLemmas.{empty_rows}
 use Rattle.link_change.specs.Changes.{IsSent}
@@ -90,7 +90,7 @@ module _ {R : Type 0} (value : R → Value) (o : Owner) where
       let P : Rows R → Type 0 = λ r. Leads (links_over value o others out t.live (d ∷ t.deletions)) entries (Below others out (covered (map.get d.rows) r) link t'.live t'.deletions) in
       subst P (sym same) framed
 
-  pub passes_quietly : (out : Link) (d : Lost R) (t t' : Tables R) (before now : Journaled) (p : Network) (way : List Link)
+  pub passes_quietly : (out : Link) (d : Lost R) (t t' : Tables R) (before now : Journaled) (p : AddressPrefix) (way : List Link)
       → IsSound out (lowered d t) → IsSound (lost_link o d.number) t' → lowest_rows t' ≡ lowest_rows t
       → Adds (FallsOver value o (lost_link o d.number) t t' p way None) before now
       → Adds (FallsOver value o out (lowered d t) (lowered d t') p (way ++ out ∷ []) None) before now
@@ -178,7 +178,7 @@ module _ {R : Type 0} (value : R → Value) (o : Owner) where
 
 module _ {R : Type 0} (value : R → Value) (one : (a b : R) → value a ≡ value b → a ≡ b) where
   -- the row at the top is set
-  pub top_falls : (o : Owner) (out : Link) (live live' : FinMap prefix_cmp R) (p : Network) (sent : Option (Change R)) (before now : Journaled) → IsSent (map.get live) (map.get live') p sent → now ≡ with_entries before (sent_entries value out sent)
+  pub top_falls : (o : Owner) (out : Link) (live live' : FinMap prefix_cmp R) (p : AddressPrefix) (sent : Option (Change R)) (before now : Journaled) → IsSent (map.get live) (map.get live') p sent → now ≡ with_entries before (sent_entries value out sent)
       → Adds (FallsOver value o out (record { live = live; deletions = [] }) (record { live = live'; deletions = [] }) p (out ∷ []) sent) before now
   top_falls o out live live' p sent before now is now_is =
       (sent_entries value out sent, now_is, record { leads = λ others clear. leads_over value one others out (map.get live) (map.get live') p sent is; down = goes_out value out (map.get live) (map.get live') p sent is })
@@ -195,7 +195,7 @@ module _ {R : Type 0} (value : R → Value) (one : (a b : R) → value a ≡ val
   }
 
   -- the entries of the stages above, and then what this stage sends
-  pub passes_down : (o : Owner) (out : Link) (d d' : Lost R) (t t' : Tables R) (before mid now : Journaled) (p : Network) (way : List Link) (change : Change R) (sent : Option (Change R))
+  pub passes_down : (o : Owner) (out : Link) (d d' : Lost R) (t t' : Tables R) (before mid now : Journaled) (p : AddressPrefix) (way : List Link) (change : Change R) (sent : Option (Change R))
       → IsSound out (lowered d t) → IsSound (lost_link o d.number) t' → d'.number ≡ d.number
       → Adds (FallsOver value o (lost_link o d.number) t t' p way (Some change)) before mid
       → IsSent (lowest_rows (lowered d t)) (lowest_rows (lowered d' t')) p sent → now ≡ with_entries mid (sent_entries value out sent)

@@ -2,7 +2,7 @@
 use Rattle.std.proofs.Common.{◌≡◌, ℕ, ◌+◌, ◌||◌, ◌++◌, nat_lt, length-append, ◌<◌, ◌≤◌, Bool, true, false, cond, not, List, [], ◌∷◌, map, length, Option, Some, None, is_some, nat_eq, refl, sym, ap, ◌∙◌, arith, suc}
 use Rattle.std.specs.List.{AllByRecursion, filter}
 use Rattle.std.specs.FinMap.{FinMap}
-use Rattle.addr4.specs.Prefixes.{Network, prefix_cmp}
+use Rattle.addr4.specs.Prefixes.{AddressPrefix, prefix_cmp}
 use Rattle.link_change.specs.Rows.{is_empty_map}
 use Rattle.loss_chain.specs.Lost.{Lost}
 use Rattle.journal_text.specs.declared.link.Task.{Task}
@@ -50,10 +50,10 @@ module _ {R : Type 0} where
   none_later n [] all = refl
   none_later n (d ∷ ds) all = ap (λ (b : Bool). cond b (Some d.rows) (table_of n ds)) (other_by d.number n (λ same. let lt : n < d.number = all.0 in omega arith)) ∙ none_later n ds all.1
 
-  pub swept_number : (n : ℕ) (p : Network) (d : Lost R) → (swept_one n p d).number ≡ d.number
+  pub swept_number : (n : ℕ) (p : AddressPrefix) (d : Lost R) → (swept_one n p d).number ≡ d.number
   swept_number n p d = elim (nat_eq d.number n) as (λ b. (cond b (without p d) d).number ≡ d.number) [ true ↦ refl | false ↦ refl ]
 
-  pub short_filter : (n : ℕ) (p : Network) (ds : List (Lost R)) (t : FinMap prefix_cmp R) → table_of n ds ≡ Some t → table_of n (filter is_full (map (swept_one n p) ds)) ≡ None
+  pub short_filter : (n : ℕ) (p : AddressPrefix) (ds : List (Lost R)) (t : FinMap prefix_cmp R) → table_of n ds ≡ Some t → table_of n (filter is_full (map (swept_one n p) ds)) ≡ None
       → length (filter is_full (map (swept_one n p) ds)) < length ds
   short_filter n p [] t there gone = absurd (cc)
   short_filter n p (d ∷ ds) t there gone = by_test (nat_eq d.number n) refl (is_full (swept_one n p d)) refl (short_filter n p ds t)
@@ -127,7 +127,7 @@ module _ {R : Type 0} where
   pub shorter_none : (n : ℕ) (ds : List (Lost R)) → Shorter n ds ds
   shorter_none n ds = record { short = omega arith; gone = λ t there none. let contra : Some t ≡ None = sym there ∙ none in absurd (cc) }
 
-  pub shorter_more : (n : ℕ) (p : Network) (ds ds' : List (Lost R)) → Shorter n (filter is_full (map (swept_one n p) ds)) ds' → Shorter n ds ds'
+  pub shorter_more : (n : ℕ) (p : AddressPrefix) (ds ds' : List (Lost R)) → Shorter n (filter is_full (map (swept_one n p) ds)) ds' → Shorter n ds ds'
   shorter_more n p ds ds' r = record {
     short = let a = r.short in let b = few_left (swept_one n p) is_full ds in omega (arith, a, b);
     gone = λ t there none. by_table t there none (table_of n (filter is_full (map (swept_one n p) ds))) refl;

@@ -4,7 +4,7 @@ use Rattle.std.specs.Prelude.{map, filter}
 use Rattle.std.proofs.lemmas.Bool.Decides.{nat_tests}
 use Rattle.std.specs.FinMap as tables
 use Rattle.std.specs.FinMap.{FinMap, len-remove, len-empty, empty_of_len, get-empty}
-use Rattle.addr4.specs.Prefixes.{Network, prefix_cmp}
+use Rattle.addr4.specs.Prefixes.{AddressPrefix, prefix_cmp}
 use Rattle.addr4.proofs.PrefixOrder.{prefixes_total}
 use Rattle.link_change.specs.Rows.{is_empty_map}
 use Rattle.loss_chain.specs.Lost.{Lost}
@@ -17,19 +17,19 @@ use Rattle.loss_chain.specs.Laws.{TurnsTakeRows, WeldsKeepRows, LossesKeepRows}
 module _ {R : Type 0} where
   -- ---- a turn
 
-  some_counted : (t : FinMap prefix_cmp R) (p : Network) (row : R) (n : ℕ) → tables.len t ≡ n → tables.get t p ≡ Some row → 0 < n
+  some_counted : (t : FinMap prefix_cmp R) (p : AddressPrefix) (row : R) (n : ℕ) → tables.len t ≡ n → tables.get t p ≡ Some row → 0 < n
   some_counted t p row zero counts at =
       let none : tables.get t p ≡ None = ap (λ (m : FinMap prefix_cmp R). tables.get m p) (empty_of_len t counts) ∙ get-empty prefix_cmp p in
       absurd (let clash : None ≡ Some row = sym none ∙ at in cc)
   some_counted t p row (suc n) counts at = omega arith
 
-  pub one_less : (t : FinMap prefix_cmp R) (p : Network) (row : R) → tables.get t p ≡ Some row → tables.len (tables.remove t p) + 1 ≡ tables.len t
+  pub one_less : (t : FinMap prefix_cmp R) (p : AddressPrefix) (row : R) → tables.get t p ≡ Some row → tables.len (tables.remove t p) + 1 ≡ tables.len t
   one_less t p row at =
       let e : tables.len (tables.remove t p) ≡ tables.len t - 1 = len-remove prefixes_total t p ∙ ap (λ o. cond (is_some o) (tables.len t - 1) (tables.len t)) at in
       let some = some_counted t p row (tables.len t) refl at in
       omega (arith, e, some)
 
-  pub swept_rows : (n : ℕ) (p : Network) (table : FinMap prefix_cmp R) (row : R) (ds : List (Lost R)) → AreRising ds → table_of n ds ≡ Some table → tables.get table p ≡ Some row → lost_count (map (swept_one n p) ds) + 1 ≡ lost_count ds
+  pub swept_rows : (n : ℕ) (p : AddressPrefix) (table : FinMap prefix_cmp R) (row : R) (ds : List (Lost R)) → AreRising ds → table_of n ds ≡ Some table → tables.get table p ≡ Some row → lost_count (map (swept_one n p) ds) + 1 ≡ lost_count ds
   swept_rows n p table row [] rising stands at = absurd (let clash : None ≡ Some table = stands in cc)
   swept_rows n p table row (d ∷ ds) rising stands at =
       elim (d.number == n) as (λ b. (d.number == n) ≡ b → cond b (Some d.rows) (table_of n ds) ≡ Some table → tables.len (cond b (without p d) d).rows + lost_count (map (swept_one n p) ds) + 1 ≡ lost_count (d ∷ ds)) [

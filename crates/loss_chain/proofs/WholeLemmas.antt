@@ -6,7 +6,7 @@ use Rattle.std.specs.Option.{option_map}
 use Rattle.std.specs.List.{AllByRecursion}
 use Rattle.std.specs.FinMap as map
 use Rattle.std.specs.FinMap.{FinMap}
-use Rattle.addr4.specs.Prefixes.{Network, prefix_cmp}
+use Rattle.addr4.specs.Prefixes.{AddressPrefix, prefix_cmp}
 use Rattle.rib_route.specs.declared.Proto.{Proto}
 use Rattle.link_change.specs.declared.change.Change.{Change}
 use Rattle.link_change.specs.declared.turn.Turn.{Turn}
@@ -161,7 +161,7 @@ module _ {R : Type 0} (value : R → Value) where
       let Q : Links Value → Type 0 = λ l. Leads (beside_chain value o others old) entries l in
       subst Q (beside_is o others new) (subst P (beside_is o others old) lead)
 
-  pub falls_chain : (o : Owner) (old new : Tables R) (p : Network) (way : List Link) (sent : Option (Change R)) (before now : Journaled)
+  pub falls_chain : (o : Owner) (old new : Tables R) (p : AddressPrefix) (way : List Link) (sent : Option (Change R)) (before now : Journaled)
       → Adds (FallsOver value o (lowest_link o) old new p way sent) before now → Adds (FallsTables value o old new p way sent) before now
   falls_chain o old new p way sent before now (entries, now_is, fall) = (entries, now_is, record { leads = leads_chain o old new entries fall.leads; down = fall.down })
 

@@ -5,7 +5,7 @@ use Rattle.std.proofs.lemmas.Bool.{eq-eqb}
 use Rattle.std.proofs.lemmas.Bool.Decides.{nat_tests}
 use Rattle.std.specs.FinMap as tables
 use Rattle.std.specs.FinMap.{FinMap, len-empty}
-use Rattle.addr4.specs.Prefixes.{Network, prefix_cmp}
+use Rattle.addr4.specs.Prefixes.{AddressPrefix, prefix_cmp}
 use Rattle.link_change.specs.Rows.{Rows, is_empty_map}
 use Rattle.link_change.specs.Changes.{IsSent}
 use Rattle.link_change.specs.declared.change.Change.{Change}
@@ -73,11 +73,11 @@ module _ {R : Type 0} where
 
   -- ---- turns
 
-  swept_other : (number : ℕ) (p : Network) (d : Lost R) → d.number ≢ number → swept_one number p d ≡ d
+  swept_other : (number : ℕ) (p : AddressPrefix) (d : Lost R) → d.number ≢ number → swept_one number p d ≡ d
   swept_other number p d other = ap (λ (b : Bool). cond b (without p d) d) (other_number d.number number other)
 
   -- the losses above are greater
-  pub swept_above : (number : ℕ) (p : Network) (low : ℕ) (ds : List (Lost R)) → number < low → IsRisingFrom low ds → map (swept_one number p) ds ≡ ds
+  pub swept_above : (number : ℕ) (p : AddressPrefix) (low : ℕ) (ds : List (Lost R)) → number < low → IsRisingFrom low ds → map (swept_one number p) ds ≡ ds
   swept_above number p low [] h rising = refl
   swept_above number p low (d ∷ ds) h rising =
       let step = rising.0 in
@@ -96,10 +96,10 @@ module _ {R : Type 0} where
   over_none None o e = (refl, e)
   over_none (Some v) o e = absurd (cc)
 
-  kept : (p : Network) (d : Lost R) → tables.get d.rows p ≡ None → without p d ≡ d
+  kept : (p : AddressPrefix) (d : Lost R) → tables.get d.rows p ≡ None → without p d ≡ d
   kept p d none = same_lost d (without p d) p refl refl none
 
-  none_taken : (live : FinMap prefix_cmp R) (ds : List (Lost R)) (p : Network) → rows_below live ds p ≡ None → map (without p) ds ≡ ds
+  none_taken : (live : FinMap prefix_cmp R) (ds : List (Lost R)) (p : AddressPrefix) → rows_below live ds p ≡ None → map (without p) ds ≡ ds
   none_taken live [] p none = refl
   none_taken live (d ∷ ds) p none =
       let both = over_none (tables.get d.rows p) (rows_below live ds p) none in
@@ -107,7 +107,7 @@ module _ {R : Type 0} where
       let rest = none_taken live ds p both.1 in
       λ i. first i ∷ rest i
 
-  one_taken : (live : FinMap prefix_cmp R) (ds : List (Lost R)) (p : Network) → AreAllApart live ds → NoneEmpty ds → OneEmptyAtMost (map (without p) ds)
+  one_taken : (live : FinMap prefix_cmp R) (ds : List (Lost R)) (p : AddressPrefix) → AreAllApart live ds → NoneEmpty ds → OneEmptyAtMost (map (without p) ds)
   one_taken live [] p apart full = tt
   one_taken live (d ∷ ds) p apart full =
       elim (tables.get d.rows p) as (λ o. tables.get d.rows p ≡ o → OneEmptyAtMost (map (without p) (d ∷ ds))) [
@@ -116,12 +116,12 @@ module _ {R : Type 0} where
       ] refl
 
   -- an announcement empties one table at most
-  pub one_fed : (live : FinMap prefix_cmp R) (ds : List (Lost R)) (p : Network) (row : Option R) → AreAllApart live ds → NoneEmpty ds → OneEmptyAtMost (deletions_after ds p row)
+  pub one_fed : (live : FinMap prefix_cmp R) (ds : List (Lost R)) (p : AddressPrefix) (row : Option R) → AreAllApart live ds → NoneEmpty ds → OneEmptyAtMost (deletions_after ds p row)
   one_fed live ds p None apart full = none_is_one ds full
   one_fed live ds p (Some a) apart full = one_taken live ds p apart full
 
   -- so does a turn
-  pub one_swept : (number : ℕ) (p : Network) (low : ℕ) (ds : List (Lost R)) → IsRisingFrom low ds → NoneEmpty ds → OneEmptyAtMost (map (swept_one number p) ds)
+  pub one_swept : (number : ℕ) (p : AddressPrefix) (low : ℕ) (ds : List (Lost R)) → IsRisingFrom low ds → NoneEmpty ds → OneEmptyAtMost (map (swept_one number p) ds)
   one_swept number p low [] rising full = tt
   one_swept number p low (d ∷ ds) rising full =
       elim (d.number == number) as (λ b. (d.number == number) ≡ b → OneEmptyAtMost (map (swept_one number p) (d ∷ ds))) [
@@ -250,7 +250,7 @@ module _ {R : Type 0} (value : R → Value) (one : (a b : R) → value a ≡ val
   -- one whose change this stage passes
   pub sweeps_on : (out : Link) (number : ℕ) (d after : Lost R) (t new : Tables R) (change : Change R) (sent : Option (Change R)) (before mid now : Journaled) → d.number ≢ number
       → IsSound out (lowered d t) → IsSound (lost_link o d.number) new → after.number ≡ d.number → after.rows ≡ tables.remove d.rows change.prefix
-      → ((p : Network) → IsSent (lowest_rows t) (lowest_rows new) p (Some change) → IsSent (lowest_rows (lowered d t)) (lowest_rows (lowered after new)) p sent)
+      → ((p : AddressPrefix) → IsSent (lowest_rows t) (lowest_rows new) p (Some change) → IsSent (lowest_rows (lowered d t)) (lowest_rows (lowered after new)) p sent)
       → IfSome sent (λ next. next.after ≡ change.after)
       → Adds (SweepsOver value o (lost_link o d.number) t new number (Some change)) before mid → now ≡ with_entries mid (sent_entries value out sent)
       → Adds (SweepsOver value o out (lowered d t) (lowered after new) number sent) before now

@@ -2,7 +2,7 @@
 use Rattle.std.specs.Prelude.{◌≡◌, Option, Some, None, IsSome}
 use Rattle.std.specs.FinMap as map
 use Rattle.std.specs.FinMap.{FinMap}
-use Rattle.addr4.specs.Prefixes.{Network, prefix_cmp, ComesBefore}
+use Rattle.addr4.specs.Prefixes.{AddressPrefix, prefix_cmp, ComesBefore}
 use Rattle.link_change.specs.Rows.{Rows}
 use Rattle.link_change.specs.Changes.{IsSent}
 use Rattle.link_change.specs.declared.change.Change.{Change}
@@ -18,24 +18,24 @@ module _ {R : Type 0} where
 
   -- no prefix has a row in both
   abbrev pub AreApart : Rows R → Rows R → Type 0
-  AreApart table upper = (q : Network) → IsSome (table q) → upper q ≡ None
+  AreApart table upper = (q : AddressPrefix) → IsSome (table q) → upper q ≡ None
 
   -- where the change that comes in leads from the rows above to new ones,
   -- what goes out leads from the rows below to the new ones there
   abbrev pub PassesOn : FinMap prefix_cmp R → FinMap prefix_cmp R → Change R → Option (Change R) → Type 0
   PassesOn old new change result =
-      (upper now : Rows R) (p : Network) → IsSent upper now p (Some change)
+      (upper now : Rows R) (p : AddressPrefix) → IsSent upper now p (Some change)
       → IsSent (covered (map.get old) upper) (covered (map.get new) now) p result
 
   -- where the old table is apart from the rows above, the new one is from those after the change
   abbrev pub StaysApart : FinMap prefix_cmp R → FinMap prefix_cmp R → Change R → Type 0
   StaysApart old new change =
-      (upper now : Rows R) (p : Network) → IsSent upper now p (Some change)
+      (upper now : Rows R) (p : AddressPrefix) → IsSent upper now p (Some change)
       → AreApart (map.get old) upper → AreApart (map.get new) now
 
   -- the row stands at the prefix, and no lesser prefix has one
-  abbrev pub IsLeastRow : Rows R → Network → Option R → Type 0
-  IsLeastRow rows p row = (rows p ≡ row) × IsSome row × ((q : Network) → ComesBefore q p → rows q ≡ None)
+  abbrev pub IsLeastRow : Rows R → AddressPrefix → Option R → Type 0
+  IsLeastRow rows p row = (rows p ≡ row) × IsSome row × ((q : AddressPrefix) → ComesBefore q p → rows q ≡ None)
 
   -- over any rows above that are apart from the old table, and then from the new one,
   -- what goes out leads from the rows below to the new ones there

@@ -1,6 +1,6 @@
 -- What one change causes: messages at one prefix, down the links of the chain.
 use Rattle.std.specs.Prelude.{ℕ, ◌==◌, if◌then◌else◌, List, [], ◌∷◌, ◌++◌, Option}
-use Rattle.addr4.specs.Prefixes.{Network}
+use Rattle.addr4.specs.Prefixes.{AddressPrefix}
 use Rattle.link_change.specs.declared.change.Change.{Change}
 use Rattle.loss_chain.specs.Lost.{Lost}
 use Rattle.journal_text.specs.declared.link.Link.{Link}
@@ -27,6 +27,6 @@ abbrev pub LeadsTables : {R : Type 0} → (R → Value) → Owner → Tables R �
 LeadsTables value o old entries new = (others : Links Value) → Leads (beside_chain value o others old) entries (beside_chain value o others new)
 
 -- a fall at a prefix down this way
-pub record FallsTables {R : Type 0} (value : R → Value) (o : Owner) (old new : Tables R) (p : Network) (way : List Link) (sent : Option (Change R)) (entries : List (Entry Value)) : Type 0 where
+pub record FallsTables {R : Type 0} (value : R → Value) (o : Owner) (old new : Tables R) (p : AddressPrefix) (way : List Link) (sent : Option (Change R)) (entries : List (Entry Value)) : Type 0 where
   pub leads : LeadsTables value o old entries new
   pub down : GoesDown p way sent entries

@@ -2,11 +2,11 @@
 use Rattle.std.specs.Prelude.{ℕ, zero, suc, ◌||◌, Bool, false, is_some, Option, Some, None}
 use Rattle.std.specs.FinMap as map
 use Rattle.std.specs.FinMap.{FinMap}
-use Rattle.addr4.specs.Prefixes.{Network, prefix_cmp, block}
+use Rattle.addr4.specs.Prefixes.{AddressPrefix, prefix_cmp, block}
 
 module _ {R : Type 0} where
   -- whether a table, if there is one, has a row at a prefix
-  abbrev pub has_row : Option (FinMap prefix_cmp R) → Network → Bool
+  abbrev pub has_row : Option (FinMap prefix_cmp R) → AddressPrefix → Bool
   has_row None q = false
   has_row (Some t) q = is_some (map.get t q)
 

@@ -3,7 +3,7 @@ use Rattle.std.specs.Prelude.{◌≡◌, ◌⊎◌, ℕ, ◌+◌, ◌≤◌, tru
 use Rattle.std.specs.List.{Contains, count_by}
 use Rattle.std.specs.FinMap as map
 use Rattle.std.specs.FinMap.{FinMap}
-use Rattle.addr4.specs.Prefixes.{Network, prefix_cmp}
+use Rattle.addr4.specs.Prefixes.{AddressPrefix, prefix_cmp}
 use Rattle.link_change.specs.Rows.{Rows, Candidates, with_rows}
 use Rattle.pass_core.specs.Passed.{is_beyond}
 use Rattle.loss_chain.specs.Lost.{Lost}
@@ -23,7 +23,7 @@ RowsAreCounted R = (t : Tables R) → IsLossChain t → Counts (lowest_rows t) (
 -- A turn of a deletion stage takes one row.
 abbrev pub TurnsTakeRows : Type 0 → Type 0
 TurnsTakeRows R =
-    (t : Tables R) (number : ℕ) (p : Network) (table : FinMap prefix_cmp R) (row : R) → IsLossChain t
+    (t : Tables R) (number : ℕ) (p : AddressPrefix) (table : FinMap prefix_cmp R) (row : R) → IsLossChain t
     → table_of number t.deletions ≡ Some table → map.get table p ≡ Some row
     → tables_count (swept_tables number p t) + 1 ≡ tables_count t
 
@@ -37,32 +37,32 @@ LossesKeepRows R = (number : ℕ) (t : Tables R) → tables_count (lost_tables n
 
 -- A chain begins without rows, live or lost.
 abbrev pub NoRowAtFirst : Type 0 → Type 0
-NoRowAtFirst R = (p : Network) (row : R) → IsRow no_tables p row → ⊥
+NoRowAtFirst R = (p : AddressPrefix) (row : R) → IsRow no_tables p row → ⊥
 
 -- A feed brings the row that is fed, at its prefix, and no other.
 abbrev pub FeedsBringOneRow : Type 0 → Type 0
 FeedsBringOneRow R =
-    (t : Tables R) (at : Network) (new : Option R) (p : Network) (row : R) → IsRow (fed_tables t at new) p row
+    (t : Tables R) (at : AddressPrefix) (new : Option R) (p : AddressPrefix) (row : R) → IsRow (fed_tables t at new) p row
     → IsRow t p row ⊎ ((p ≡ at) × (new ≡ Some row))
 
 -- Losses, welds and turns bring none.
 abbrev pub LossesBringNoRow : Type 0 → Type 0
-LossesBringNoRow R = (number : ℕ) (t : Tables R) (p : Network) (row : R) → IsRow (lost_tables number t) p row → IsRow t p row
+LossesBringNoRow R = (number : ℕ) (t : Tables R) (p : AddressPrefix) (row : R) → IsRow (lost_tables number t) p row → IsRow t p row
 
 abbrev pub WeldsBringNoRow : Type 0 → Type 0
-WeldsBringNoRow R = (t : Tables R) (p : Network) (row : R) → IsRow (welded_tables t) p row → IsRow t p row
+WeldsBringNoRow R = (t : Tables R) (p : AddressPrefix) (row : R) → IsRow (welded_tables t) p row → IsRow t p row
 
 abbrev pub TurnsBringNoRow : Type 0 → Type 0
-TurnsBringNoRow R = (number : ℕ) (at : Network) (t : Tables R) (p : Network) (row : R) → IsRow (swept_tables number at t) p row → IsRow t p row
+TurnsBringNoRow R = (number : ℕ) (at : AddressPrefix) (t : Tables R) (p : AddressPrefix) (row : R) → IsRow (swept_tables number at t) p row → IsRow t p row
 
 -- A row of the lowest link is one of the chain's.
 abbrev pub LowestRowsAreRows : Type 0 → Type 0
-LowestRowsAreRows R = (t : Tables R) (p : Network) (row : R) → lowest_rows t p ≡ Some row → IsRow t p row
+LowestRowsAreRows R = (t : Tables R) (p : AddressPrefix) (row : R) → lowest_rows t p ≡ Some row → IsRow t p row
 
 -- Where no lost table has a prefix, the row of the link below them is the live one.
 abbrev pub LiveWhereNoneIsLost : Type 0 → Type 0
 LiveWhereNoneIsLost R =
-    (live : FinMap prefix_cmp R) (ds : List (Lost R)) (q : Network) → AreRising ds → ((n : ℕ) → has_row (table_of n ds) q ≡ false)
+    (live : FinMap prefix_cmp R) (ds : List (Lost R)) (q : AddressPrefix) → AreRising ds → ((n : ℕ) → has_row (table_of n ds) q ≡ false)
     → rows_below live ds q ≡ map.get live q
 
 -- No table has no prefix that holds an address.
@@ -71,19 +71,19 @@ NoTableHoldsNothing R = (a : ℕ) → has_over {R = R} None a ≡ false
 
 -- ---- rows beyond a place
 -- These prefixes are as many as the rows, beyond each place as many as these numbers, and each candidate is one of them.
-pub record Lists (prefixes : List Network) (rows : ℕ) (beyond : Option Network → ℕ) (candidates : Candidates) : Type 0 where
+pub record Lists (prefixes : List AddressPrefix) (rows : ℕ) (beyond : Option AddressPrefix → ℕ) (candidates : Candidates) : Type 0 where
   pub all : length prefixes ≡ rows
-  pub counts : (place : Option Network) → count_by (is_beyond place) prefixes ≡ beyond place
-  pub stands : (q : Network) → candidates q ≡ true → Contains prefixes q
+  pub counts : (place : Option AddressPrefix) → count_by (is_beyond place) prefixes ≡ beyond place
+  pub stands : (q : AddressPrefix) → candidates q ≡ true → Contains prefixes q
 
 -- There are such prefixes of the rows of all tables of a chain, and of the lowest link: so these rows count what a walk over that
 -- link has yet to go to.
 abbrev pub RowsAreListed : Type 0 → Type 0
-RowsAreListed R = (t : Tables R) → (prefixes : List Network) × Lists prefixes (tables_count t) (λ place. tables_beyond place t) (with_rows (lowest_rows t))
+RowsAreListed R = (t : Tables R) → (prefixes : List AddressPrefix) × Lists prefixes (tables_count t) (λ place. tables_beyond place t) (with_rows (lowest_rows t))
 
 -- A turn of a deletion stage leaves no more of them beyond any place, nor does a weld.
 abbrev pub TurnsLeaveNoMore : Type 0 → Type 0
-TurnsLeaveNoMore R = (place : Option Network) (number : ℕ) (p : Network) (t : Tables R) → tables_beyond place (swept_tables number p t) ≤ tables_beyond place t
+TurnsLeaveNoMore R = (place : Option AddressPrefix) (number : ℕ) (p : AddressPrefix) (t : Tables R) → tables_beyond place (swept_tables number p t) ≤ tables_beyond place t
 
 abbrev pub WeldsLeaveNoMore : Type 0 → Type 0
-WeldsLeaveNoMore R = (place : Option Network) (t : Tables R) → tables_beyond place (welded_tables t) ≤ tables_beyond place t
+WeldsLeaveNoMore R = (place : Option AddressPrefix) (t : Tables R) → tables_beyond place (welded_tables t) ≤ tables_beyond place t

@@ -2,7 +2,7 @@
 use Rattle.std.specs.Prelude.{cond, ◌≡◌, ℕ, ◌+◌, ◌<◌, ◌≤◌, List, [], ◌∷◌, Option, Some, None, IfSome}
 use Rattle.std.specs.FinMap as map
 use Rattle.std.specs.FinMap.{FinMap}
-use Rattle.addr4.specs.Prefixes.{Network, prefix_cmp}
+use Rattle.addr4.specs.Prefixes.{AddressPrefix, prefix_cmp}
 use Rattle.link_change.specs.Rows.{is_empty_map}
 use Rattle.link_change.specs.Changes.{IsSent}
 use Rattle.link_change.specs.declared.change.Change.{Change}
@@ -55,13 +55,13 @@ LeadsOver value o out old entries new =
     → Leads (links_over value o others out old.live old.deletions) entries (links_over value o others out new.live new.deletions)
 
 -- a fall at a prefix down this way
-pub record FallsOver {R : Type 0} (value : R → Value) (o : Owner) (out : Link) (old new : Tables R) (p : Network) (way : List Link) (sent : Option (Change R)) (entries : List (Entry Value)) : Type 0 where
+pub record FallsOver {R : Type 0} (value : R → Value) (o : Owner) (out : Link) (old new : Tables R) (p : AddressPrefix) (way : List Link) (sent : Option (Change R)) (entries : List (Entry Value)) : Type 0 where
   pub leads : LeadsOver value o out old entries new
   pub down : GoesDown p way sent entries
 
 -- a turn of the stage of a loss, in a part
 pub record SweepsOver {R : Type 0} (value : R → Value) (o : Owner) (out : Link) (old new : Tables R) (number : ℕ) (sent : Option (Change R)) (entries : List (Entry Value)) : Type 0 where
-  pub prefix : Network
+  pub prefix : AddressPrefix
   pub row : R
   pub table : FinMap prefix_cmp R
   pub stands : table_of number old.deletions ≡ Some table

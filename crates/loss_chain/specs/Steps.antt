@@ -2,7 +2,7 @@
 use Rattle.std.specs.Prelude.{◌≡◌, ℕ, ◌==◌, ◌||◌, nat_lt, length, not, if◌then◌else◌, cond, List, [], ◌∷◌, ◌++◌, map, filter, Option, Some, None}
 use Rattle.std.specs.FinMap as tables
 use Rattle.std.specs.FinMap.{FinMap}
-use Rattle.addr4.specs.Prefixes.{Network, prefix_cmp}
+use Rattle.addr4.specs.Prefixes.{AddressPrefix, prefix_cmp}
 use Rattle.link_change.specs.Rows.{is_empty_map}
 use Rattle.link_change.specs.Changes.{IsSent}
 use Rattle.link_change.specs.declared.change.Change.{Change}
@@ -25,19 +25,19 @@ abbrev pub no_tables : {R : Type 0} → Tables R
 no_tables = record { live = tables.empty; deletions = [] }
 
 -- the live rows after one is set at a prefix, or taken away
-abbrev pub live_after : {R : Type 0} → FinMap prefix_cmp R → Network → Option R → FinMap prefix_cmp R
+abbrev pub live_after : {R : Type 0} → FinMap prefix_cmp R → AddressPrefix → Option R → FinMap prefix_cmp R
 live_after live p None = tables.remove live p
 live_after live p (Some row) = tables.insert live p row
 
-abbrev pub without : {R : Type 0} → Network → Lost R → Lost R
+abbrev pub without : {R : Type 0} → AddressPrefix → Lost R → Lost R
 without p d = record { number = d.number; rows = tables.remove d.rows p }
 
 -- a row that is set takes its prefix out of the lost tables
-abbrev pub deletions_after : {R : Type 0} → List (Lost R) → Network → Option R → List (Lost R)
+abbrev pub deletions_after : {R : Type 0} → List (Lost R) → AddressPrefix → Option R → List (Lost R)
 deletions_after ds p None = ds
 deletions_after ds p (Some row) = map (without p) ds
 
-abbrev pub fed_tables : {R : Type 0} → Tables R → Network → Option R → Tables R
+abbrev pub fed_tables : {R : Type 0} → Tables R → AddressPrefix → Option R → Tables R
 fed_tables t p row = record { live = live_after t.live p row; deletions = deletions_after t.deletions p row }
 
 -- the source is lost: its rows go to a stage of their own, if there are any
@@ -65,15 +65,15 @@ table_of number [] = None
 table_of number (d ∷ ds) = if d.number == number then Some d.rows else table_of number ds
 
 -- the row at a prefix leaves the lost table of a loss
-abbrev pub swept_one : {R : Type 0} → ℕ → Network → Lost R → Lost R
+abbrev pub swept_one : {R : Type 0} → ℕ → AddressPrefix → Lost R → Lost R
 swept_one number p d = if d.number == number then without p d else d
 
-abbrev pub swept_tables : {R : Type 0} → ℕ → Network → Tables R → Tables R
+abbrev pub swept_tables : {R : Type 0} → ℕ → AddressPrefix → Tables R → Tables R
 swept_tables number p t = record { live = t.live; deletions = map (swept_one number p) t.deletions }
 
 -- A turn of the stage of a loss: its least row goes, and the messages of that go down.
 pub record SweepsTables {R : Type 0} (value : R → Value) (o : Owner) (old new : Tables R) (number : ℕ) (sent : Option (Change R)) (entries : List (Entry Value)) : Type 0 where
-  pub prefix : Network
+  pub prefix : AddressPrefix
   pub row : R
   pub table : FinMap prefix_cmp R
   pub stands : table_of number old.deletions ≡ Some table

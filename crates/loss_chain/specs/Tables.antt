@@ -5,7 +5,7 @@ use Rattle.std.specs.List.{AllByRecursion, count_by}
 use Rattle.std.specs.Coded.{Coded, code_by, coded×, coded_list}
 use Rattle.std.specs.FinMap as map
 use Rattle.std.specs.FinMap.{FinMap}
-use Rattle.addr4.specs.Prefixes.{Network, prefix_cmp, network_code}
+use Rattle.addr4.specs.Prefixes.{AddressPrefix, prefix_cmp, address_prefix_code}
 use Rattle.link_change.specs.Rows.{Rows, is_empty_map}
 use Rattle.pass_core.specs.Passed.{is_beyond}
 use Rattle.loss_chain.specs.Lost.{Lost, lost_code}
@@ -25,7 +25,7 @@ pub record Tables (R : Type 0) : Type 0 where
 
 abbrev pub tables_code : {R : Type 0} → Coded R → Coded (Tables R)
 tables_code {R} c =
-    code_by (FinMap prefix_cmp R × List (Lost R)) (coded× (map.code network_code c) (coded_list (lost_code c)))
+    code_by (FinMap prefix_cmp R × List (Lost R)) (coded× (map.code address_prefix_code c) (coded_list (lost_code c)))
     (λ t. (t.live, t.deletions)) (λ p. record { live = p.0; deletions = p.1 }) (λ _. refl)
 
 -- the rows of the link below these lost tables
@@ -88,13 +88,13 @@ abbrev pub tables_count : {R : Type 0} → Tables R → ℕ
 tables_count t = map.len t.live + lost_count t.deletions
 
 -- how many rows of a table lie beyond a place, where a walk has yet to go
-abbrev pub table_beyond : {R : Type 0} → Option Network → FinMap prefix_cmp R → ℕ
+abbrev pub table_beyond : {R : Type 0} → Option AddressPrefix → FinMap prefix_cmp R → ℕ
 table_beyond place t = count_by (is_beyond place) (map.keys t)
 
-abbrev pub lost_beyond : {R : Type 0} → Option Network → List (Lost R) → ℕ
+abbrev pub lost_beyond : {R : Type 0} → Option AddressPrefix → List (Lost R) → ℕ
 lost_beyond place [] = 0
 lost_beyond place (d ∷ ds) = table_beyond place d.rows + lost_beyond place ds
 
 -- how many rows of all tables do
-abbrev pub tables_beyond : {R : Type 0} → Option Network → Tables R → ℕ
+abbrev pub tables_beyond : {R : Type 0} → Option AddressPrefix → Tables R → ℕ
 tables_beyond place t = table_beyond place t.live + lost_beyond place t.deletions

@@ -23,11 +23,11 @@ pub struct Live<R> {
 
 impl<R> Model for Live<R> {
     ghost use Rattle.std.specs.FinMap as map;
-    ghost use Rattle.addr4.specs.Prefixes.{prefix_cmp, network_code};
+    ghost use Rattle.addr4.specs.Prefixes.{prefix_cmp, address_prefix_code};
 
     ghost Value = { map.FinMap prefix_cmp R };
 
-    ghost coded = { map.code network_code R.code };
+    ghost coded = { map.code address_prefix_code R.code };
 
     ghost view = { λ p. p.live.rows };
 }

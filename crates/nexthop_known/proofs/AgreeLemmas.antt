@@ -3,7 +3,7 @@ use Rattle.std.proofs.Common.{◌≡◌, ℕ, Bool, true, false, refl, sym, ap, 
 use Rattle.std.specs.Option.{option_map}
 use Rattle.std.specs.FinMap as map
 use Rattle.std.proofs.lemmas.Bool.{cases_eq}
-use Rattle.addr4.specs.Prefixes.{Network, Holds}
+use Rattle.addr4.specs.Prefixes.{AddressPrefix, Holds}
 use Rattle.addr4.proofs.PrefixOrder.{by_prefix}
 use Rattle.register_interest.specs.Width.{width}
 use Rattle.nexthop_known.specs.declared.answer.Hop.{Hop}
@@ -21,7 +21,7 @@ same_some : {X : Type 0} (x y : X) → Some x ≡ Some y → x ≡ y
 same_some x y e = cc
 
 -- an interest that is kept stays so where another one comes
-still_in : (was is : Network → Bool) (s t : Network) → IsInterestIn was is s true → was t ≡ true → is t ≡ true
+still_in : (was is : AddressPrefix → Bool) (s t : AddressPrefix) → IsInterestIn was is s true → was t ≡ true → is t ≡ true
 still_in was is s t i kept = by_prefix t s (λ _. is t ≡ true) (λ e. ap is e ∙ i.here) (λ ne. i.others t ne ∙ kept)
 
 module _ {A : Type 0} where
@@ -32,7 +32,7 @@ module _ {A : Type 0} where
   }
 
   -- where the interests that a next hop needs are kept
-  moved : (answer : ℕ → A) (was is : Network → Bool) (a : ℕ) (h : Hop A) (s : Network) → IsPresent answer was a h s → is s ≡ true → IsPresent answer is a h s
+  moved : (answer : ℕ → A) (was is : AddressPrefix → Bool) (a : ℕ) (h : Hop A) (s : AddressPrefix) → IsPresent answer was a h s → is s ≡ true → IsPresent answer is a h s
   moved answer was is a h s p kept = record { answered = p.answered; kept = kept; holds = p.holds }
 
   pub answered_agrees : AnsweredAgrees A
@@ -44,7 +44,7 @@ module _ {A : Type 0} where
           record {
             answered = ap (λ (x : Hop A). x.fresh) (sym same) ∙ fresh ∙ ap answer (sym at);
             kept = ap is (sym sub) ∙ i.here;
-            holds = subst (λ (x : ℕ). Holds width t x) (sym at) (subst (λ (x : Network). Holds width x a) sub holds);
+            holds = subst (λ (x : ℕ). Holds width t x) (sym at) (subst (λ (x : AddressPrefix). Holds width x a) sub holds);
           }
       | inr ne ↦
           let p = agree.present b g t (sym (put.others b ne) ∙ e) has in
@@ -64,7 +64,7 @@ module _ {A : Type 0} where
   early_agrees answer was is hops s agree i some = record {
     present = λ b g t e has. let p = agree.present b g t e has in moved answer was is b g t p (still_in was is s t i p.kept);
     wanted = λ t kept. by_prefix t s (λ _. IsWithSome hops t)
-        (λ e. subst (λ (x : Network). IsWithSome hops x) (sym e) some)
+        (λ e. subst (λ (x : AddressPrefix). IsWithSome hops x) (sym e) some)
         (λ ne. agree.wanted t (sym (i.others t ne) ∙ kept));
   }
 
@@ -82,18 +82,18 @@ module _ {A : Type 0} where
   -- ---- one is forgotten
 
   -- a next hop that stays has its interest still
-  stays_kept : (answer : ℕ → A) (was is : Network → Bool) (new : ℕ → Option (Hop A)) (came up : Option Network) (b : ℕ) (g : Hop A) (t : Network)
+  stays_kept : (answer : ℕ → A) (was is : AddressPrefix → Bool) (new : ℕ → Option (Hop A)) (came up : Option AddressPrefix) (b : ℕ) (g : Hop A) (t : AddressPrefix)
       → IsUnshared new came up → GivesUp was is up → new b ≡ Some g → g.came ≡ Some t → IsPresent answer was b g t → is t ≡ true
   stays_kept answer was is new came None b g t un gives e has p = gives t ∙ p.kept
   stays_kept answer was is new came (Some s) b g t un gives e has p =
       by_prefix t s (λ _. is t ≡ true) (λ at. absurd (un.1 b g e (has ∙ ap Some at))) (λ ne. gives.others t ne ∙ p.kept)
 
-  other_wants : (new : ℕ → Option (Hop A)) (h : Hop A) (t : Network) → IsUnshared new h.came None → h.came ≡ Some t → IsWithSome new t
+  other_wants : (new : ℕ → Option (Hop A)) (h : Hop A) (t : AddressPrefix) → IsUnshared new h.came None → h.came ≡ Some t → IsWithSome new t
   other_wants new h t (inl none) came = clash_some t _ (sym none ∙ came)
-  other_wants new h t (inr shared) came = subst (λ (x : Network). IsWithSome new x) (same_some shared.0 t (sym shared.1 ∙ came)) shared.2
+  other_wants new h t (inr shared) came = subst (λ (x : AddressPrefix). IsWithSome new x) (same_some shared.0 t (sym shared.1 ∙ came)) shared.2
 
-  still_wanted : (was is : Network → Bool) (old new : ℕ → Option (Hop A)) (a : ℕ) (h : Hop A) (up : Option Network) (t : Network)
-      → ((s : Network) → was s ≡ true → IsWithSome old s) → old a ≡ Some h → IsPutAt old new a None → IsUnshared new h.came up → GivesUp was is up → is t ≡ true
+  still_wanted : (was is : AddressPrefix → Bool) (old new : ℕ → Option (Hop A)) (a : ℕ) (h : Hop A) (up : Option AddressPrefix) (t : AddressPrefix)
+      → ((s : AddressPrefix) → was s ≡ true → IsWithSome old s) → old a ≡ Some h → IsPutAt old new a None → IsUnshared new h.came up → GivesUp was is up → is t ≡ true
       → IsWithSome new t
   still_wanted was is old new a h None t wanted at put un gives kept =
       let w = wanted t (sym (gives t) ∙ kept) in
@@ -132,7 +132,7 @@ module _ {A : Type 0} where
   was_settled None h e = clash_some h _ e
   was_settled (Some g) h e = let same : settled g ≡ h = same_some (settled g) h e in (g, refl, ap (λ (x : Hop A). x.fresh) same, ap (λ (x : Hop A). x.came) same)
 
-  with_settled : (old new : Hops A) (s : Network) → IsMapped settled old new → IsWithSome (map.get old) s → IsWithSome (map.get new) s
+  with_settled : (old new : Hops A) (s : AddressPrefix) → IsMapped settled old new → IsWithSome (map.get old) s → IsWithSome (map.get new) s
   with_settled old new s mapped w = (w.0, settled w.1, mapped w.0 ∙ ap (option_map settled) w.2, w.3)
 
   pub settled_agrees : SettledAgrees A

@@ -5,7 +5,7 @@ use Rattle.std.specs.Ordering.{nat_cmp}
 use Rattle.std.specs.Cmp.{nat_cmp_total}
 use Rattle.std.specs.FinMap.{get, insert, remove, get-empty, same_map, nat_cmp-IsAntisymmetric}
 use Rattle.std.proofs.lemmas.Bool.{cases_eq}
-use Rattle.addr4.specs.Prefixes.{Network}
+use Rattle.addr4.specs.Prefixes.{AddressPrefix}
 use Rattle.addr4.proofs.PrefixOrder.{by_prefix}
 use Rattle.link_change.specs.Rows.{Rows, with_row}
 use Rattle.link_change.proofs.RowLemmas.{with_row_here}
@@ -82,32 +82,32 @@ more_and_less counts a = ap (one_less_of (one_more counts a) a) (get_at nat_cmp_
 
 -- ---- lists of prefixes
 
-parted : (x q : Network) (xs : List Network) → Contains (x ∷ xs) q → (x ≡ q) ⊎ Contains xs q
+parted : (x q : AddressPrefix) (xs : List AddressPrefix) → Contains (x ∷ xs) q → (x ≡ q) ⊎ Contains xs q
 parted x q xs (zero, lt, is) = inl is
 parted x q xs (suc k, lt, is) = inr (k, omega (arith, lt), is)
 
-behind : (x q : Network) (xs : List Network) → Contains xs q → Contains (x ∷ xs) q
+behind : (x q : AddressPrefix) (xs : List AddressPrefix) → Contains xs q → Contains (x ∷ xs) q
 behind x q xs c = (suc c.0, omega (arith, c.1), c.2)
 
-front : (x q : Network) (xs : List Network) → x ≡ q → Contains (x ∷ xs) q
+front : (x q : AddressPrefix) (xs : List AddressPrefix) → x ≡ q → Contains (x ∷ xs) q
 front x q xs e = (0, omega arith, e)
 
 -- the list without one of its prefixes
-record IsTakenOut (ps : List Network) (p : Network) : Type 0 where
-  rest : List Network
+record IsTakenOut (ps : List AddressPrefix) (p : AddressPrefix) : Type 0 where
+  rest : List AddressPrefix
   size : length ps ≡ suc (length rest)
   apart : AllApart rest
-  only : (q : Network) → Contains rest q → Contains ps q × (q ≢ p)
-  all : (q : Network) → Contains ps q → q ≢ p → Contains rest q
+  only : (q : AddressPrefix) → Contains rest q → Contains ps q × (q ≢ p)
+  all : (q : AddressPrefix) → Contains ps q → q ≢ p → Contains rest q
 
-take_out : (ps : List Network) (p : Network) → AllApart ps → Contains ps p → IsTakenOut ps p
+take_out : (ps : List AddressPrefix) (p : AddressPrefix) → AllApart ps → Contains ps p → IsTakenOut ps p
 take_out [] p apart c = absurd (omega (arith, c.1))
 take_out (x ∷ xs) p apart c = elim (parted x p xs c) [
   | inl here ↦ record {
     rest = xs;
     size = refl;
     apart = apart.1;
-    only = λ q d. (behind x q xs d, λ e. apart.0 (subst (λ (y : Network). Contains xs y) (e ∙ sym here) d));
+    only = λ q d. (behind x q xs d, λ e. apart.0 (subst (λ (y : AddressPrefix). Contains xs y) (e ∙ sym here) d));
     all = λ q d ne. elim (parted x q xs d) [ inl e ↦ absurd (ne (sym e ∙ here)) | inr later ↦ later ];
   }
   | inr later ↦
@@ -117,7 +117,7 @@ take_out (x ∷ xs) p apart c = elim (parted x p xs c) [
         size = ap suc r.size;
         apart = (λ d. apart.0 (r.only x d).0, r.apart);
         only = λ q d. elim (parted x q r.rest d) [
-          | inl e ↦ (front x q xs e, λ is. apart.0 (subst (λ (y : Network). Contains xs y) (sym (e ∙ is)) later))
+          | inl e ↦ (front x q xs e, λ is. apart.0 (subst (λ (y : AddressPrefix). Contains xs y) (sym (e ∙ is)) later))
           | inr in_rest ↦ let o = r.only q in_rest in (behind x q xs o.0, o.1)
         ];
         all = λ q d ne. elim (parted x q xs d) [ inl e ↦ front x q r.rest e | inr in_xs ↦ behind x q r.rest (r.all q in_xs ne) ];
@@ -126,13 +126,13 @@ take_out (x ∷ xs) p apart c = elim (parted x p xs c) [
 
 -- ---- the rows that name a next hop
 
-cases_prefix : (q p : Network) → (q ≡ p) ⊎ (q ≢ p)
+cases_prefix : (q p : AddressPrefix) → (q ≡ p) ⊎ (q ≢ p)
 cases_prefix q p = by_prefix q p (λ b. (q ≡ p) ⊎ (q ≢ p)) (λ e. inl e) (λ ne. inr ne)
 
-at_row : (named : Rows ℕ) (p q : Network) (after : Option ℕ) → q ≡ p → with_row named p after q ≡ after
+at_row : (named : Rows ℕ) (p q : AddressPrefix) (after : Option ℕ) → q ≡ p → with_row named p after q ≡ after
 at_row named p q after e = ap (with_row named p after) e ∙ with_row_here named p after
 
-count_more : (named : Rows ℕ) (a n : ℕ) (p : Network) (after : Option ℕ) → IsCount named a n → named p ≢ Some a → after ≡ Some a → IsCount (with_row named p after) a (n + 1)
+count_more : (named : Rows ℕ) (a n : ℕ) (p : AddressPrefix) (after : Option ℕ) → IsCount named a n → named p ≢ Some a → after ≡ Some a → IsCount (with_row named p after) a (n + 1)
 count_more named a n p after is out names = record {
   list = p ∷ is.list;
   apart = (λ c. out ((is.exact p).0 c), is.apart);
@@ -146,7 +146,7 @@ count_more named a n p after is out names = record {
   size = let s = is.size in omega (arith, s);
 }
 
-count_less : (named : Rows ℕ) (a n : ℕ) (p : Network) (after : Option ℕ) → IsCount named a n → named p ≡ Some a → after ≢ Some a → IsCount (with_row named p after) a (n - 1)
+count_less : (named : Rows ℕ) (a n : ℕ) (p : AddressPrefix) (after : Option ℕ) → IsCount named a n → named p ≡ Some a → after ≢ Some a → IsCount (with_row named p after) a (n - 1)
 count_less named a n p after is names out =
     let r = take_out is.list p is.apart ((is.exact p).1 names) in
     record {
@@ -162,7 +162,7 @@ count_less named a n p after is names out =
       size = let s = is.size in let t = r.size in omega (arith, s, t);
     }
 
-count_even : (named : Rows ℕ) (a n : ℕ) (p : Network) (after : Option ℕ) → IsCount named a n → ((named p ≡ Some a) ↔ (after ≡ Some a)) → IsCount (with_row named p after) a n
+count_even : (named : Rows ℕ) (a n : ℕ) (p : AddressPrefix) (after : Option ℕ) → IsCount named a n → ((named p ≡ Some a) ↔ (after ≡ Some a)) → IsCount (with_row named p after) a n
 count_even named a n p after is same = record {
   list = is.list;
   apart = is.apart;
@@ -231,7 +231,7 @@ named_is_counted named counts q a are names =
     let c = ((are a).exact q).1 names in
     positive (get counts a) (let l = c.1 in let s = (are a).size in omega (arith, l, s))
 
-first_of : (named : Rows ℕ) (a : ℕ) (ps : List Network) → ((q : Network) → Contains ps q → named q ≡ Some a) → 0 < length ps → (q : Network) × (named q ≡ Some a)
+first_of : (named : Rows ℕ) (a : ℕ) (ps : List AddressPrefix) → ((q : AddressPrefix) → Contains ps q → named q ≡ Some a) → 0 < length ps → (q : AddressPrefix) × (named q ≡ Some a)
 first_of named a [] only lt = absurd (omega (arith, lt))
 first_of named a (p ∷ ps) only lt = (p, only p (front p p ps refl))
 

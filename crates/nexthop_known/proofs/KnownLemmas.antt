@@ -11,7 +11,7 @@ use Rattle.std.specs.BTreeSet as set
 use Rattle.std.specs.FinMap.{from_entries}
 use Rattle.std.specs.FinMap as map
 use Rattle.std.proofs.lemmas.Bool.Decides.{nat_tests}
-use Rattle.addr4.specs.Prefixes.{Network}
+use Rattle.addr4.specs.Prefixes.{AddressPrefix}
 use Rattle.link_change.proofs.MapLemmas.{map_read, read_in}
 use Rattle.nexthop_known.specs.declared.answer.Hop.{Hop}
 use Rattle.nexthop_known.specs.declared.index.Holding.{Holding}
@@ -43,7 +43,7 @@ module _ {A : Type 0} where
 
   -- ---- a subnet given up
 
-  pub freed : (n : BTreeMap ℕ (Hop A)) (stale : BTreeSet ℕ) (held : BTreeSet Holding) (came result : Option Network) → AreTied n stale held → IsFreed held came result → IsUnshared (map.get (from_entries {R = nat_cmp} n.entries)) came result
+  pub freed : (n : BTreeMap ℕ (Hop A)) (stale : BTreeSet ℕ) (held : BTreeSet Holding) (came result : Option AddressPrefix) → AreTied n stale held → IsFreed held came result → IsUnshared (map.get (from_entries {R = nat_cmp} n.entries)) came result
   freed n stale held came None tied (inl e) = inl e
   freed n stale held came None tied (inr has) =
       let found = found_with has.0 (tree.get nat_cmp n has.2) (sym (tied.held_is (record { subnet = has.0; hop = has.2 })) ∙ has.3) in
@@ -58,19 +58,19 @@ module _ {A : Type 0} where
 
   -- ---- whether the answer of one came with a subnet
 
-  none_with : (m : BTreeMap ℕ (Hop A)) (stale : BTreeSet ℕ) (held : BTreeSet Holding) (now : Hops A) (s : Network) → AreTied m stale held → from_entries m.entries ≡ now → IsHeldByNone held s → IsWithNone (map.get now) s
+  none_with : (m : BTreeMap ℕ (Hop A)) (stale : BTreeSet ℕ) (held : BTreeSet Holding) (now : Hops A) (s : AddressPrefix) → AreTied m stale held → from_entries m.entries ≡ now → IsHeldByNone held s → IsWithNone (map.get now) s
   none_with m stale held now s tied view none = λ a h e with_s.
       let here : tree.get nat_cmp m a ≡ Some h = sym (read_in nat_cmp_total m now a view) ∙ e in
       let told = sym (none a) ∙ tied.held_is (record { subnet = s; hop = a }) ∙ ap (λ o. is_with s (came_at o)) here ∙ ap (is_with s) with_s ∙ same_self s in
       let clash : false ≡ true = told in cc
 
-  some_with : (m : BTreeMap ℕ (Hop A)) (stale : BTreeSet ℕ) (held : BTreeSet Holding) (now : Hops A) (s : Network) (a : ℕ) → AreTied m stale held → from_entries m.entries ≡ now
+  some_with : (m : BTreeMap ℕ (Hop A)) (stale : BTreeSet ℕ) (held : BTreeSet Holding) (now : Hops A) (s : AddressPrefix) (a : ℕ) → AreTied m stale held → from_entries m.entries ≡ now
       → set.contains holding_cmp held (record { subnet = s; hop = a }) ≡ true → IsWithSome (map.get now) s
   some_with m stale held now s a tied view has =
       let found = found_with s (tree.get nat_cmp m a) (sym (tied.held_is (record { subnet = s; hop = a })) ∙ has) in
       (a, found.0, read_in nat_cmp_total m now a view ∙ found.1, found.2)
 
-  pub told_with : (m : BTreeMap ℕ (Hop A)) (stale : BTreeSet ℕ) (held : BTreeSet Holding) (now : Hops A) (s : Network) (o : Option ℕ) → AreTied m stale held → from_entries m.entries ≡ now
+  pub told_with : (m : BTreeMap ℕ (Hop A)) (stale : BTreeSet ℕ) (held : BTreeSet Holding) (now : Hops A) (s : AddressPrefix) (o : Option ℕ) → AreTied m stale held → from_entries m.entries ≡ now
       → MatchOption o (IsHeldByNone held s) (λ a. set.contains holding_cmp held (record { subnet = s; hop = a }) ≡ true) → MatchBool (is_some o) (IsWithSome (map.get now) s) (IsWithNone (map.get now) s)
   told_with m stale held now s None tied view none = none_with m stale held now s tied view none
   told_with m stale held now s (Some a) tied view has = some_with m stale held now s a tied view has
@@ -84,7 +84,7 @@ module _ {A : Type 0} where
   stale_told None e = absurd (cc)
   stale_told (Some h) e = (h, refl, none h.came e)
     where
-      none : (c : Option Network) → not (is_some c) ≡ true → c ≡ None
+      none : (c : Option AddressPrefix) → not (is_some c) ≡ true → c ≡ None
       none None e = refl
       none (Some s) e = absurd (cc)
 

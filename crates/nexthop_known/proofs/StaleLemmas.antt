@@ -6,7 +6,7 @@ use Rattle.std.specs.Ordering.{nat_cmp, eq_by_cmp, is_lt}
 use Rattle.std.specs.Cmp.{nat_cmp_total}
 use Rattle.std.specs.FinMap.{FinMap, get, insert, remove, empty, entries, len, find, is_sorted, from_sorted, retain_keys, entries_sorted, get-entries, len-entries, entries-from_sorted, get-from_sorted, get-empty, len-empty, empty_of_len, get-retain_keys, len-remove, same_map, nat_cmp-IsAntisymmetric}
 use Rattle.std.specs.FinMap.Entries.{below_all, where_key, is_sorted-where_key, find-where_key}
-use Rattle.addr4.specs.Prefixes.{Network}
+use Rattle.addr4.specs.Prefixes.{AddressPrefix}
 use Rattle.link_change.proofs.MapLemmas.{by_key, get_at, get_apart, removed_at, removed_apart}
 use Rattle.nexthop_known.specs.declared.answer.Hop.{Hop}
 use Rattle.nexthop_known.specs.Hops.{Hops, is_stale_at, count_of}
@@ -169,7 +169,7 @@ module _ {A : Type 0} where
   not_stale None none = refl
   not_stale (Some h) none = by_came h.came refl
     where
-      by_came : (c : Option Network) → h.came ≡ c → not (is_some c) ≡ false
+      by_came : (c : Option AddressPrefix) → h.came ≡ c → not (is_some c) ≡ false
       by_came None e = absurd (none h refl e)
       by_came (Some s) e = refl
 

@@ -15,7 +15,7 @@ use Rattle.std.specs.BTreeSet.{BTreeSet, IsKeyRangeOf, IsKeyInRange}
 use Rattle.std.specs.BTreeSet as set
 use Rattle.std.proofs.lemmas.Map.Lookups.{exact_unsigned}
 use Rattle.std.proofs.lemmas.Bool.Decides.{nat_tests}
-use Rattle.addr4.specs.Prefixes.{Network, prefix_cmp, same_prefix}
+use Rattle.addr4.specs.Prefixes.{AddressPrefix, prefix_cmp, same_prefix}
 use Rattle.addr4.proofs.PrefixOrder.{exact_prefixes, itself, comes_after}
 use Rattle.nexthop_known.proofs.HopLemmas.{both_equal, same_is, same_told, same_self, with_told}
 use Rattle.nexthop_known.specs.declared.answer.Hop.{Hop}
@@ -28,7 +28,7 @@ use Rattle.nexthop_known.specs.Ties.{holding_cmp, is_own, other_than, let_go, Ar
 pub one_address : (a q : ℕ) → is_at (nat_cmp a) q ≡ true → q ≡ a
 one_address a q e = sym (exact_unsigned a q ((Equal-is (nat_cmp a q)).0 e))
 
-own_parts : (s : Network) (a : ℕ) (k : Holding) → is_at (holding_cmp (record { subnet = s; hop = a })) k ≡ (same_prefix s k.subnet && is_at (nat_cmp a) k.hop)
+own_parts : (s : AddressPrefix) (a : ℕ) (k : Holding) → is_at (holding_cmp (record { subnet = s; hop = a })) k ≡ (same_prefix s k.subnet && is_at (nat_cmp a) k.hop)
 own_parts s a k = both_equal (prefix_cmp s k.subnet) (nat_cmp a k.hop) ∙ ap (λ b. b && is_at (nat_cmp a) k.hop) (same_is s k.subnet)
 
 pub not_same : (b : Bool) → not b ≡ true → b ≡ false
@@ -45,13 +45,13 @@ then_le Greater s h = absurd (cc)
 least_address : (a : ℕ) → is_gt (nat_cmp 0 a) ≡ false
 least_address a = grind (arith, nat_tests)
 
-from_first : (s : Network) (a : ℕ) → IsLeBy holding_cmp (record { subnet = s; hop = 0 }) (record { subnet = s; hop = a })
+from_first : (s : AddressPrefix) (a : ℕ) → IsLeBy holding_cmp (record { subnet = s; hop = 0 }) (record { subnet = s; hop = a })
 from_first s a = ap (λ o. is_gt (ordering_then o (nat_cmp 0 a))) ((Equal-is (prefix_cmp s s)).0 (itself s)) ∙ least_address a
 
-beyond : (s : Network) (n a : ℕ) → n ≡ 0 → IsLeBy holding_cmp (record { subnet = s; hop = n }) (record { subnet = s; hop = a })
+beyond : (s : AddressPrefix) (n a : ℕ) → n ≡ 0 → IsLeBy holding_cmp (record { subnet = s; hop = n }) (record { subnet = s; hop = a })
 beyond s n a zero = subst (λ (x : ℕ). IsLeBy holding_cmp (record { subnet = s; hop = x }) (record { subnet = s; hop = a })) (sym zero) (from_first s a)
 
-squeezed : (s : Network) (a : ℕ) (f : Holding) → IsLeBy holding_cmp (record { subnet = s; hop = 0 }) f → IsLeBy holding_cmp f (record { subnet = s; hop = a }) → f.subnet ≡ s
+squeezed : (s : AddressPrefix) (a : ℕ) (f : Holding) → IsLeBy holding_cmp (record { subnet = s; hop = 0 }) f → IsLeBy holding_cmp f (record { subnet = s; hop = a }) → f.subnet ≡ s
 squeezed s a f low high = elim (then_le (prefix_cmp s f.subnet) (nat_cmp 0 f.hop) low) [
   | inl e ↦ sym (exact_prefixes s f.subnet e)
   | inr less ↦ elim (then_le (prefix_cmp f.subnet s) (nat_cmp f.hop a) high) [
@@ -60,10 +60,10 @@ squeezed s a f low high = elim (then_le (prefix_cmp s f.subnet) (nat_cmp 0 f.hop
   ]
 ]
 
-pub none_from : (held : BTreeSet Holding) (s : Network) (n : ℕ) (r : List Holding) → n ≡ 0 → IsKeyRangeOf holding_cmp (Included (record { subnet = s; hop = n })) Unbounded held r → r ≡ [] → IsHeldByNone held s
+pub none_from : (held : BTreeSet Holding) (s : AddressPrefix) (n : ℕ) (r : List Holding) → n ≡ 0 → IsKeyRangeOf holding_cmp (Included (record { subnet = s; hop = n })) Unbounded held r → r ≡ [] → IsHeldByNone held s
 none_from held s n r zero range e = λ a. range.5 e (record { subnet = s; hop = a }) (beyond s n a zero, tt)
 
-pub other_first : (held : BTreeSet Holding) (s : Network) (n : ℕ) (r rest : List Holding) (f : Holding) → n ≡ 0 → IsKeyRangeOf holding_cmp (Included (record { subnet = s; hop = n })) Unbounded held r → r ≡ f ∷ rest → same_prefix f.subnet s ≡ false → IsHeldByNone held s
+pub other_first : (held : BTreeSet Holding) (s : AddressPrefix) (n : ℕ) (r rest : List Holding) (f : Holding) → n ≡ 0 → IsKeyRangeOf holding_cmp (Included (record { subnet = s; hop = n })) Unbounded held r → r ≡ f ∷ rest → same_prefix f.subnet s ≡ false → IsHeldByNone held s
 other_first held s n r rest f zero range e ne = λ a.
     let q : Holding = record { subnet = s; hop = a } in
     elim (set.contains holding_cmp held q) as (λ b. set.contains holding_cmp held q ≡ b → b ≡ false) [
@@ -78,11 +78,11 @@ other_first held s n r rest f zero range e ne = λ a.
 -- ---- a row put in
 
 -- whether it is the holding with this subnet, if any, where the address is that of the next hop
-abbrev owns : Bool → Network → Option Network → Bool
+abbrev owns : Bool → AddressPrefix → Option AddressPrefix → Bool
 owns b q None = false
 owns b q (Some t) = same_prefix t q && b
 
-own_is : (a : ℕ) (came : Option Network) (k : Holding) → is_own a came k ≡ owns (is_at (nat_cmp a) k.hop) k.subnet came
+own_is : (a : ℕ) (came : Option AddressPrefix) (k : Holding) → is_own a came k ≡ owns (is_at (nat_cmp a) k.hop) k.subnet came
 own_is a None k = refl
 own_is a (Some s) k = own_parts s a k
 
@@ -90,7 +90,7 @@ and_false : (b : Bool) → (b && false) ≡ false
 and_false true = refl
 and_false false = refl
 
-none_own : (q : Network) (came : Option Network) → owns false q came ≡ false
+none_own : (q : AddressPrefix) (came : Option AddressPrefix) → owns false q came ≡ false
 none_own q None = refl
 none_own q (Some t) = and_false (same_prefix t q)
 
@@ -102,20 +102,20 @@ yes_again : (b : Bool) → cond (b && true) true b ≡ b
 yes_again true = refl
 yes_again false = refl
 
-apart : (s t q : Network) → same_prefix t s ≡ false → same_prefix t q ≡ true → same_prefix s q ≡ false
+apart : (s t q : AddressPrefix) → same_prefix t s ≡ false → same_prefix t q ≡ true → same_prefix s q ≡ false
 apart s t q ne e = elim (same_prefix s q) as (λ b. same_prefix s q ≡ b → b ≡ false) [
   | true ↦ λ also. absurd (let same : t ≡ s = same_told t q e ∙ sym (same_told s q also) in let clash : true ≡ false = sym (same_self s) ∙ sym (ap (λ x. same_prefix x s) same) ∙ ne in cc)
   | false ↦ λ _. refl
 ] refl
 
-here_two : (s t q : Network) → same_prefix t s ≡ false → cond (same_prefix t q && true) false (cond (same_prefix s q && true) true (same_prefix t q)) ≡ same_prefix s q
+here_two : (s t q : AddressPrefix) → same_prefix t s ≡ false → cond (same_prefix t q && true) false (cond (same_prefix s q && true) true (same_prefix t q)) ≡ same_prefix s q
 here_two s t q ne = elim (same_prefix t q) as (λ b. same_prefix t q ≡ b → cond (b && true) false (cond (same_prefix s q && true) true b) ≡ same_prefix s q) [
   | true ↦ λ e. sym (apart s t q ne e)
   | false ↦ λ _. yes (same_prefix s q)
 ] refl
 
 -- at the next hop itself
-here : (s q : Network) (before : Option Network) → cond (owns true q (other_than s before)) false (cond (same_prefix s q && true) true (is_with q before)) ≡ same_prefix s q
+here : (s q : AddressPrefix) (before : Option AddressPrefix) → cond (owns true q (other_than s before)) false (cond (same_prefix s q && true) true (is_with q before)) ≡ same_prefix s q
 here s q None = yes (same_prefix s q)
 here s q (Some t) = elim (same_prefix t s) as (λ b. same_prefix t s ≡ b → cond (owns true q (cond b None (Some t))) false (cond (same_prefix s q && true) true (same_prefix t q)) ≡ same_prefix s q) [
   | true ↦ λ e. ap (λ x. cond (same_prefix s q && true) true (same_prefix x q)) (same_told t s e) ∙ yes_again (same_prefix s q)
@@ -123,10 +123,10 @@ here s q (Some t) = elim (same_prefix t s) as (λ b. same_prefix t s ≡ b → c
 ] refl
 
 -- at another
-elsewhere : (s q : Network) (came : Option Network) (was : Bool) → cond (owns false q came) false (cond (same_prefix s q && false) true was) ≡ was
+elsewhere : (s q : AddressPrefix) (came : Option AddressPrefix) (was : Bool) → cond (owns false q came) false (cond (same_prefix s q && false) true was) ≡ was
 elsewhere s q came was = ap (λ b. cond b false (cond (same_prefix s q && false) true was)) (none_own q came) ∙ ap (λ b. cond b true was) (and_false (same_prefix s q))
 
-own_gone : (q : Network) (came : Option Network) → cond (owns true q came) false (is_with q came) ≡ false
+own_gone : (q : AddressPrefix) (came : Option AddressPrefix) → cond (owns true q came) false (is_with q came) ≡ false
 own_gone q None = refl
 own_gone q (Some t) = elim (same_prefix t q) as (λ b. cond (b && true) false b ≡ false) [
   | true ↦ refl
@@ -141,18 +141,18 @@ back false true was none = refl
 back false false was none = refl
 
 module _ {A : Type 0} where
-  stale_put : (b was : Bool) (o : Option (Hop A)) (row : Hop A) (s : Network) → row.came ≡ Some s → was ≡ is_stale_at o → cond b false was ≡ is_stale_at (cond b (Some row) o)
-  stale_put true was o row s e is = sym (ap (λ (c : Option Network). not (is_some c)) e)
+  stale_put : (b was : Bool) (o : Option (Hop A)) (row : Hop A) (s : AddressPrefix) → row.came ≡ Some s → was ≡ is_stale_at o → cond b false was ≡ is_stale_at (cond b (Some row) o)
+  stale_put true was o row s e is = sym (ap (λ (c : Option AddressPrefix). not (is_some c)) e)
   stale_put false was o row s e is = is
 
-  held_put : (b : Bool) (s q : Network) (was : Bool) (at before : Option (Hop A)) (row : Hop A) → row.came ≡ Some s → (b ≡ true → at ≡ before) → was ≡ is_with q (came_at at)
+  held_put : (b : Bool) (s q : AddressPrefix) (was : Bool) (at before : Option (Hop A)) (row : Hop A) → row.came ≡ Some s → (b ≡ true → at ≡ before) → was ≡ is_with q (came_at at)
       → cond (owns b q (other_than s (came_at before))) false (cond (same_prefix s q && b) true was) ≡ is_with q (came_at (cond b (Some row) at))
   held_put true s q was at before row e same is =
       ap (λ w. cond (owns true q (other_than s (came_at before))) false (cond (same_prefix s q && true) true w)) (is ∙ ap (λ o. is_with q (came_at o)) (same refl))
       ∙ here s q (came_at before) ∙ sym (ap (is_with q) e)
   held_put false s q was at before row e same is = elsewhere s q (other_than s (came_at before)) was ∙ is
 
-  pub put_tied : (hops hops' : BTreeMap ℕ (Hop A)) (stale stale' : BTreeSet ℕ) (held added held' : BTreeSet Holding) (a : ℕ) (s : Network) (row : Hop A) → row.came ≡ Some s → AreTied hops stale held
+  pub put_tied : (hops hops' : BTreeMap ℕ (Hop A)) (stale stale' : BTreeSet ℕ) (held added held' : BTreeSet Holding) (a : ℕ) (s : AddressPrefix) (row : Hop A) → row.came ≡ Some s → AreTied hops stale held
       → Puts hops hops' a (Some row)
       → Sets nat_cmp (is_at (nat_cmp a)) false stale stale'
       → ((k : Holding) → set.contains holding_cmp added k ≡ cond (is_at (holding_cmp (record { subnet = s; hop = a })) k) true (set.contains holding_cmp held k))
@@ -169,7 +169,7 @@ module _ {A : Type 0} where
         ∙ sym (ap (λ x. is_with k.subnet (came_at x)) (puts k.hop));
   }
 
-  pub back_tied : (hops hops' : BTreeMap ℕ (Hop A)) (stale : BTreeSet ℕ) (held added held' : BTreeSet Holding) (a : ℕ) (s : Network) → AreTied hops stale held → hops'.entries ≡ hops.entries → tree.get nat_cmp hops a ≡ None
+  pub back_tied : (hops hops' : BTreeMap ℕ (Hop A)) (stale : BTreeSet ℕ) (held added held' : BTreeSet Holding) (a : ℕ) (s : AddressPrefix) → AreTied hops stale held → hops'.entries ≡ hops.entries → tree.get nat_cmp hops a ≡ None
       → ((k : Holding) → set.contains holding_cmp added k ≡ cond (is_at (holding_cmp (record { subnet = s; hop = a })) k) true (set.contains holding_cmp held k))
       → ((k : Holding) → set.contains holding_cmp held' k ≡ cond (is_at (holding_cmp (record { subnet = s; hop = a })) k) false (set.contains holding_cmp added k))
       → AreTied hops' stale held'
@@ -205,7 +205,7 @@ module _ {A : Type 0} where
   stale_taken true was o is = refl
   stale_taken false was o is = is
 
-  held_taken : (b : Bool) (q : Network) (was : Bool) (at before : Option (Hop A)) → (b ≡ true → at ≡ before) → was ≡ is_with q (came_at at) → cond (owns b q (came_at before)) false was ≡ is_with q (came_at (cond b None at))
+  held_taken : (b : Bool) (q : AddressPrefix) (was : Bool) (at before : Option (Hop A)) → (b ≡ true → at ≡ before) → was ≡ is_with q (came_at at) → cond (owns b q (came_at before)) false was ≡ is_with q (came_at (cond b None at))
   held_taken true q was at before same is = ap (λ w. cond (owns true q (came_at before)) false w) (is ∙ ap (λ o. is_with q (came_at o)) (same refl)) ∙ own_gone q (came_at before)
   held_taken false q was at before same is = ap (λ b. cond b false was) (none_own q (came_at before)) ∙ is
 
@@ -225,7 +225,7 @@ module _ {A : Type 0} where
 
   -- ---- one made stale
 
-  pub found_with : (s : Network) (o : Option (Hop A)) → is_with s (came_at o) ≡ true → (h : Hop A) × (o ≡ Some h) × (h.came ≡ Some s)
+  pub found_with : (s : AddressPrefix) (o : Option (Hop A)) → is_with s (came_at o) ≡ true → (h : Hop A) × (o ≡ Some h) × (h.came ≡ Some s)
   found_with s None e = absurd (cc)
   found_with s (Some h) e = (h, refl, with_told s h.came e)
 
@@ -233,13 +233,13 @@ module _ {A : Type 0} where
   stale_more true was o at h e is = sym (ap (λ x. is_stale_at (option_map let_go x)) e)
   stale_more false was o at h e is = is
 
-  held_less : (b same was : Bool) (q : Network) (o at : Option (Hop A)) (h : Hop A) → o ≡ Some h → (b ≡ true → was ≡ same) → was ≡ is_with q (came_at at) → cond (same && b) false was ≡ is_with q (came_at (cond b (option_map let_go o) at))
+  held_less : (b same was : Bool) (q : AddressPrefix) (o at : Option (Hop A)) (h : Hop A) → o ≡ Some h → (b ≡ true → was ≡ same) → was ≡ is_with q (came_at at) → cond (same && b) false was ≡ is_with q (came_at (cond b (option_map let_go o) at))
   held_less true true was q o at h e here is = sym (ap (λ x. is_with q (came_at (option_map let_go x))) e)
   held_less true false was q o at h e here is = here refl ∙ sym (ap (λ x. is_with q (came_at (option_map let_go x))) e)
   held_less false true was q o at h e here is = is
   held_less false false was q o at h e here is = is
 
-  pub stale_tied : (hops hops' : BTreeMap ℕ (Hop A)) (stale stale' : BTreeSet ℕ) (held held' : BTreeSet Holding) (a : ℕ) (s : Network) → AreTied hops stale held → set.contains holding_cmp held (record { subnet = s; hop = a }) ≡ true
+  pub stale_tied : (hops hops' : BTreeMap ℕ (Hop A)) (stale stale' : BTreeSet ℕ) (held held' : BTreeSet Holding) (a : ℕ) (s : AddressPrefix) → AreTied hops stale held → set.contains holding_cmp held (record { subnet = s; hop = a }) ≡ true
       → Puts hops hops' a (option_map let_go (tree.get nat_cmp hops a))
       → Sets nat_cmp (is_at (nat_cmp a)) true stale stale'
       → ((k : Holding) → set.contains holding_cmp held' k ≡ cond (is_at (holding_cmp (record { subnet = s; hop = a })) k) false (set.contains holding_cmp held k))
@@ -258,25 +258,25 @@ module _ {A : Type 0} where
       }
 
   -- one that was made stale came with no subnet
-  not_twice : (s : Network) (o : Option (Hop A)) → is_with s (came_at (option_map (staled s) o)) ≡ true → ⊥
+  not_twice : (s : AddressPrefix) (o : Option (Hop A)) → is_with s (came_at (option_map (staled s) o)) ≡ true → ⊥
   not_twice s None e = absurd (cc)
   not_twice s (Some h) e = elim (is_with s h.came) as (λ b. is_with s h.came ≡ b → is_with s (cond b None h.came) ≡ true → ⊥) [
     | true ↦ λ _ none. absurd (cc)
     | false ↦ λ ne is. absurd (let clash : false ≡ true = sym ne ∙ is in cc)
   ] refl e
 
-  gone : (s : Network) (o : Option (Hop A)) → is_with s (came_at o) ≡ true → option_map let_go o ≡ option_map (staled s) o
+  gone : (s : AddressPrefix) (o : Option (Hop A)) → is_with s (came_at o) ≡ true → option_map let_go o ≡ option_map (staled s) o
   gone s None e = refl
   gone s (Some h) e = ap (λ b. Some (record { in_force = h.in_force; fresh = h.fresh; came = cond b None h.came })) (sym e)
 
-  stale_one : (b : Bool) (s : Network) (first old o was new : Option (Hop A)) → is_with s (came_at o) ≡ true → (b ≡ true → (old ≡ o) × (first ≡ was)) → new ≡ cond b (option_map let_go o) old
+  stale_one : (b : Bool) (s : AddressPrefix) (first old o was new : Option (Hop A)) → is_with s (came_at o) ≡ true → (b ≡ true → (old ≡ o) × (first ≡ was)) → new ≡ cond b (option_map let_go o) old
       → ((old ≡ first) ⊎ (old ≡ option_map (staled s) first)) → (new ≡ first) ⊎ (new ≡ option_map (staled s) first)
   stale_one true s first old o was new e same is (inl x) = inr (is ∙ gone s o e ∙ ap (option_map (staled s)) (sym (same refl).0 ∙ x))
   stale_one true s first old o was new e same is (inr x) = absurd (not_twice s first (ap (λ y. is_with s (came_at y)) (sym x ∙ (same refl).0) ∙ e))
   stale_one false s first old o was new e same is (inl x) = inl (is ∙ x)
   stale_one false s first old o was new e same is (inr x) = inr (is ∙ x)
 
-  pub stale_more_of : (first hops hops' : BTreeMap ℕ (Hop A)) (stale : BTreeSet ℕ) (held : BTreeSet Holding) (a : ℕ) (s : Network) → AreTied hops stale held → set.contains holding_cmp held (record { subnet = s; hop = a }) ≡ true
+  pub stale_more_of : (first hops hops' : BTreeMap ℕ (Hop A)) (stale : BTreeSet ℕ) (held : BTreeSet Holding) (a : ℕ) (s : AddressPrefix) → AreTied hops stale held → set.contains holding_cmp held (record { subnet = s; hop = a }) ≡ true
       → Puts hops hops' a (option_map let_go (tree.get nat_cmp hops a)) → PartlyMaps (staled s) first hops → PartlyMaps (staled s) first hops'
   stale_more_of first hops hops' stale held a s tied has puts partly = λ q.
       stale_one (is_at (nat_cmp a) q) s (tree.get nat_cmp first q) (tree.get nat_cmp hops q) (tree.get nat_cmp hops a) (tree.get nat_cmp first a) (tree.get nat_cmp hops' q)
@@ -284,11 +284,11 @@ module _ {A : Type 0} where
       (λ t. (ap (λ x. tree.get nat_cmp hops x) (one_address a q t), ap (λ x. tree.get nat_cmp first x) (one_address a q t)))
       (puts q) (partly q)
 
-  kept : (s : Network) (o : Option (Hop A)) → is_with s (came_at o) ≡ false → o ≡ option_map (staled s) o
+  kept : (s : AddressPrefix) (o : Option (Hop A)) → is_with s (came_at o) ≡ false → o ≡ option_map (staled s) o
   kept s None e = refl
   kept s (Some h) e = ap (λ b. Some (record { in_force = h.in_force; fresh = h.fresh; came = cond b None h.came })) (sym e)
 
-  pub all_stale : (first hops : BTreeMap ℕ (Hop A)) (stale : BTreeSet ℕ) (held : BTreeSet Holding) (s : Network) → AreTied hops stale held → IsHeldByNone held s → PartlyMaps (staled s) first hops → Maps (staled s) first hops
+  pub all_stale : (first hops : BTreeMap ℕ (Hop A)) (stale : BTreeSet ℕ) (held : BTreeSet Holding) (s : AddressPrefix) → AreTied hops stale held → IsHeldByNone held s → PartlyMaps (staled s) first hops → Maps (staled s) first hops
   all_stale first hops stale held s tied none partly = λ q. elim (partly q) [
     | inl e ↦ e ∙ kept s (tree.get nat_cmp first q) (ap (λ x. is_with s (came_at x)) (sym e) ∙ sym (tied.held_is (record { subnet = s; hop = q })) ∙ none q)
     | inr e ↦ e

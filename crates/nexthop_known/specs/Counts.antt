@@ -6,7 +6,7 @@ use Rattle.std.specs.Ordering.{nat_cmp}
 use Rattle.std.specs.BTreeMap.{BTreeMap, is_at}
 use Rattle.std.specs.BTreeMap as tree
 use Rattle.std.specs.FinMap as map
-use Rattle.addr4.specs.Prefixes.{Network}
+use Rattle.addr4.specs.Prefixes.{AddressPrefix}
 use Rattle.link_change.specs.Rows.{Rows}
 
 -- of each next hop that some row names, how many rows name it beside one
@@ -44,15 +44,15 @@ one_less counts a = one_less_of counts a (map.get counts a)
 -- ---- what they mean
 -- the rows of a link, each as the next hop that it names
 -- no prefix stands twice
-abbrev pub AllApart : List Network → Type 0
+abbrev pub AllApart : List AddressPrefix → Type 0
 AllApart [] = Unit {0}
 AllApart (p ∷ ps) = (Contains ps p → ⊥) × AllApart ps
 
 -- so many rows name a: they stand at the prefixes of a list without repeats
 pub record IsCount (named : Rows ℕ) (a n : ℕ) : Type 0 where
-  pub list : List Network
+  pub list : List AddressPrefix
   pub apart : AllApart list
-  pub exact : (q : Network) → Contains list q ↔ (named q ≡ Some a)
+  pub exact : (q : AddressPrefix) → Contains list q ↔ (named q ≡ Some a)
   pub size : length list ≡ n
 
 -- each next hop's count is the number of rows that name it

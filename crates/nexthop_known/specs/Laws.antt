@@ -1,7 +1,7 @@
 -- Laws of known next hops, for the crates above.
 use Rattle.std.specs.Prelude.{◌≡◌, ◌↔◌, ℕ, ◌+◌, ◌<◌, ◌≤◌, true, false, Bool, Option, Some, None}
 use Rattle.std.specs.FinMap as map
-use Rattle.addr4.specs.Prefixes.{Network, Holds}
+use Rattle.addr4.specs.Prefixes.{AddressPrefix, Holds}
 use Rattle.link_change.specs.Rows.{Rows, no_rows, with_row}
 use Rattle.register_interest.specs.Width.{width}
 use Rattle.nexthop_known.specs.declared.answer.Hop.{Hop}
@@ -31,50 +31,50 @@ MoreAndLess = (counts : Counts) (a : ℕ) → one_less (one_more counts a) a ≡
 -- The counts follow the change of a row.
 abbrev pub CountsFollow : Type 0
 CountsFollow =
-    (named : Rows ℕ) (p : Network) (after : Option ℕ) (old new : Counts) → AreCounted named old → Recounts (named p) after old new
+    (named : Rows ℕ) (p : AddressPrefix) (after : Option ℕ) (old new : Counts) → AreCounted named old → Recounts (named p) after old new
     → AreCounted (with_row named p after) new
 
 -- A next hop has a count exactly where some row names it.
 abbrev pub NamedIsCounted : Type 0
-NamedIsCounted = (named : Rows ℕ) (counts : Counts) (q : Network) (a : ℕ) → AreCounted named counts → named q ≡ Some a → map.contains_key counts a ≡ true
+NamedIsCounted = (named : Rows ℕ) (counts : Counts) (q : AddressPrefix) (a : ℕ) → AreCounted named counts → named q ≡ Some a → map.contains_key counts a ≡ true
 
 abbrev pub CountedIsNamed : Type 0
-CountedIsNamed = (named : Rows ℕ) (counts : Counts) (a : ℕ) → AreCounted named counts → map.contains_key counts a ≡ true → (q : Network) × (named q ≡ Some a)
+CountedIsNamed = (named : Rows ℕ) (counts : Counts) (a : ℕ) → AreCounted named counts → map.contains_key counts a ≡ true → (q : AddressPrefix) × (named q ≡ Some a)
 
 -- ---- the register's answers
 module _ (A : Type 0) where
   -- Where no next hop is known and no interest kept, they agree.
   abbrev pub NothingAgrees : Type 0
-  NothingAgrees = (answer : ℕ → A) (interested : Network → Bool) → ((s : Network) → interested s ≡ false) → Agree answer interested (λ (_ : ℕ). None)
+  NothingAgrees = (answer : ℕ → A) (interested : AddressPrefix → Bool) → ((s : AddressPrefix) → interested s ≡ false) → Agree answer interested (λ (_ : ℕ). None)
 
   -- A next hop that was unknown or stale gets the present answer, and the interest in its subnet is kept.
   abbrev pub AnsweredAgrees : Type 0
   AnsweredAgrees =
-      (answer : ℕ → A) (was is : Network → Bool) (old new : ℕ → Option (Hop A)) (a : ℕ) (h : Hop A) (s : Network) → Agree answer was old
+      (answer : ℕ → A) (was is : AddressPrefix → Bool) (old new : ℕ → Option (Hop A)) (a : ℕ) (h : Hop A) (s : AddressPrefix) → Agree answer was old
       → came_at (old a) ≡ None → IsPutAt old new a (Some h) → h.fresh ≡ answer a → h.came ≡ Some s → Holds width s a → IsInterestIn was is s true
       → Agree answer is new
 
   -- An interest that came too early is given up, unless a next hop needs it.
   abbrev pub EarlyAgrees : Type 0
   EarlyAgrees =
-      (answer : ℕ → A) (was is : Network → Bool) (hops : ℕ → Option (Hop A)) (s : Network) → Agree answer was hops → IsInterestIn was is s true
+      (answer : ℕ → A) (was is : AddressPrefix → Bool) (hops : ℕ → Option (Hop A)) (s : AddressPrefix) → Agree answer was hops → IsInterestIn was is s true
       → IsWithSome hops s → Agree answer is hops
 
   abbrev pub EarlyIsGivenUp : Type 0
   EarlyIsGivenUp =
-      (answer : ℕ → A) (was is then_is : Network → Bool) (hops : ℕ → Option (Hop A)) (s : Network) → Agree answer was hops → IsInterestIn was is s true
+      (answer : ℕ → A) (was is then_is : AddressPrefix → Bool) (hops : ℕ → Option (Hop A)) (s : AddressPrefix) → Agree answer was hops → IsInterestIn was is s true
       → IsWithNone hops s → IsInterestIn is then_is s false → Agree answer then_is hops
 
   -- A next hop is forgotten, and its interest given up unless another one needs it.
   abbrev pub ForgottenAgrees : Type 0
   ForgottenAgrees =
-      (answer : ℕ → A) (was is : Network → Bool) (old new : ℕ → Option (Hop A)) (a : ℕ) (h : Hop A) (up : Option Network) → Agree answer was old
+      (answer : ℕ → A) (was is : AddressPrefix → Bool) (old new : ℕ → Option (Hop A)) (a : ℕ) (h : Hop A) (up : Option AddressPrefix) → Agree answer was old
       → old a ≡ Some h → IsPutAt old new a None → IsUnshared new h.came up → GivesUp was is up → Agree answer is new
 
   -- Fresh answers come into force.
   abbrev pub SettledAgrees : Type 0
   SettledAgrees =
-      (answer : ℕ → A) (interested : Network → Bool) (old new : Hops A) → Agree answer interested (map.get old) → IsMapped settled old new
+      (answer : ℕ → A) (interested : AddressPrefix → Bool) (old new : Hops A) → Agree answer interested (map.get old) → IsMapped settled old new
       → Agree answer interested (map.get new)
 
   -- ---- how many next hops pass a test that none passes which isn't known

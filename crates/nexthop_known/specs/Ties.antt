@@ -7,7 +7,7 @@ use Rattle.std.specs.BTreeMap.{BTreeMap, is_at}
 use Rattle.std.specs.BTreeMap as tree
 use Rattle.std.specs.BTreeSet.{BTreeSet}
 use Rattle.std.specs.BTreeSet as set
-use Rattle.addr4.specs.Prefixes.{Network, prefix_cmp}
+use Rattle.addr4.specs.Prefixes.{AddressPrefix, prefix_cmp}
 use Rattle.nexthop_known.specs.declared.answer.Hop.{Hop}
 use Rattle.nexthop_known.specs.declared.index.Holding.{Holding}
 use Rattle.nexthop_known.specs.Hops.{is_with, came_at, is_stale_at, IsSettledAt}
@@ -17,7 +17,7 @@ abbrev pub holding_cmp : Holding → Holding → Ordering
 holding_cmp p q = ordering_then (prefix_cmp p.subnet q.subnet) (nat_cmp p.hop q.hop)
 
 -- whether the holding is that of the next hop, whose answer came with this subnet
-abbrev pub is_own : ℕ → Option Network → Holding → Bool
+abbrev pub is_own : ℕ → Option AddressPrefix → Holding → Bool
 is_own a None k = false
 is_own a (Some s) k = is_at (holding_cmp (record { subnet = s; hop = a })) k
 
@@ -26,11 +26,11 @@ abbrev pub Sets : {K : Type 0} → (K → K → Ordering) → (K → Bool) → B
 Sets {K} cmp test b old new = (q : K) → set.contains cmp new q ≡ cond (test q) b (set.contains cmp old q)
 
 -- the subnet, unless it is the other one
-abbrev pub other_than : Network → Option Network → Option Network
+abbrev pub other_than : AddressPrefix → Option AddressPrefix → Option AddressPrefix
 other_than s came = cond (is_with s came) None came
 
 -- the answer of no next hop came with the subnet
-abbrev pub IsHeldByNone : BTreeSet Holding → Network → Type 0
+abbrev pub IsHeldByNone : BTreeSet Holding → AddressPrefix → Type 0
 IsHeldByNone held s = (a : ℕ) → set.contains holding_cmp held (record { subnet = s; hop = a }) ≡ false
 
 module _ {A : Type 0} where
@@ -62,6 +62,6 @@ module _ {A : Type 0} where
   PartlyMaps f old new = (a : ℕ) → (tree.get nat_cmp new a ≡ tree.get nat_cmp old a) ⊎ (tree.get nat_cmp new a ≡ option_map f (tree.get nat_cmp old a))
 
 -- the subnet with which an answer came, where no answer of these next hops came with it
-abbrev pub IsFreed : BTreeSet Holding → Option Network → Option Network → Type 0
-IsFreed held came None = (came ≡ None) ⊎ ((s : Network) × (came ≡ Some s) × (a : ℕ) × (set.contains holding_cmp held (record { subnet = s; hop = a }) ≡ true))
+abbrev pub IsFreed : BTreeSet Holding → Option AddressPrefix → Option AddressPrefix → Type 0
+IsFreed held came None = (came ≡ None) ⊎ ((s : AddressPrefix) × (came ≡ Some s) × (a : ℕ) × (set.contains holding_cmp held (record { subnet = s; hop = a }) ≡ true))
 IsFreed held came (Some s) = (came ≡ Some s) × IsHeldByNone held s

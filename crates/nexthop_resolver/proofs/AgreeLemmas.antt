@@ -6,7 +6,7 @@ use Rattle.std.specs.List.{Contains}
 use Rattle.std.specs.Option.{option_map}
 use Rattle.std.specs.Ordering.{nat_cmp}
 use Rattle.std.specs.FinMap.{get, empty, get-empty}
-use Rattle.addr4.specs.Prefixes.{Network}
+use Rattle.addr4.specs.Prefixes.{AddressPrefix}
 use Rattle.rib_route.specs.declared.rows.Interior.{Interior}
 use Rattle.register_interest.specs.declared.interests.Interest.{Interest}
 use Rattle.register_interest.specs.Interests.{without}
@@ -23,22 +23,22 @@ use Rattle.nexthop_resolver.proofs.MoveLemmas.{by_bool, same_some, clash_some}
 
 -- ---- whether an interest is one of a list
 -- the client's interest in a subnet
-abbrev own : ℕ → Network → Interest
+abbrev own : ℕ → AddressPrefix → Interest
 own k s = record { subnet = s; client = k }
 
-one_told : (k : ℕ) (s : Network) (i : Interest) → Decides (i.client == k && is_with i.subnet (Some s)) (i ≡ own k s)
+one_told : (k : ℕ) (s : AddressPrefix) (i : Interest) → Decides (i.client == k && is_with i.subnet (Some s)) (i ≡ own k s)
 one_told k s i =
     Decides-like _ (λ both. λ j. record { subnet = both.1 j; client = both.0 j }) (λ is. (ap (λ (x : Interest). x.client) is, ap (λ (x : Interest). x.subnet) is))
     (Decides-and _ (is_with i.subnet (Some s)) (Decides-eqb i.client k)
-    (λ e. sym (same_some s i.subnet (with_told i.subnet (Some s) e)), λ is. ap (λ (t : Network). is_with t (Some s)) is ∙ with_itself s))
+    (λ e. sym (same_some s i.subnet (with_told i.subnet (Some s) e)), λ is. ap (λ (t : AddressPrefix). is_with t (Some s)) is ∙ with_itself s))
 
-listed_told : (out : List Interest) (k : ℕ) (s : Network) → Decides (is_listed out k (Some s)) (Contains out (own k s))
+listed_told : (out : List Interest) (k : ℕ) (s : AddressPrefix) → Decides (is_listed out k (Some s)) (Contains out (own k s))
 listed_told out k s =
     Decides-contains out (own k s) _
     (Decides-by_or (λ (i : Interest). i.client == k && is_with i.subnet (Some s)) (λ (i : Interest). i ≡ own k s) (λ (l : List Interest). is_listed l k (Some s)) (one_told k s) refl (λ i l. refl) out)
 
-module _ {A : Type 0} (kept : Option (Network × Interior) → A) where
-  pub nothing_yet : (client : ℕ) (r : Registry Interior) → ((s : Network) → interest_of client r s ≡ false) → Agrees kept client empty r
+module _ {A : Type 0} (kept : Option (AddressPrefix × Interior) → A) where
+  pub nothing_yet : (client : ℕ) (r : Registry Interior) → ((s : AddressPrefix) → interest_of client r s ≡ false) → Agrees kept client empty r
   nothing_yet client r none = record {
     present = λ a h s e came. clash_some h _ (sym (get-empty nat_cmp a) ∙ e);
     wanted = λ s is. absurd (let clash : false ≡ true = sym (none s) ∙ is in cc);
@@ -60,17 +60,17 @@ module _ {A : Type 0} (kept : Option (Network × Interior) → A) where
   -- ---- after a change of the interior routes
   module _ (k : ℕ) (out : List Interest) (was is : Registry Interior) (old new : Hops A) (ints : is.interests ≡ without was.interests out) (keeps : KeepsAnswers was is) (reached : IsMapped (reached_hop out k) old new) where
     -- an interest that isn't given up is kept
-    kept_as_was : (s : Network) → is_listed out k (Some s) ≡ false → get is.interests (own k s) ≡ get was.interests (own k s)
+    kept_as_was : (s : AddressPrefix) → is_listed out k (Some s) ≡ false → get is.interests (own k s) ≡ get was.interests (own k s)
     kept_as_was s free = ap (λ m. get m (own k s)) ints ∙ without_others was.interests out (own k s) (not_from_Decides _ (listed_told out k s) free)
 
     -- and one that is kept wasn't given up
-    free_of : (s : Network) → interest_of k is s ≡ true → is_listed out k (Some s) ≡ false
+    free_of : (s : AddressPrefix) → interest_of k is s ≡ true → is_listed out k (Some s) ≡ false
     free_of s in_it = by_bool (is_listed out k (Some s)) (λ b. b ≡ false) (λ listed.
         let gone : get is.interests (own k s) ≡ None = ap (λ m. get m (own k s)) ints ∙ without_listed was.interests out (own k s) ((listed_told out k s).0 listed) in
         absurd (let clash : false ≡ true = sym (ap is_some gone) ∙ in_it in cc)) (λ _. refl)
 
     -- an answer that isn't stale was none before
-    fresh_still : (g h : Hop A) (s : Network) → reached_hop out k g ≡ h → h.came ≡ Some s → (g.came ≡ Some s) × (is_listed out k (Some s) ≡ false) × (g.fresh ≡ h.fresh)
+    fresh_still : (g h : Hop A) (s : AddressPrefix) → reached_hop out k g ≡ h → h.came ≡ Some s → (g.came ≡ Some s) × (is_listed out k (Some s) ≡ false) × (g.fresh ≡ h.fresh)
     fresh_still g h s same came =
         let c = by_test (is_listed out k g.came) (ap (λ (x : Hop A). x.came) same ∙ came) in
         (c.1, ap (is_listed out k) (sym c.1) ∙ c.0, ap (λ (x : Hop A). x.fresh) same)
@@ -79,7 +79,7 @@ module _ {A : Type 0} (kept : Option (Network × Interior) → A) where
         by_test true e = clash_some s _ e
         by_test false e = (refl, e)
 
-    present_still : Agrees kept k old was → (a : ℕ) (h : Hop A) (s : Network) (o : Option (Hop A)) → get old a ≡ o → option_map (reached_hop out k) o ≡ Some h → h.came ≡ Some s
+    present_still : Agrees kept k old was → (a : ℕ) (h : Hop A) (s : AddressPrefix) (o : Option (Hop A)) → get old a ≡ o → option_map (reached_hop out k) o ≡ Some h → h.came ≡ Some s
         → IsPresent (answer_of kept is) (interest_of k is) a h s
     present_still agree a h s None at e came = clash_some h _ e
     present_still agree a h s (Some g) at e came =

@@ -3,7 +3,7 @@ use Rattle.std.proofs.Common.{◌≡◌, ◌≢◌, ℕ, true, false, not, refl,
 use Rattle.std.specs.FinMap.{get, insert, remove, nat_cmp-IsAntisymmetric}
 use Rattle.std.specs.FinMap as map
 use Rattle.std.specs.Cmp.{nat_cmp_total}
-use Rattle.addr4.specs.Prefixes.{Network, Holds}
+use Rattle.addr4.specs.Prefixes.{AddressPrefix, Holds}
 use Rattle.register_interest.specs.Width.{width}
 use Rattle.link_change.proofs.MapLemmas.{get_at, get_apart, removed_at, removed_apart}
 use Rattle.rib_route.specs.declared.rows.Interior.{Interior}
@@ -30,21 +30,21 @@ module _ {R : Type 0} where
   pub keeps_all : (client : ℕ) (r : Registry R) → KeepsOthers client r r
   keeps_all client r = record { rows = refl; interests = λ k ne. refl }
 
-  module _ (client : ℕ) (was is : Registry R) (s : Network) where
-    abbrev own : Network → Interest
+  module _ (client : ℕ) (was is : Registry R) (s : AddressPrefix) where
+    abbrev own : AddressPrefix → Interest
     own t = record { subnet = t; client = client }
 
-    apart_own : (t : Network) → t ≢ s → own t ≢ own s
+    apart_own : (t : AddressPrefix) → t ≢ s → own t ≢ own s
     apart_own t ne e = ne (ap (λ (k : Interest). k.subnet) e)
 
     -- an interest comes
-    pub comes_in : (m : Option Network) → is.interests ≡ insert was.interests (own s) m → IsInterestIn (interest_of client was) (interest_of client is) s true
+    pub comes_in : (m : Option AddressPrefix) → is.interests ≡ insert was.interests (own s) m → IsInterestIn (interest_of client was) (interest_of client is) s true
     comes_in m ints = record {
       here = ap (λ x. map.contains_key x (own s)) ints ∙ ap is_some (get_at interests_total was.interests (own s) m);
       others = λ t ne. ap (λ x. map.contains_key x (own t)) ints ∙ ap is_some (get_apart interests_total exact_interests was.interests (own s) m (own t) (apart_own t ne));
     }
 
-    pub comes_alone : (m : Option Network) → is.rows ≡ was.rows → is.interests ≡ insert was.interests (own s) m → KeepsOthers client was is
+    pub comes_alone : (m : Option AddressPrefix) → is.rows ≡ was.rows → is.interests ≡ insert was.interests (own s) m → KeepsOthers client was is
     comes_alone m rows ints = record {
       rows = rows;
       interests = λ k ne. ap (λ x. get x k) ints ∙ get_apart interests_total exact_interests was.interests (own s) m k (λ e. ne (ap (λ (x : Interest). x.client) e));
@@ -64,10 +64,10 @@ module _ {R : Type 0} where
     }
 
 -- the subnet of a cover is the largest one for its longest match
-pub largest_of : (r : Registry Interior) (a : ℕ) (m : Option (Network × Interior)) (s : Network) → IsCover width (get r.rows) a m s → IsLargest (get r.rows) a s
-largest_of r a m s c = subst (λ (o : Option (Network × Interior)). IsSubnet width (get r.rows) a (matched o) s) c.longest_is c.subnet
+pub largest_of : (r : Registry Interior) (a : ℕ) (m : Option (AddressPrefix × Interior)) (s : AddressPrefix) → IsCover width (get r.rows) a m s → IsLargest (get r.rows) a s
+largest_of r a m s c = subst (λ (o : Option (AddressPrefix × Interior)). IsSubnet width (get r.rows) a (matched o) s) c.longest_is c.subnet
 
-module _ {A : Type 0} (kept : Option (Network × Interior) → A) where
+module _ {A : Type 0} (kept : Option (AddressPrefix × Interior) → A) where
   pub same_answers : (was is : Registry Interior) → is.rows ≡ was.rows → answer_of kept is ≡ answer_of kept was
   same_answers was is rows = λ i a. kept (longest width (get (rows i)) a)
 
@@ -78,7 +78,7 @@ module _ {A : Type 0} (kept : Option (Network × Interior) → A) where
   by_rows client known was is rows agree = subst (λ (f : ℕ → A). Agree f (interest_of client is) (get known)) (sym (same_answers was is rows)) agree
 
   -- an unknown or stale next hop gets the present answer
-  put_agrees : (client : ℕ) (known new : Hops A) (was is : Registry Interior) (a : ℕ) (h : Hop A) (s : Network) → Agrees kept client known was → is.rows ≡ was.rows
+  put_agrees : (client : ℕ) (known new : Hops A) (was is : Registry Interior) (a : ℕ) (h : Hop A) (s : AddressPrefix) → Agrees kept client known was → is.rows ≡ was.rows
       → IsInterestIn (interest_of client was) (interest_of client is) s true → came_at (get known a) ≡ None → new ≡ insert known a h
       → h.fresh ≡ answer_of kept was a → h.came ≡ Some s → Holds width s a → Agrees kept client new is
   put_agrees client known new was is a h s agree rows interest free new_is fresh came holds =
@@ -87,7 +87,7 @@ module _ {A : Type 0} (kept : Option (Network × Interior) → A) where
       (record { here = ap (λ m. get m a) new_is ∙ get_at nat_cmp_total known a h; others = λ b ne. ap (λ m. get m b) new_is ∙ get_apart nat_cmp_total nat_cmp-IsAntisymmetric known a h b ne })
       fresh came holds interest)
 
-  pub learnt_agrees : (client : ℕ) (known new : Hops A) (was is : Registry Interior) (a : ℕ) (s : Network) (x : A) → Agrees kept client known was → is.rows ≡ was.rows
+  pub learnt_agrees : (client : ℕ) (known new : Hops A) (was is : Registry Interior) (a : ℕ) (s : AddressPrefix) (x : A) → Agrees kept client known was → is.rows ≡ was.rows
       → IsInterestIn (interest_of client was) (interest_of client is) s true → is_some (get known a) ≡ false → new ≡ insert known a (learnt s x)
       → x ≡ answer_of kept was a → Holds width s a → Agrees kept client new is
   learnt_agrees client known new was is a s x agree rows interest unknown new_is answer holds =
@@ -97,18 +97,18 @@ module _ {A : Type 0} (kept : Option (Network × Interior) → A) where
   stale_came None e = refl
   stale_came (Some h) e = by_came h.came refl
     where
-      by_came : (c : Option Network) → h.came ≡ c → h.came ≡ None
+      by_came : (c : Option AddressPrefix) → h.came ≡ c → h.came ≡ None
       by_came None is = is
       by_came (Some s) is = absurd (let clash : false ≡ true = sym (ap (λ c. not (is_some c)) is) ∙ e in cc)
 
-  pub renewed_agrees : (client : ℕ) (known new : Hops A) (was is : Registry Interior) (a : ℕ) (s : Network) (x : A) → Agrees kept client known was → is.rows ≡ was.rows
+  pub renewed_agrees : (client : ℕ) (known new : Hops A) (was is : Registry Interior) (a : ℕ) (s : AddressPrefix) (x : A) → Agrees kept client known was → is.rows ≡ was.rows
       → IsInterestIn (interest_of client was) (interest_of client is) s true → is_stale_at (get known a) ≡ true → IsRenewed known new a s x
       → x ≡ answer_of kept was a → Holds width s a → Agrees kept client new is
   renewed_agrees client known new was is a s x agree rows interest stale new_is answer holds =
       put_agrees client known new was is a (renewed s x (get known a)) s agree rows interest (stale_came (get known a) stale) new_is answer refl holds
 
   -- an interest came too early
-  pub is_early : (client : ℕ) (known : Hops A) (was is : Registry Interior) (s : Network) → Agrees kept client known was → is.rows ≡ was.rows
+  pub is_early : (client : ℕ) (known : Hops A) (was is : Registry Interior) (s : AddressPrefix) → Agrees kept client known was → is.rows ≡ was.rows
       → IsInterestIn (interest_of client was) (interest_of client is) s true → IsEarly kept client known is s
   is_early client known was is s agree rows interest = record {
     before = interest_of client was;
@@ -116,17 +116,17 @@ module _ {A : Type 0} (kept : Option (Network × Interior) → A) where
     comes = interest;
   }
 
-  pub needed : (client : ℕ) (known : Hops A) (r : Registry Interior) (s : Network) → IsEarly kept client known r s → IsWithSome (get known) s → Agrees kept client known r
+  pub needed : (client : ℕ) (known : Hops A) (r : Registry Interior) (s : AddressPrefix) → IsEarly kept client known r s → IsWithSome (get known) s → Agrees kept client known r
   needed client known r s early some = early_agrees (answer_of kept r) early.before (interest_of client r) (get known) s early.agree early.comes some
 
-  pub not_needed : (client : ℕ) (known : Hops A) (was is : Registry Interior) (s : Network) → IsEarly kept client known was s → IsWithNone (get known) s → is.rows ≡ was.rows
+  pub not_needed : (client : ℕ) (known : Hops A) (was is : Registry Interior) (s : AddressPrefix) → IsEarly kept client known was s → IsWithNone (get known) s → is.rows ≡ was.rows
       → IsInterestIn (interest_of client was) (interest_of client is) s false → Agrees kept client known is
   not_needed client known was is s early none rows out =
       by_rows client known was is rows
       (early_is_given_up (answer_of kept was) early.before (interest_of client was) (interest_of client is) (get known) s early.agree early.comes none out)
 
   -- a next hop is forgotten
-  pub forgot_agrees : (client : ℕ) (known new : Hops A) (was is : Registry Interior) (a : ℕ) (up : Option Network) → Agrees kept client known was → is.rows ≡ was.rows
+  pub forgot_agrees : (client : ℕ) (known new : Hops A) (was is : Registry Interior) (a : ℕ) (up : Option AddressPrefix) → Agrees kept client known was → is.rows ≡ was.rows
       → IsSome (get known a) → new ≡ remove known a → IsGivenUp (get known) (get new) a up → GivesUp (interest_of client was) (interest_of client is) up
       → Agrees kept client new is
   forgot_agrees client known new was is a up agree rows some new_is given gives =

@@ -7,7 +7,7 @@ use Rattle.std.specs.declared.cmp.Ordering.{Ordering}
 use Rattle.std.specs.Ordering.{nat_cmp}
 use Rattle.std.specs.Cmp.{IsTotalOrder, nat_cmp_total}
 use Rattle.std.specs.FinMap.{FinMap, IsAntisymmetric, get, remove, empty, len, contains_key, get-empty, len-empty, len-remove, same_map, nat_cmp-IsAntisymmetric}
-use Rattle.addr4.specs.Prefixes.{Network}
+use Rattle.addr4.specs.Prefixes.{AddressPrefix}
 use Rattle.link_change.specs.Rows.{Rows}
 use Rattle.link_change.proofs.MapLemmas.{left_apart}
 use Rattle.nexthop_known.proofs.CountLemmas.{counted_is_named}
@@ -55,16 +55,16 @@ module _ {K : Type 0} {R : K → K → Ordering} (total : IsTotalOrder R) (exact
       omega (arith, both)
 
 -- ---- each key is named at a prefix of the list
-abbrev hop_at : Rows ℕ → Network → ℕ
+abbrev hop_at : Rows ℕ → AddressPrefix → ℕ
 hop_at named p = unwrap_or (named p) 0
 
-mapped : (named : Rows ℕ) (ps : List Network) (q : Network) (a : ℕ) → named q ≡ Some a → Contains ps q → Contains (map (hop_at named) ps) a
+mapped : (named : Rows ℕ) (ps : List AddressPrefix) (q : AddressPrefix) (a : ℕ) → named q ≡ Some a → Contains ps q → Contains (map (hop_at named) ps) a
 mapped named (p ∷ ps) q a at (zero, lt, is) = (zero, omega arith, ap (hop_at named) is ∙ ap (λ (o : Option ℕ). unwrap_or o 0) at)
 mapped named (p ∷ ps) q a at (suc i, lt, is) = let w = mapped named ps q a at (i, omega (arith, lt), is) in (suc w.0, omega (arith, w.1), w.2)
 mapped named [] q a at (i, lt, is) = absurd (omega (arith, lt))
 
 module _ {X : Type 0} (named : Rows ℕ) where
-  pub few : (ps : List Network) (m : FinMap nat_cmp X) → ((a : ℕ) → contains_key m a ≡ true → (q : Network) × (named q ≡ Some a) × Contains ps q) → len m ≤ length ps
+  pub few : (ps : List AddressPrefix) (m : FinMap nat_cmp X) → ((a : ℕ) → contains_key m a ≡ true → (q : AddressPrefix) × (named q ≡ Some a) × Contains ps q) → len m ≤ length ps
   few ps m each =
       let le = few_keys nat_cmp_total nat_cmp-IsAntisymmetric (map (hop_at named) ps) m (λ a has. let w = each a has in mapped named ps w.0 a w.1 w.2) in
       let same = length-map ps (hop_at named) in

@@ -4,7 +4,7 @@ use Rattle.std.specs.Option.{option_map}
 use Rattle.std.proofs.lemmas.Bool.{and_right, or_parts, or_from}
 use Rattle.std.specs.FinMap as map
 use Rattle.std.specs.FinMap.{get}
-use Rattle.addr4.specs.Prefixes.{Network}
+use Rattle.addr4.specs.Prefixes.{AddressPrefix}
 use Rattle.rib_route.specs.declared.rows.Interior.{Interior}
 use Rattle.register_interest.specs.Registers.{Registry}
 use Rattle.nexthop_known.specs.declared.answer.Hop.{Hop}
@@ -26,7 +26,7 @@ module _ {A : Type 0} (alike : A → A → Bool) (tells : TellsAlike alike) wher
   same_of h e = (tells h.fresh h.in_force).0 (not_false (alike h.fresh h.in_force) e)
 
   -- the answer that holds at the prefix is the fresh one
-  fresh_holds : (known : Hops A) (walk : Option (Option Network)) (q : Network) (a : ℕ) (x : A) (h : Hop A) → get known a ≡ Some h → h.fresh ≡ x → (is_in_force walk q && differs_at alike (Some h)) ≡ false
+  fresh_holds : (known : Hops A) (walk : Option (Option AddressPrefix)) (q : AddressPrefix) (a : ℕ) (x : A) (h : Hop A) → get known a ≡ Some h → h.fresh ≡ x → (is_in_force walk q && differs_at alike (Some h)) ≡ false
       → function_of (in_force_by known) (walk_to (fresh_by known) walk) q a ≡ Some x
   fresh_holds known None q a x h at fresh none = ap (option_map (λ (y : Hop A). y.in_force)) at ∙ ap (λ (y : A). Some y) (sym (same_of h none) ∙ fresh)
   fresh_holds known (Some place) q a x h at fresh none = by_place (is_beyond place q) none
@@ -36,16 +36,16 @@ module _ {A : Type 0} (alike : A → A → Bool) (tells : TellsAlike alike) wher
       by_place false e = ap (option_map (λ (y : Hop A). y.fresh)) at ∙ ap (λ (y : A). Some y) fresh
 
   -- and that is the present one
-  answer_at : (kept : Option (Network × Interior) → A) (r : Registry Interior) (s : Resolving A) (q : Network) (a : ℕ) → Agrees kept s.client s.known r → map.contains_key s.known a ≡ true
+  answer_at : (kept : Option (AddressPrefix × Interior) → A) (r : Registry Interior) (s : Resolving A) (q : AddressPrefix) (a : ℕ) → Agrees kept s.client s.known r → map.contains_key s.known a ≡ true
       → hop_lags alike s q (Some a) ≡ false → function_at (passes s) q a ≡ Some (answer_of kept r a)
   answer_at kept r s q a agree known none =
       let h = some_of (get s.known a) known in
       by_came h.0 h.1 h.0.came refl (or_parts (is_stale_at (get s.known a)) (is_in_force s.walk q && differs_at alike (get s.known a)) none)
     where
-      by_came : (h : Hop A) → get s.known a ≡ Some h → (c : Option Network) → h.came ≡ c → (is_stale_at (get s.known a) ≡ false) × ((is_in_force s.walk q && differs_at alike (get s.known a)) ≡ false)
+      by_came : (h : Hop A) → get s.known a ≡ Some h → (c : Option AddressPrefix) → h.came ≡ c → (is_stale_at (get s.known a) ≡ false) × ((is_in_force s.walk q && differs_at alike (get s.known a)) ≡ false)
           → function_at (passes s) q a ≡ Some (answer_of kept r a)
       by_came h at None came neither =
-          let stale : is_stale_at (get s.known a) ≡ true = ap (λ (o : Option (Hop A)). is_stale_at o) at ∙ ap (λ (c : Option Network). not (is_some c)) came in
+          let stale : is_stale_at (get s.known a) ≡ true = ap (λ (o : Option (Hop A)). is_stale_at o) at ∙ ap (λ (c : Option AddressPrefix). not (is_some c)) came in
           let clash : true ≡ false = sym stale ∙ neither.0 in
           absurd (cc)
       by_came h at (Some t) came neither =
@@ -67,7 +67,7 @@ pub none_held_up_at_rest : {A : Type 0} → NoneHeldUpAtRest A
 none_held_up_at_rest {A} alike tells s q None rests = refl
 none_held_up_at_rest {A} alike tells s q (Some a) rests = by_hop (get s.known a) refl
   where
-    there : (c : Option Network) → c ≢ None → not (is_some c) ≡ false
+    there : (c : Option AddressPrefix) → c ≢ None → not (is_some c) ≡ false
     there None ne = absurd (ne refl)
     there (Some t) ne = refl
 

@@ -4,7 +4,7 @@ use Rattle.std.proofs.lemmas.Bool.Decides.{nat_tests}
 use Rattle.std.proofs.lemmas.Bool.{cases_eq, or_parts, or_from, true_from_ne_false}
 use Rattle.std.specs.Option.{option_map}
 use Rattle.std.specs.FinMap.{get, insert}
-use Rattle.addr4.specs.Prefixes.{Network}
+use Rattle.addr4.specs.Prefixes.{AddressPrefix}
 use Rattle.link_change.specs.Rows.{Rows, Candidates, IsNextCandidate}
 use Rattle.link_change.specs.declared.change.Change.{Change}
 use Rattle.rib_route.specs.declared.rows.Interior.{Interior}
@@ -83,7 +83,7 @@ as_many_stale : {A : Type 0} (old new : Hops A) → IsMapped settled old new →
 as_many_stale old new mapped = same_count is_stale_at old new refl (λ a. ap (λ o. is_stale_at o) (mapped a) ∙ settled_stale (get old a))
 
 -- one is asked for again
-renewed_fewer : {A : Type 0} (old new : Hops A) (a : ℕ) (s : Network) (x : A) → IsLeastStale (get old) (Some a) → new ≡ insert old a (renewed s x (get old a))
+renewed_fewer : {A : Type 0} (old new : Hops A) (a : ℕ) (s : AddressPrefix) (x : A) → IsLeastStale (get old) (Some a) → new ≡ insert old a (renewed s x (get old a))
     → stale_count new + 1 ≡ stale_count old
 renewed_fewer old new a s x least is =
     let h = least.0 in
@@ -91,8 +91,8 @@ renewed_fewer old new a s x least is =
     ap (λ m. stale_count m + 1) is ∙ one_counts_no_more is_stale_at old a (renewed s x (get old a)) refl stale refl
 
 -- ---- sums
-module _ (beyond : Option Network → ℕ) where
-  sum_of : Option (Option Network) → ℕ → ℕ → ℕ
+module _ (beyond : Option AddressPrefix → ℕ) where
+  sum_of : Option (Option AddressPrefix) → ℕ → ℕ → ℕ
   sum_of walk stale differing = walk_turns beyond walk + stale + next_walk beyond (is_needed (is_some walk) stale differing)
 
   no_walk : (b : Bool) → b ≡ false → next_walk beyond b ≡ 0
@@ -108,7 +108,7 @@ module _ (beyond : Option Network → ℕ) where
   at_most false = omega arith
 
   -- a walk goes on
-  goes_less : (place : Option Network) (p : Network) (stale stale' d d' : ℕ) → stale' ≡ stale → beyond (Some p) < beyond place
+  goes_less : (place : Option AddressPrefix) (p : AddressPrefix) (stale stale' d d' : ℕ) → stale' ≡ stale → beyond (Some p) < beyond place
       → sum_of (Some (Some p)) stale' d' + 1 ≤ sum_of (Some place) stale d
   unfolding sum_of
   goes_less place p stale stale' d d' same less =
@@ -116,7 +116,7 @@ module _ (beyond : Option Network → ℕ) where
       omega (arith, less, same, w)
 
   -- or ends, where none differs any more
-  ends_less : (place : Option Network) (stale stale' d d' : ℕ) → stale' ≡ stale → d' ≡ 0 → sum_of None stale' d' + 1 ≤ sum_of (Some place) stale d
+  ends_less : (place : Option AddressPrefix) (stale stale' d d' : ℕ) → stale' ≡ stale → d' ≡ 0 → sum_of None stale' d' + 1 ≤ sum_of (Some place) stale d
   unfolding sum_of
   ends_less place stale stale' d d' same z =
       let sum : stale' + d' ≡ stale = omega (arith, same, z) in
@@ -132,7 +132,7 @@ module _ (beyond : Option Network → ℕ) where
       omega (arith, fewer, w, m)
 
   -- a walk begins, and goes on
-  begins_on : (p : Network) (stale stale' d d' : ℕ) → stale ≡ 0 → stale' ≡ 0 → 0 < d → beyond (Some p) < beyond None
+  begins_on : (p : AddressPrefix) (stale stale' d d' : ℕ) → stale ≡ 0 → stale' ≡ 0 → 0 < d → beyond (Some p) < beyond None
       → sum_of (Some (Some p)) stale' d' + 1 ≤ sum_of None stale d
   unfolding sum_of
   begins_on p stale stale' d d' z z' lt less =
@@ -149,23 +149,23 @@ module _ (beyond : Option Network → ℕ) where
       omega (arith, w, n, z, z')
 
   -- ---- none is left at rest
-  rest_sum : (walk : Option (Option Network)) (stale d : ℕ) → walk ≡ None → stale ≡ 0 → d ≡ 0 → sum_of walk stale d ≡ 0
+  rest_sum : (walk : Option (Option AddressPrefix)) (stale d : ℕ) → walk ≡ None → stale ≡ 0 → d ≡ 0 → sum_of walk stale d ≡ 0
   unfolding sum_of
   rest_sum None stale d off z n =
       let w = no_walk (nat_lt 0 (stale + d)) (lt_not 0 (stale + d) (omega (arith, z, n))) in
       omega (arith, w, z)
   rest_sum (Some place) stale d off z n = absurd (let clash : Some place ≡ None = off in cc)
 
-  sum_off : (walk : Option (Option Network)) (stale d : ℕ) → sum_of walk stale d ≡ 0 → walk ≡ None
+  sum_off : (walk : Option (Option AddressPrefix)) (stale d : ℕ) → sum_of walk stale d ≡ 0 → walk ≡ None
   unfolding sum_of
   sum_off None stale d z = refl
   sum_off (Some place) stale d z = absurd (omega (arith, z))
 
-  sum_stale : (walk : Option (Option Network)) (stale d : ℕ) → sum_of walk stale d ≡ 0 → stale ≡ 0
+  sum_stale : (walk : Option (Option AddressPrefix)) (stale d : ℕ) → sum_of walk stale d ≡ 0 → stale ≡ 0
   unfolding sum_of
   sum_stale walk stale d z = omega (arith, z)
 
-  sum_differs : (walk : Option (Option Network)) (stale d : ℕ) → sum_of walk stale d ≡ 0 → d ≡ 0
+  sum_differs : (walk : Option (Option AddressPrefix)) (stale d : ℕ) → sum_of walk stale d ≡ 0 → d ≡ 0
   unfolding sum_of
   sum_differs None stale d z = elim (cases_eq d 0) [
     | inl e ↦ e
@@ -173,9 +173,9 @@ module _ (beyond : Option Network → ℕ) where
   ]
   sum_differs (Some place) stale d z = absurd (omega (arith, z))
 
-module _ {A : Type 0} (alike : A → A → Bool) (beyond : Option Network → ℕ) where
+module _ {A : Type 0} (alike : A → A → Bool) (beyond : Option AddressPrefix → ℕ) where
   -- as the turns of two resolvers
-  sums : (old new : Resolving A) (x y : Option (Option Network)) → new.walk ≡ x → old.walk ≡ y
+  sums : (old new : Resolving A) (x y : Option (Option AddressPrefix)) → new.walk ≡ x → old.walk ≡ y
       → sum_of beyond x (stale_count new.known) (differing_count alike new.known) + 1 ≤ sum_of beyond y (stale_count old.known) (differing_count alike old.known)
       → turns_left alike beyond new + 1 ≤ turns_left alike beyond old
   unfolding sum_of
@@ -183,7 +183,7 @@ module _ {A : Type 0} (alike : A → A → Bool) (beyond : Option Network → �
       subst (λ w. sum_of beyond new.walk (stale_count new.known) (differing_count alike new.known) + 1 ≤ sum_of beyond w (stale_count old.known) (differing_count alike old.known)) (sym was)
       (subst (λ w. sum_of beyond w (stale_count new.known) (differing_count alike new.known) + 1 ≤ sum_of beyond y (stale_count old.known) (differing_count alike old.known)) (sym is) less)
 
-  pub turns_are_bounded : (s : Resolving A) → ((place : Option Network) → beyond place ≤ beyond None) → IsBounded A alike beyond s
+  pub turns_are_bounded : (s : Resolving A) → ((place : Option AddressPrefix) → beyond place ≤ beyond None) → IsBounded A alike beyond s
   turns_are_bounded s most = record {
     turns =
         let m = at_most beyond (is_needed (is_some s.walk) (stale_count s.known) (differing_count alike s.known)) in
@@ -192,7 +192,7 @@ module _ {A : Type 0} (alike : A → A → Bool) (beyond : Option Network → �
     stale = known_count is_stale_at s.known;
   }
     where
-      walk_most : (walk : Option (Option Network)) → walk_turns beyond walk ≤ beyond None + 1
+      walk_most : (walk : Option (Option AddressPrefix)) → walk_turns beyond walk ≤ beyond None + 1
       walk_most None = omega arith
       walk_most (Some place) = let le = most place in omega (arith, le)
 
@@ -235,13 +235,13 @@ module _ {A : Type 0} (alike : A → A → Bool) where
   busy_is false s tells rests = sym (rests_idle s tells rests)
 
   -- ---- fewer candidates
-  pub left_follows : (before now : Option Network → ℕ) (s : Resolving A) → ((place : Option Network) → now place ≤ before place) → turns_left alike now s ≤ turns_left alike before s
+  pub left_follows : (before now : Option AddressPrefix → ℕ) (s : Resolving A) → ((place : Option AddressPrefix) → now place ≤ before place) → turns_left alike now s ≤ turns_left alike before s
   left_follows before now s less =
       let w = fewer_walk s.walk in
       let n = fewer_next (is_needed (is_some s.walk) (stale_count s.known) (differing_count alike s.known)) in
       omega (arith, w, n)
     where
-      fewer_walk : (walk : Option (Option Network)) → walk_turns now walk ≤ walk_turns before walk
+      fewer_walk : (walk : Option (Option AddressPrefix)) → walk_turns now walk ≤ walk_turns before walk
       fewer_walk None = omega arith
       fewer_walk (Some place) = let le = less place in omega (arith, le)
 
@@ -251,27 +251,27 @@ module _ {A : Type 0} (alike : A → A → Bool) where
 
 -- ---- the walk, as the turns of functions tell it
 module _ {A : Type 0} where
-  place_of : (fresh : Answers A) (walk : Option (Option Network)) (w : Walked (Answers A)) → walk_to fresh walk ≡ Some w → walk ≡ Some w.place
+  place_of : (fresh : Answers A) (walk : Option (Option AddressPrefix)) (w : Walked (Answers A)) → walk_to fresh walk ≡ Some w → walk ≡ Some w.place
   place_of fresh None w e = clash_some w _ e
   place_of fresh (Some place) w e = ap (λ (x : Walked (Answers A)). Some x.place) (same_some (record { next = fresh; place = place; waiting = None }) w e)
 
-  off_of : (fresh : Answers A) (walk : Option (Option Network)) → walk_to fresh walk ≡ None → walk ≡ None
+  off_of : (fresh : Answers A) (walk : Option (Option AddressPrefix)) → walk_to fresh walk ≡ None → walk ≡ None
   off_of fresh None e = refl
   off_of fresh (Some place) e = absurd (let clash : Some (record { next = fresh; place = place; waiting = None }) ≡ None = e in cc)
 
   -- where the walk of an old state goes on, and where it ends
-  at_next : (old new : Resolving A) (w : Walked (Answers A)) (p : Network) → walk_to (fresh_by old.known) old.walk ≡ Some w → passes new ≡ stepped (passes old) p
+  at_next : (old new : Resolving A) (w : Walked (Answers A)) (p : AddressPrefix) → walk_to (fresh_by old.known) old.walk ≡ Some w → passes new ≡ stepped (passes old) p
       → new.walk ≡ Some (Some p)
   at_next old new w p on after =
       place_of (fresh_by new.known) new.walk (record w { place = Some p }) (ap (λ (s : Passed (Answers A)). s.walk) after ∙ ap (λ x. walk_stepped x p) on)
 
-  still_known : (old new : Resolving A) (place : Option Network) → new.walk ≡ Some place → KnownAfter new.walk old.known new.known → new.known ≡ old.known
+  still_known : (old new : Resolving A) (place : Option AddressPrefix) → new.walk ≡ Some place → KnownAfter new.walk old.known new.known → new.known ≡ old.known
   still_known old new place on known = subst (λ w. KnownAfter w old.known new.known) on known
 
   then_settled : (old new : Resolving A) → new.walk ≡ None → KnownAfter new.walk old.known new.known → IsMapped settled old.known new.known
   then_settled old new off known = subst (λ w. KnownAfter w old.known new.known) off known
 
-  nothing_waits : (fresh : Answers A) (force : Answers A) (walk : Option (Option Network)) → (after_walk force (walk_to fresh walk)).walk ≡ None
+  nothing_waits : (fresh : Answers A) (force : Answers A) (walk : Option (Option AddressPrefix)) → (after_walk force (walk_to fresh walk)).walk ≡ None
   nothing_waits fresh force None = refl
   nothing_waits fresh force (Some place) = refl
 
@@ -279,9 +279,9 @@ module _ {A : Type 0} where
   at_end old new after =
       off_of (fresh_by new.known) new.walk (ap (λ (s : Passed (Answers A)). s.walk) after ∙ nothing_waits (fresh_by old.known) (in_force_by old.known) old.walk)
 
-module _ {A R L : Type 0} (hop : R → ℕ) (made : R → A → Option L) (candidates : Candidates) (upper : Rows R) (kept : Option (Network × Interior) → A) (was is : Registry Interior)
-    (alike : A → A → Bool) (beyond : Option Network → ℕ) (tells : TellsAlike alike) (counts : CountsBeyond candidates beyond) where
-  step_falls : (old new : Resolving A) (w : Walked (Answers A)) (next : Option Network) → walk_to (fresh_by old.known) old.walk ≡ Some w → IsNextCandidate candidates w.place next
+module _ {A R L : Type 0} (hop : R → ℕ) (made : R → A → Option L) (candidates : Candidates) (upper : Rows R) (kept : Option (AddressPrefix × Interior) → A) (was is : Registry Interior)
+    (alike : A → A → Bool) (beyond : Option AddressPrefix → ℕ) (tells : TellsAlike alike) (counts : CountsBeyond candidates beyond) where
+  step_falls : (old new : Resolving A) (w : Walked (Answers A)) (next : Option AddressPrefix) → walk_to (fresh_by old.known) old.walk ≡ Some w → IsNextCandidate candidates w.place next
       → passes new ≡ walked_on next (passes old) → KnownAfter new.walk old.known new.known → turns_left alike beyond new + 1 ≤ turns_left alike beyond old
   step_falls old new w (Some p) on least after known =
       sums alike beyond old new (Some (Some p)) (Some w.place) (at_next old new w p on after) (place_of (fresh_by old.known) old.walk w on)
@@ -291,7 +291,7 @@ module _ {A R L : Type 0} (hop : R → ℕ) (made : R → A → Option L) (candi
       (ends_less beyond w.place _ _ _ _ (as_many_stale old.known new.known (then_settled old new (at_end old new after) known)) (none_differs alike tells old.known new.known (then_settled old new (at_end old new after) known)))
 
   -- from before all prefixes
-  begin_falls : (old new : Resolving A) (w : Walked (Answers A)) (next : Option Network) → old.walk ≡ None → stale_count old.known ≡ 0 → 0 < differing_count alike old.known
+  begin_falls : (old new : Resolving A) (w : Walked (Answers A)) (next : Option AddressPrefix) → old.walk ≡ None → stale_count old.known ≡ 0 → 0 < differing_count alike old.known
       → walk_to (fresh_by old.known) (Some None) ≡ Some w → IsNextCandidate candidates w.place next → passes new ≡ walked_on next (passes (begun old))
       → KnownAfter new.walk old.known new.known → turns_left alike beyond new + 1 ≤ turns_left alike beyond old
   begin_falls old new w (Some p) off z lt on least after known =

@@ -6,7 +6,7 @@ use Rattle.std.specs.Option.{option_map, option_eq}
 use Rattle.std.specs.Ordering.{nat_cmp}
 use Rattle.std.proofs.lemmas.Bool.{cases_eq}
 use Rattle.std.specs.Cmp.{nat_cmp_total}
-use Rattle.addr4.specs.Prefixes.{Network}
+use Rattle.addr4.specs.Prefixes.{AddressPrefix}
 use Rattle.link_change.proofs.MapLemmas.{get_at, get_apart, removed_at, removed_apart}
 use Rattle.nexthop_known.specs.declared.answer.Hop.{Hop}
 use Rattle.nexthop_known.specs.Hops.{Hops, renewed, IsMapped, IsRenewed}
@@ -56,7 +56,7 @@ module _ {A : Type 0} where
   pub mapped_len : (f : Hop A → Hop A) (old new : Hops A) → IsMapped f old new → map.len new ≡ map.len old
   mapped_len f old new is = same_len new old (λ q. ap is_some (is q) ∙ mapped_there f (get old q))
 
-  abbrev with_parts : ℕ → Counts → Hops A → Option (Option Network) → Resolving A
+  abbrev with_parts : ℕ → Counts → Hops A → Option (Option AddressPrefix) → Resolving A
   with_parts client counts known walk = record { client = client; counts = counts; known = known; walk = walk }
 
   keeps_known : (told : ℕ → Hop A → Type 0) (known : Hops A) → KeepsOrLearns told known known
@@ -74,7 +74,7 @@ module _ {A : Type 0} where
     | inr ne ↦ apart b ne ∙ named b ∙ sym (ap is_some (get_apart nat_cmp_total nat_cmp-IsAntisymmetric counts a (counted counts a) b ne))
   ]
 
-  module _ (told : ℕ → Hop A → Type 0) (client : ℕ) (counts : Counts) (known : Hops A) (walk : Option (Option Network)) (named : AreNamed counts known) (a : ℕ) where
+  module _ (told : ℕ → Hop A → Type 0) (client : ℕ) (counts : Counts) (known : Hops A) (walk : Option (Option AddressPrefix)) (named : AreNamed counts known) (a : ℕ) where
     -- ---- one more
     pub noted_again : (counts' : Counts) → map.contains_key counts a ≡ true → counts' ≡ one_more counts a
         → Moves told None (Some a) (with_parts client counts known walk) (with_parts client counts' known walk)
@@ -170,7 +170,7 @@ module _ {A : Type 0} where
   back_named counts more back known known' a named m b same =
       subst (λ (x : Counts). AreNamed x known') (sym (back_counts counts more back a m b)) (subst (λ (k : Hops A). AreNamed counts k) (sym same) named)
 
-  pub back_same : (client : ℕ) (walk : Option (Option Network)) (counts more back : Counts) (known known' : Hops A) (a : ℕ) → more ≡ one_more counts a → back ≡ one_less more a
+  pub back_same : (client : ℕ) (walk : Option (Option AddressPrefix)) (counts more back : Counts) (known known' : Hops A) (a : ℕ) → more ≡ one_more counts a → back ≡ one_less more a
       → known' ≡ known → with_parts client back known' walk ≡ with_parts client counts known walk
   back_same client walk counts more back known known' a m b same = λ i. with_parts client (back_counts counts more back a m b i) (same i) walk
 
@@ -196,7 +196,7 @@ module _ {A : Type 0} where
   keeps_of told before after old new m = record { client = m.client; walk = m.walk; hops = m.hops }
 
   -- where one is asked for again, or answers become stale, the same next hops are known
-  pub renewed_named : (counts : Counts) (known new : Hops A) (a : ℕ) (s : Network) (x : A) → AreNamed counts known → is_some (get known a) ≡ true → IsRenewed known new a s x
+  pub renewed_named : (counts : Counts) (known new : Hops A) (a : ℕ) (s : AddressPrefix) (x : A) → AreNamed counts known → is_some (get known a) ≡ true → IsRenewed known new a s x
       → AreNamed counts new
   renewed_named counts known new a s x named has is = λ b. elim (cases_eq b a) [
     | inl at ↦

@@ -4,7 +4,7 @@ use Rattle.std.proofs.Math.Bool.{or-false}
 use Rattle.std.proofs.lemmas.List.Folds.{list_any-append}
 use Rattle.std.specs.Option.{option_map}
 use Rattle.std.specs.FinMap.{get, len}
-use Rattle.addr4.specs.Prefixes.{Network}
+use Rattle.addr4.specs.Prefixes.{AddressPrefix}
 use Rattle.link_change.specs.Rows.{Rows}
 use Rattle.rib_route.specs.declared.rows.Interior.{Interior}
 use Rattle.register_interest.specs.declared.interests.Interest.{Interest}
@@ -24,7 +24,7 @@ use Rattle.nexthop_resolver.proofs.AgreeLemmas as agree
 abbrev more : List Interest → Interest → List Interest
 more out i = out ++ i ∷ []
 
-listed_more : (out : List Interest) (i : Interest) (k : ℕ) (came : Option Network) → is_listed (more out i) k came ≡ (is_listed out k came || (nat_eq i.client k && is_with i.subnet came))
+listed_more : (out : List Interest) (i : Interest) (k : ℕ) (came : Option AddressPrefix) → is_listed (more out i) k came ≡ (is_listed out k came || (nat_eq i.client k && is_with i.subnet came))
 listed_more out i k came = list_any-append (λ (j : Interest). nat_eq j.client k && is_with j.subnet came) out (i ∷ []) ∙ ap (λ (b : Bool). is_listed out k came || b) (or-false (nat_eq i.client k && is_with i.subnet came))
 
 module _ {A : Type 0} where
@@ -77,7 +77,7 @@ module _ {A : Type 0} where
     pub reached_named : AreNamed old.counts old.known → AreNamed new.counts new.known
     reached_named named a = ap is_some (r.known a) ∙ mapped_there (reached_hop out k) (get old.known a) ∙ named a ∙ ap (λ c. is_some (get c a)) (sym r.counts)
 
-    pub reached_agrees : (kept : Option (Network × Interior) → A) (was is : Registry Interior) → old.client ≡ k → Agrees kept old.client old.known was → is.interests ≡ without was.interests out → KeepsAnswers was is
+    pub reached_agrees : (kept : Option (AddressPrefix × Interior) → A) (was is : Registry Interior) → old.client ≡ k → Agrees kept old.client old.known was → is.interests ≡ without was.interests out → KeepsAnswers was is
         → Agrees kept new.client new.known is
     reached_agrees kept was is own agrees ints keeps =
         subst (λ (c : ℕ). Agrees kept c new.known is) (sym (r.client ∙ own))

@@ -3,7 +3,7 @@ use Rattle.std.proofs.Common.{◌≡◌, ◌≢◌, ℕ, Bool, true, false, cond
 use Rattle.std.specs.Option.{option_map}
 use Rattle.std.specs.FinMap.{get}
 use Rattle.std.specs.FinMap as map
-use Rattle.addr4.specs.Prefixes.{Network}
+use Rattle.addr4.specs.Prefixes.{AddressPrefix}
 use Rattle.addr4.proofs.PrefixOrder.{by_prefix}
 use Rattle.link_change.specs.Rows.{Rows, no_rows, with_row}
 use Rattle.link_change.specs.Changes.{IsChangeOf}
@@ -33,13 +33,13 @@ module _ {A : Type 0} where
   abbrev told : Bool → Option (Hop A) → Option A
   told b o = cond b (option_map (λ h. h.in_force) o) (option_map (λ h. h.fresh) o)
 
-  pub holds_at : (known : Hops A) (walk : Option (Option Network)) (q : Network) (a : ℕ)
+  pub holds_at : (known : Hops A) (walk : Option (Option AddressPrefix)) (q : AddressPrefix) (a : ℕ)
       → function_of (in_force_by known) (walk_to (fresh_by known) walk) q a ≡ told (is_in_force walk q) (get known a)
   holds_at known None q a = refl
   holds_at known (Some place) q a = both_of (is_beyond place q) (in_force_by known) (fresh_by known) a
 
   -- the same next hop has the same answer
-  pub same_answer : (old new : Resolving A) (q : Network) (a : ℕ) → new.walk ≡ old.walk → get new.known a ≡ get old.known a
+  pub same_answer : (old new : Resolving A) (q : AddressPrefix) (a : ℕ) → new.walk ≡ old.walk → get new.known a ≡ get old.known a
       → function_at (passes new) q a ≡ function_at (passes old) q a
   same_answer old new q a walk known =
       holds_at new.known new.walk q a ∙ (λ i. told (is_in_force (walk i) q) (known i)) ∙ sym (holds_at old.known old.walk q a)
@@ -65,11 +65,11 @@ module _ {A R L : Type 0} (hop : R → ℕ) (made : R → A → Option L) where
   same_row f g None same = refl
   same_row f g (Some r) same = ap (made_by hop made r) (same (hop r) refl)
 
-  named_after : (upper : Rows R) (p : Network) (row : Option R) → named_by hop (with_row upper p row) ≡ with_row (named_by hop upper) p (option_map hop row)
+  named_after : (upper : Rows R) (p : AddressPrefix) (row : Option R) → named_by hop (with_row upper p row) ≡ with_row (named_by hop upper) p (option_map hop row)
   named_after upper p row = same_function _ _ (λ q.
       by_prefix q p (λ b. option_map hop (cond b row (upper q)) ≡ cond b (option_map hop row) (option_map hop (upper q))) (λ _. refl) (λ _. refl))
 
-  module _ (told_now : ℕ → Hop A → Type 0) (old new : Resolving A) (was_named : AreNamed old.counts old.known) (is_named : AreNamed new.counts new.known) (upper : Rows R) (p : Network) (before after : Option R)
+  module _ (told_now : ℕ → Hop A → Type 0) (old new : Resolving A) (was_named : AreNamed old.counts old.known) (is_named : AreNamed new.counts new.known) (upper : Rows R) (p : AddressPrefix) (before after : Option R)
       (at : upper p ≡ before) (counted : AreCounted (named_by hop upper) old.counts) (moves : Moves told_now (option_map hop before) (option_map hop after) old new) where
     counted_after : AreCounted (named_by hop (with_row upper p after)) new.counts
     counted_after =
@@ -77,7 +77,7 @@ module _ {A R L : Type 0} (hop : R → ℕ) (made : R → A → Option L) where
         (counts_follow (named_by hop upper) p (option_map hop after) old.counts new.counts counted
         (subst (λ o. Recounts o (option_map hop after) old.counts new.counts) (sym (ap (option_map hop) at)) moves.counts))
 
-    elsewhere : (q : Network) → q ≢ p → passed (resolved hop made) (passes new) q (upper q) ≡ passed (resolved hop made) (passes old) q (upper q)
+    elsewhere : (q : AddressPrefix) → q ≢ p → passed (resolved hop made) (passes new) q (upper q) ≡ passed (resolved hop made) (passes old) q (upper q)
     elsewhere q ne = same_row (function_at (passes new) q) (function_at (passes old) q) (upper q) (λ a names.
         same_answer old new q a moves.walk (stayed told_now old.known new.known a moves.hops
         (was_named a ∙ named_is_counted (named_by hop upper) old.counts q a counted names)
@@ -120,7 +120,7 @@ module _ {A R L : Type 0} (hop : R → ℕ) (made : R → A → Option L) where
         holds_at new.known new.walk q a ∙ (λ i. told (is_in_force (walk i) q) (known a i)) ∙ same_told (is_in_force old.walk q) (get old.known a)
         ∙ sym (holds_at old.known old.walk q a)))
 
-  pub invalidating_keeps_rows : (upper : Rows R) (s : Network) (old new : Resolving A) → Invalidates s old new → res_rows hop made new upper ≡ res_rows hop made old upper
+  pub invalidating_keeps_rows : (upper : Rows R) (s : AddressPrefix) (old new : Resolving A) → Invalidates s old new → res_rows hop made new upper ≡ res_rows hop made old upper
   invalidating_keeps_rows upper s old new is = mapping_keeps_rows (staled s) (λ h. refl) (λ h. refl) upper old new is.walk is.known
 
   pub no_rows_at_first : (client : ℕ) → res_rows hop made (nothing_known {A = A} client) no_rows ≡ no_rows

@@ -5,7 +5,7 @@ use Rattle.std.specs.FinMap.{get, insert, len-insert, nat_cmp-IsAntisymmetric}
 use Rattle.std.specs.FinMap as map
 use Rattle.std.proofs.lemmas.Bool.{cases_eq}
 use Rattle.std.specs.Cmp.{nat_cmp_total}
-use Rattle.addr4.specs.Prefixes.{Network}
+use Rattle.addr4.specs.Prefixes.{AddressPrefix}
 use Rattle.link_change.specs.Rows.{Rows, Candidates, IsNextCandidate, CoversRows}
 use Rattle.link_change.specs.Changes.{IsChangeOf}
 use Rattle.link_change.specs.Turns.{IsTurned, taken_turn}
@@ -37,7 +37,7 @@ module _ {A : Type 0} where
   settled_force (Some h) = refl
 
   -- as many are known
-  as_many_after : (walk : Option (Option Network)) (old new : Hops A) → KnownAfter walk old new → map.len new ≡ map.len old
+  as_many_after : (walk : Option (Option AddressPrefix)) (old new : Hops A) → KnownAfter walk old new → map.len new ≡ map.len old
   as_many_after (Some place) old new is = ap (λ (m : Hops A). map.len m) is
   as_many_after None old new is = mapped_len settled old new is
 
@@ -46,11 +46,11 @@ module _ {A : Type 0} where
   settled_answers old new mapped = same_function _ _ (λ a. ap (option_map (λ h. h.in_force)) (mapped a) ∙ settled_force (get old a))
 
   -- a fresh answer leaves the one in force
-  kept_force : (o : Option (Hop A)) (s : Network) (x : A) → is_some o ≡ true → option_map (λ h. h.in_force) (Some (renewed s x o)) ≡ option_map (λ h. h.in_force) o
+  kept_force : (o : Option (Hop A)) (s : AddressPrefix) (x : A) → is_some o ≡ true → option_map (λ h. h.in_force) (Some (renewed s x o)) ≡ option_map (λ h. h.in_force) o
   kept_force None s x e = absurd (let clash : false ≡ true = e in cc)
   kept_force (Some h) s x e = refl
 
-  pub renewed_answers : (old new : Hops A) (a : ℕ) (s : Network) (x : A) → is_some (get old a) ≡ true → IsRenewed old new a s x → in_force_by new ≡ in_force_by old
+  pub renewed_answers : (old new : Hops A) (a : ℕ) (s : AddressPrefix) (x : A) → is_some (get old a) ≡ true → IsRenewed old new a s x → in_force_by new ≡ in_force_by old
   renewed_answers old new a s x known is = same_function _ _ (λ b. elim (cases_eq b a) [
     | inl e ↦
         ap (option_map (λ h. h.in_force)) (ap (λ (m : Hops A). get m b) is ∙ ap (get (insert old a (renewed s x (get old a)))) e ∙ get_at nat_cmp_total old a (renewed s x (get old a)))
@@ -64,11 +64,11 @@ module _ {A : Type 0} where
 
 module _ {A R L : Type 0} (hop : R → ℕ) (made : R → A → Option L) (candidates : Candidates) (upper : Rows R) (covers : CoversRows candidates upper) where
   -- ---- a step of the walk
-  module _ (client : ℕ) (counts : Counts) (known : Hops A) (place : Option Network) where
-    abbrev on : Option (Option Network) → Hops A → Resolving A
+  module _ (client : ℕ) (counts : Counts) (known : Hops A) (place : Option AddressPrefix) where
+    abbrev on : Option (Option AddressPrefix) → Hops A → Resolving A
     on walk k = record { client = client; counts = counts; known = k; walk = walk }
 
-    pub steps_on : (p : Network) (before after : Option L) (sent : Option (Change L)) → IsNextCandidate candidates place (Some p)
+    pub steps_on : (p : AddressPrefix) (before after : Option L) (sent : Option (Change L)) → IsNextCandidate candidates place (Some p)
         → before ≡ goes_on hop made (in_force_by known) (upper p) → after ≡ goes_on hop made (fresh_by known) (upper p) → IsChangeOf p before after sent
         → Steps hop made candidates upper (on (Some place) known) (on (Some (Some p)) known) sent
     steps_on p before after sent next b a is =
@@ -87,7 +87,7 @@ module _ {A R L : Type 0} (hop : R → ℕ) (made : R → A → Option L) (candi
           client = refl;
         }
       where
-        in_force_beyond : (p : Network) → IsNextCandidate candidates place (Some p) → function_at (passes (on (Some place) known)) p ≡ in_force_by known
+        in_force_beyond : (p : AddressPrefix) → IsNextCandidate candidates place (Some p) → function_at (passes (on (Some place) known)) p ≡ in_force_by known
         in_force_beyond p next = ap (λ t. cond t (in_force_by known) (fresh_by known)) (beyond_so place p next.0)
 
     pub ends_walk : (known' : Hops A) → IsNextCandidate candidates place None → IsMapped settled known known'
@@ -109,8 +109,8 @@ module _ {A R L : Type 0} (hop : R → ℕ) (made : R → A → Option L) (candi
   step_taken old new None s = s
   step_taken old new (Some change) s = s
 
-  module _ (kept : Option (Network × Interior) → A) (was is : Registry Interior) where
-    pub asks_turn : (client : ℕ) (counts : Counts) (known known' : Hops A) (walk : Option (Option Network)) (a : ℕ) → walk ≡ None → IsLeastStale (get known) (Some a)
+  module _ (kept : Option (AddressPrefix × Interior) → A) (was is : Registry Interior) where
+    pub asks_turn : (client : ℕ) (counts : Counts) (known known' : Hops A) (walk : Option (Option AddressPrefix)) (a : ℕ) → walk ≡ None → IsLeastStale (get known) (Some a)
         → Renews kept was known known' a
         → Turned hop made candidates upper kept was is (record { client = client; counts = counts; known = known; walk = walk }) (record { client = client; counts = counts; known = known'; walk = walk }) None
     asks_turn client counts known known' walk a off least renews =
@@ -130,7 +130,7 @@ module _ {A R L : Type 0} (hop : R → ℕ) (made : R → A → Option L) (candi
     begins_ok old new (Err e) off none differs step silent = tt
 
     -- ---- and the register is agreed with still
-    known_agrees : (client : ℕ) (walk : Option (Option Network)) (old new : Hops A) → KnownAfter walk old new → Agrees kept client old is → Agrees kept client new is
+    known_agrees : (client : ℕ) (walk : Option (Option AddressPrefix)) (old new : Hops A) → KnownAfter walk old new → Agrees kept client old is → Agrees kept client new is
     known_agrees client (Some place) old new known agree = subst (λ (k : Hops A). Agrees kept client k is) (sym known) agree
     known_agrees client None old new known agree = settled_agrees (answer_of kept is) (interest_of client is) old new agree known
 
@@ -138,7 +138,7 @@ module _ {A R L : Type 0} (hop : R → ℕ) (made : R → A → Option L) (candi
         → Agrees kept new.client new.known is
     step_agrees old new sent s agree = subst (λ (c : ℕ). Agrees kept c new.known is) (sym s.client) (known_agrees old.client new.walk old.known new.known s.known agree)
 
-    pub agrees_after : {E : Type 0} (old new : Resolving A) (place : Option Network) (result : Result (Turn L) E)
+    pub agrees_after : {E : Type 0} (old new : Resolving A) (place : Option AddressPrefix) (result : Result (Turn L) E)
         → IfOk result (IsStep hop made candidates upper (at_place old place) new) → OnErr result (new ≡ old) → Agrees kept old.client old.known is
         → Agrees kept new.client new.known is
     agrees_after old new place (Ok Nothing) step memory agree = absurd step

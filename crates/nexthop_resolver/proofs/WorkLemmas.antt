@@ -2,7 +2,7 @@
 use Rattle.std.proofs.Common.{◌≡◌, ℕ, Bool, true, false, ◌||◌, ◌&&◌, not, refl, sym, ap, ◌∙◌, inl, inr, Option, Some, None, is_some, MatchBool}
 use Rattle.std.specs.Option.{option_map}
 use Rattle.std.specs.FinMap as map
-use Rattle.addr4.specs.Prefixes.{Network}
+use Rattle.addr4.specs.Prefixes.{AddressPrefix}
 use Rattle.addr4.specs.declared.place.Place.{Place}
 use Rattle.addr4.specs.Places.{key_of}
 use Rattle.nexthop_known.specs.declared.answer.Hop.{Hop}
@@ -55,7 +55,7 @@ module _ {A : Type 0} where
   never_both s (inr (inr differs)) rests = differs.3 (rests.settled_all differs.0 differs.1 differs.2)
 
 -- ---- whether a next hop lags at a prefix
-module _ {A : Type 0} (alike : A → A → Bool) (s : Resolving A) (q : Network) (a : ℕ) where
+module _ {A : Type 0} (alike : A → A → Bool) (s : Resolving A) (q : AddressPrefix) (a : ℕ) where
   pub stale_lags : (b : Bool) → b ≡ is_stale_at (map.get s.known a) → b ≡ true → true ≡ hop_lags alike s q (Some a)
   stale_lags b is e = ap (λ (x : Bool). x || (is_in_force s.walk q && differs_at alike (map.get s.known a))) (sym e ∙ is)
 

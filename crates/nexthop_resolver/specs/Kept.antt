@@ -2,7 +2,7 @@
 use Rattle.std.specs.Prelude.{ℕ, ◌==◌, ◌&&◌, Bool, Option, Some, None}
 use Rattle.std.specs.Option.{option_eq}
 use Rattle.std.specs.Str.{bytes_eq}
-use Rattle.addr4.specs.Prefixes.{Network}
+use Rattle.addr4.specs.Prefixes.{AddressPrefix}
 use Rattle.bgp_attr.specs.declared.route.Route.{Route}
 use Rattle.rib_route.specs.Distances.{external_proto}
 use Rattle.rib_route.specs.declared.rows.Interior.{Interior}
@@ -17,7 +17,7 @@ abbrev pub route_hop : Route → ℕ
 route_hop r = r.attrs.next_hop
 
 -- the metric of the interior route
-abbrev pub metric_of : Option (Network × Interior) → Metric
+abbrev pub metric_of : Option (AddressPrefix × Interior) → Metric
 metric_of None = record { igp = None }
 metric_of (Some m) = record { igp = Some m.1.metric }
 
@@ -38,7 +38,7 @@ abbrev pub external_hop : External → ℕ
 external_hop r = r.next_hop
 
 -- the interface of the interior route, and its gateway if it has one
-abbrev pub way_of : Option (Network × Interior) → Way
+abbrev pub way_of : Option (AddressPrefix × Interior) → Way
 way_of None = record { outlet = None }
 way_of (Some m) = record { outlet = Some (record { gateway = m.1.gateway; iface = m.1.iface }) }
 

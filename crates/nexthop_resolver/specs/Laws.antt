@@ -3,7 +3,7 @@ use Rattle.std.specs.Prelude.{◌≡◌, ◌≢◌, ◌↔◌, ℕ, ◌+◌, ◌
 use Rattle.std.specs.List.{Contains}
 use Rattle.std.specs.Option.{option_map}
 use Rattle.std.specs.FinMap as map
-use Rattle.addr4.specs.Prefixes.{Network}
+use Rattle.addr4.specs.Prefixes.{AddressPrefix}
 use Rattle.link_change.specs.Rows.{Rows, no_rows, Candidates}
 use Rattle.link_change.specs.Turns.{IsTurned}
 use Rattle.link_change.specs.declared.change.Change.{Change}
@@ -27,14 +27,14 @@ module _ (A R L : Type 0) where
   -- What a turn sends leads from the rows below before it to those after it.
   abbrev pub TurnLeads : Type 0
   TurnLeads =
-      (hop : R → ℕ) (made : R → A → Option L) (candidates : Candidates) (upper : Rows R) (kept : Option (Network × Interior) → A) (was is : Registry Interior)
+      (hop : R → ℕ) (made : R → A → Option L) (candidates : Candidates) (upper : Rows R) (kept : Option (AddressPrefix × Interior) → A) (was is : Registry Interior)
       (old new : Resolving A) (turn : Turn L) → IsTurn hop made candidates upper kept was is old new turn
       → IsTurned (res_rows hop made old upper) (res_rows hop made new upper) turn
 
   -- Where answers become stale, no row below changes.
   abbrev pub InvalidatingKeepsRows : Type 0
   InvalidatingKeepsRows =
-      (hop : R → ℕ) (made : R → A → Option L) (upper : Rows R) (s : Network) (old new : Resolving A) → Invalidates s old new
+      (hop : R → ℕ) (made : R → A → Option L) (upper : Rows R) (s : AddressPrefix) (old new : Resolving A) → Invalidates s old new
       → res_rows hop made new upper ≡ res_rows hop made old upper
 
   abbrev pub ReachedKeepsRows : Type 0
@@ -45,8 +45,8 @@ module _ (A R L : Type 0) where
   -- At a prefix that no next hop holds up, the row below is the one that the register's answer makes. (The test tells equal answers.)
   abbrev pub ExactUnlessHeldUp : Type 0
   ExactUnlessHeldUp =
-      (alike : A → A → Bool) → TellsAlike alike → (hop : R → ℕ) (made : R → A → Option L) (kept : Option (Network × Interior) → A) (upper : Rows R) (r : Registry Interior)
-      (s : Resolving A) (q : Network) → Agrees kept s.client s.known r → AreNamed s.counts s.known → AreCounted (named_by hop upper) s.counts
+      (alike : A → A → Bool) → TellsAlike alike → (hop : R → ℕ) (made : R → A → Option L) (kept : Option (AddressPrefix × Interior) → A) (upper : Rows R) (r : Registry Interior)
+      (s : Resolving A) (q : AddressPrefix) → Agrees kept s.client s.known r → AreNamed s.counts s.known → AreCounted (named_by hop upper) s.counts
       → hop_lags alike s q (option_map hop (upper q)) ≡ false
       → res_rows hop made s upper q ≡ goes_on hop made (λ (a : ℕ). Some (answer_of kept r a)) (upper q)
 
@@ -57,33 +57,33 @@ module _ (A R L : Type 0) where
   -- A turn that is taken leaves fewer.
   abbrev pub TurnsFall : Type 0
   TurnsFall =
-      (hop : R → ℕ) (made : R → A → Option L) (candidates : Candidates) (upper : Rows R) (kept : Option (Network × Interior) → A) (was is : Registry Interior)
-      (alike : A → A → Bool) (beyond : Option Network → ℕ) (old new : Resolving A) (sent : Option (Change L)) → TellsAlike alike → CountsBeyond candidates beyond
+      (hop : R → ℕ) (made : R → A → Option L) (candidates : Candidates) (upper : Rows R) (kept : Option (AddressPrefix × Interior) → A) (was is : Registry Interior)
+      (alike : A → A → Bool) (beyond : Option AddressPrefix → ℕ) (old new : Resolving A) (sent : Option (Change L)) → TellsAlike alike → CountsBeyond candidates beyond
       → Turned hop made candidates upper kept was is old new sent → turns_left alike beyond new + 1 ≤ turns_left alike beyond old
 
 module _ (A : Type 0) where
   -- Where there is nothing to do, no next hop holds up a prefix.
   abbrev pub NoneHeldUpAtRest : Type 0
   NoneHeldUpAtRest =
-      (alike : A → A → Bool) → TellsAlike alike → (s : Resolving A) (q : Network) (o : Option ℕ) → Rests s → hop_lags alike s q o ≡ false
+      (alike : A → A → Bool) → TellsAlike alike → (s : Resolving A) (q : AddressPrefix) (o : Option ℕ) → Rests s → hop_lags alike s q o ≡ false
 
   -- A client without interests agrees with any register before its first row.
   abbrev pub NothingAgrees : Type 0
   NothingAgrees =
-      (kept : Option (Network × Interior) → A) (client : ℕ) (r : Registry Interior) → ((s : Network) → interest_of client r s ≡ false)
+      (kept : Option (AddressPrefix × Interior) → A) (client : ℕ) (r : Registry Interior) → ((s : AddressPrefix) → interest_of client r s ≡ false)
       → Agrees kept client map.empty r
 
   -- What other clients do leaves the agreement as it is.
   abbrev pub OthersAgree : Type 0
   OthersAgree =
-      (kept : Option (Network × Interior) → A) (client other : ℕ) (s : Resolving A) (was is : Registry Interior) → client ≢ other → KeepsOthers other was is
+      (kept : Option (AddressPrefix × Interior) → A) (client other : ℕ) (s : Resolving A) (was is : Registry Interior) → client ≢ other → KeepsOthers other was is
       → Agrees kept client s.known was → Agrees kept client s.known is
 
   -- After a change of the interior routes a resolver agrees again once the answers that came with the interests that were given up are
   -- stale.
   abbrev pub ReachedAgrees : Type 0
   ReachedAgrees =
-      (kept : Option (Network × Interior) → A) (k : ℕ) (out : List Interest) (was is : Registry Interior) (old new : Resolving A) → old.client ≡ k
+      (kept : Option (AddressPrefix × Interior) → A) (k : ℕ) (out : List Interest) (was is : Registry Interior) (old new : Resolving A) → old.client ≡ k
       → Agrees kept old.client old.known was → is.interests ≡ without was.interests out → KeepsAnswers was is → IsReached out k old new
       → Agrees kept new.client new.known is
 
@@ -105,35 +105,35 @@ module _ (A : Type 0) where
   -- No turn is left exactly where there is nothing to do.
   abbrev pub NoneLeftAtRest : Type 0
   NoneLeftAtRest =
-      (alike : A → A → Bool) (beyond : Option Network → ℕ) (s : Resolving A) → TellsAlike alike → Rests s ↔ (turns_left alike beyond s ≡ 0)
+      (alike : A → A → Bool) (beyond : Option AddressPrefix → ℕ) (s : Resolving A) → TellsAlike alike → Rests s ↔ (turns_left alike beyond s ≡ 0)
 
   -- And so exactly without work.
   abbrev pub NoneLeftWithoutWork : Type 0
   NoneLeftWithoutWork =
-      (alike : A → A → Bool) (beyond : Option Network → ℕ) (s : Resolving A) → (is_busy alike s ≡ false) ↔ (turns_left alike beyond s ≡ 0)
+      (alike : A → A → Bool) (beyond : Option AddressPrefix → ℕ) (s : Resolving A) → (is_busy alike s ≡ false) ↔ (turns_left alike beyond s ≡ 0)
 
   -- No more turns are left than one for each stale next hop, of which there are no more than known ones, and two walks.
-  pub record IsBounded (alike : A → A → Bool) (beyond : Option Network → ℕ) (s : Resolving A) : Type 0 where
+  pub record IsBounded (alike : A → A → Bool) (beyond : Option AddressPrefix → ℕ) (s : Resolving A) : Type 0 where
     pub turns : turns_left alike beyond s ≤ 2 * (beyond None + 1) + stale_count s.known
     pub stale : stale_count s.known ≤ map.len s.known
 
   abbrev pub TurnsAreBounded : Type 0
   TurnsAreBounded =
-      (alike : A → A → Bool) (beyond : Option Network → ℕ) (s : Resolving A) → ((place : Option Network) → beyond place ≤ beyond None)
+      (alike : A → A → Bool) (beyond : Option AddressPrefix → ℕ) (s : Resolving A) → ((place : Option AddressPrefix) → beyond place ≤ beyond None)
       → IsBounded alike beyond s
 
   -- Where no more candidates lie beyond any place than before, no more turns are left.
   abbrev pub LeftFollows : Type 0
   LeftFollows =
-      (alike : A → A → Bool) (before now : Option Network → ℕ) (s : Resolving A) → ((place : Option Network) → now place ≤ before place)
+      (alike : A → A → Bool) (before now : Option AddressPrefix → ℕ) (s : Resolving A) → ((place : Option AddressPrefix) → now place ≤ before place)
       → turns_left alike now s ≤ turns_left alike before s
 
 module _ (A R : Type 0) where
   -- No more next hops are known than rows name them: than the prefixes of a list that has the prefix of each row above.
   abbrev pub KnownAreFew : Type 0
   KnownAreFew =
-      (hop : R → ℕ) (upper : Rows R) (s : Resolving A) (prefixes : List Network) → AreNamed s.counts s.known → AreCounted (named_by hop upper) s.counts
-      → ((q : Network) → IsSome (upper q) → Contains prefixes q) → map.len s.known ≤ length prefixes
+      (hop : R → ℕ) (upper : Rows R) (s : Resolving A) (prefixes : List AddressPrefix) → AreNamed s.counts s.known → AreCounted (named_by hop upper) s.counts
+      → ((q : AddressPrefix) → IsSome (upper q) → Contains prefixes q) → map.len s.known ≤ length prefixes
 
 -- The tests of answers tell equal ones.
 pub record AnswersAreTold : Type 0 where

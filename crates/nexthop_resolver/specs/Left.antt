@@ -2,7 +2,7 @@
 -- test for equal answers.
 use Rattle.std.specs.Prelude.{◌≡◌, ◌↔◌, ℕ, ◌+◌, nat_lt, not, ◌||◌, ◌&&◌, Bool, true, false, is_some, Option, Some, None}
 use Rattle.std.specs.FinMap as map
-use Rattle.addr4.specs.Prefixes.{Network}
+use Rattle.addr4.specs.Prefixes.{AddressPrefix}
 use Rattle.nexthop_known.specs.declared.answer.Hop.{Hop}
 use Rattle.nexthop_known.specs.Hops.{Hops, is_stale_at, stale_count, count_of}
 use Rattle.nexthop_resolver.specs.Resolving.{Resolving, is_in_force}
@@ -12,9 +12,9 @@ abbrev pub is_needed : Bool → ℕ → ℕ → Bool
 is_needed true stale differing = nat_lt 0 stale
 is_needed false stale differing = nat_lt 0 (stale + differing)
 
-module _ (beyond : Option Network → ℕ) where
+module _ (beyond : Option AddressPrefix → ℕ) where
   -- one turn for each candidate beyond the place, and one that ends the walk
-  abbrev pub walk_turns : Option (Option Network) → ℕ
+  abbrev pub walk_turns : Option (Option AddressPrefix) → ℕ
   walk_turns None = 0
   walk_turns (Some place) = beyond place + 1
 
@@ -34,7 +34,7 @@ module _ {A : Type 0} (alike : A → A → Bool) where
 
   -- whether a row that names this next hop, if one does, may go on at a prefix by another answer than the register's present one:
   -- the next hop is stale, or its fresh answer differs from the one in force, which holds there
-  abbrev pub hop_lags : Resolving A → Network → Option ℕ → Bool
+  abbrev pub hop_lags : Resolving A → AddressPrefix → Option ℕ → Bool
   hop_lags s q None = false
   hop_lags s q (Some a) = is_stale_at (map.get s.known a) || (is_in_force s.walk q && differs_at (map.get s.known a))
 
@@ -47,6 +47,6 @@ module _ {A : Type 0} (alike : A → A → Bool) where
   is_busy s = is_some s.walk || (nat_lt 0 (stale_count s.known) || nat_lt 0 (differing_count s.known))
 
   -- the turns of the walk, one for each stale next hop, and those of a walk more where the answers may differ then
-  abbrev pub turns_left : (Option Network → ℕ) → Resolving A → ℕ
+  abbrev pub turns_left : (Option AddressPrefix → ℕ) → Resolving A → ℕ
   turns_left beyond s =
       walk_turns beyond s.walk + stale_count s.known + next_walk beyond (is_needed (is_some s.walk) (stale_count s.known) (differing_count s.known))

@@ -1,7 +1,7 @@
 -- What becomes stale with interests that the register gave up.
 use Rattle.std.specs.Prelude.{◌≡◌, ℕ, ◌==◌, ◌&&◌, Bool, cond, MatchBool, List, Option, None}
 use Rattle.std.specs.List.{list_any}
-use Rattle.addr4.specs.Prefixes.{Network}
+use Rattle.addr4.specs.Prefixes.{AddressPrefix}
 use Rattle.register_interest.specs.declared.interests.Interest.{Interest}
 use Rattle.nexthop_known.specs.declared.answer.Hop.{Hop}
 use Rattle.nexthop_known.specs.Hops.{IsMapped, is_with}
@@ -9,7 +9,7 @@ use Rattle.nexthop_resolver.specs.Resolving.{Resolving}
 use Rattle.nexthop_resolver.specs.Takes.{Invalidates}
 
 -- one of these is the client's, in the subnet with which an answer came
-abbrev pub is_listed : List Interest → ℕ → Option Network → Bool
+abbrev pub is_listed : List Interest → ℕ → Option AddressPrefix → Bool
 is_listed out client came = list_any (λ i. i.client == client && is_with i.subnet came) out
 
 module _ {A : Type 0} where

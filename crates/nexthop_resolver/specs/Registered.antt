@@ -1,7 +1,7 @@
 -- What ties a resolver to the register.
 use Rattle.std.specs.Prelude.{◌≡◌, ◌≢◌, ℕ, Bool, true, Option, Some}
 use Rattle.std.specs.FinMap as map
-use Rattle.addr4.specs.Prefixes.{Network}
+use Rattle.addr4.specs.Prefixes.{AddressPrefix}
 use Rattle.link_change.specs.Rows.{Rows}
 use Rattle.register_interest.specs.Width.{width}
 use Rattle.rib_route.specs.declared.rows.Interior.{Interior}
@@ -13,7 +13,7 @@ use Rattle.nexthop_known.specs.Hops.{Hops, IsRenewed, learnt}
 use Rattle.nexthop_known.specs.Agreement.{Agree, IsInterestIn}
 
 -- the subnets in which a client has an interest
-abbrev pub interest_of : {R : Type 0} → ℕ → Registry R → Network → Bool
+abbrev pub interest_of : {R : Type 0} → ℕ → Registry R → AddressPrefix → Bool
 interest_of client r s = map.contains_key r.interests (record { subnet = s; client = client })
 
 -- no row and no interest of another client is changed
@@ -22,15 +22,15 @@ pub record KeepsOthers {R : Type 0} (client : ℕ) (old new : Registry R) : Type
   pub interests : (k : Interest) → k.client ≢ client → map.get new.interests k ≡ map.get old.interests k
 
 -- the largest subnet that holds an address and in which each has its longest match
-abbrev pub IsLargest : Rows Interior → ℕ → Network → Type 0
+abbrev pub IsLargest : Rows Interior → ℕ → AddressPrefix → Type 0
 IsLargest rows a s = IsSubnet width rows a (matched (longest width rows a)) s
 
-module _ {A : Type 0} (kept : Option (Network × Interior) → A) where
+module _ {A : Type 0} (kept : Option (AddressPrefix × Interior) → A) where
   -- A next hop has what is kept of the answer about its address, for both, and that came with the largest subnet for which it holds.
   pub record IsToldBy (rows : Rows Interior) (a : ℕ) (h : Hop A) : Type 0 where
     pub in_force : h.in_force ≡ kept (longest width rows a)
     pub fresh : h.fresh ≡ kept (longest width rows a)
-    pub subnet : Network
+    pub subnet : AddressPrefix
     pub came : h.came ≡ Some subnet
     pub largest : IsLargest rows a subnet
 
@@ -47,15 +47,15 @@ module _ {A : Type 0} (kept : Option (Network × Interior) → A) where
   Agrees client known r = Agree (answer_of r) (interest_of client r) (map.get known)
 
   -- an interest came that known next hops needn't have
-  pub record IsEarly (client : ℕ) (known : Hops A) (r : Registry Interior) (s : Network) : Type 0 where
-    pub before : Network → Bool
+  pub record IsEarly (client : ℕ) (known : Hops A) (r : Registry Interior) (s : AddressPrefix) : Type 0 where
+    pub before : AddressPrefix → Bool
     pub agree : Agree (answer_of r) before (map.get known)
     pub comes : IsInterestIn before (interest_of client r) s true
 
   -- an unknown next hop has the register's answer, for both, with the largest subnet for which it holds
   abbrev pub Learns : Registry Interior → Hops A → Hops A → ℕ → Type 0
-  Learns r old new a = (s : Network) × (new ≡ map.insert old a (learnt s (answer_of r a))) × IsLargest (map.get r.rows) a s
+  Learns r old new a = (s : AddressPrefix) × (new ≡ map.insert old a (learnt s (answer_of r a))) × IsLargest (map.get r.rows) a s
 
   -- a stale one has it as its fresh answer
   abbrev pub Renews : Registry Interior → Hops A → Hops A → ℕ → Type 0
-  Renews r old new a = (s : Network) × IsRenewed old new a s (answer_of r a) × IsLargest (map.get r.rows) a s
+  Renews r old new a = (s : AddressPrefix) × IsRenewed old new a s (answer_of r a) × IsLargest (map.get r.rows) a s

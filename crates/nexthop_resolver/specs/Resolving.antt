@@ -3,7 +3,7 @@ use Rattle.std.specs.Prelude.{◌≡◌, ℕ, Bool, true, Option, Some, None, re
 use Rattle.std.specs.Option.{option_map}
 use Rattle.std.specs.Coded.{Coded, code_by, coded×, coded_ℕ, coded_option}
 use Rattle.std.specs.FinMap as map
-use Rattle.addr4.specs.Prefixes.{Network, network_code}
+use Rattle.addr4.specs.Prefixes.{AddressPrefix, address_prefix_code}
 use Rattle.link_change.specs.Rows.{Rows}
 use Rattle.nexthop_known.specs.Hops.{Hops, hop_code}
 use Rattle.nexthop_known.specs.Counts.{Counts}
@@ -15,12 +15,12 @@ pub record Resolving (A : Type 0) : Type 0 where
   pub client : ℕ
   pub counts : Counts
   pub known : Hops A
-  pub walk : Option (Option Network)
+  pub walk : Option (Option AddressPrefix)
 
 abbrev pub resolving_code : {A : Type 0} → Coded A → Coded (Resolving A)
 resolving_code {A} c =
-    code_by ((ℕ × Counts) × (Hops A × Option (Option Network)))
-    (coded× (coded× coded_ℕ (map.code coded_ℕ coded_ℕ)) (coded× (map.code coded_ℕ (hop_code c)) (coded_option (coded_option network_code))))
+    code_by ((ℕ × Counts) × (Hops A × Option (Option AddressPrefix)))
+    (coded× (coded× coded_ℕ (map.code coded_ℕ coded_ℕ)) (coded× (map.code coded_ℕ (hop_code c)) (coded_option (coded_option address_prefix_code))))
     (λ r. ((r.client, r.counts), (r.known, r.walk))) (λ p. record { client = p.0.0; counts = p.0.1; known = p.1.0; walk = p.1.1 }) (λ _. refl)
 
 -- nothing is known yet
@@ -42,7 +42,7 @@ module _ {A : Type 0} where
   abbrev pub fresh_by : Hops A → Answers A
   fresh_by known a = option_map (λ h. h.fresh) (map.get known a)
 
-  abbrev pub walk_to : Answers A → Option (Option Network) → Option (Walked (Answers A))
+  abbrev pub walk_to : Answers A → Option (Option AddressPrefix) → Option (Walked (Answers A))
   walk_to fresh None = None
   walk_to fresh (Some place) = Some (record { next = fresh; place = place; waiting = None })
 
@@ -51,7 +51,7 @@ module _ {A : Type 0} where
   passes s = record { in_force = in_force_by s.known; walk = walk_to (fresh_by s.known) s.walk }
 
   -- a walk is on, at a place
-  abbrev pub at_place : Resolving A → Option Network → Resolving A
+  abbrev pub at_place : Resolving A → Option AddressPrefix → Resolving A
   at_place s place = record s { walk = Some place }
 
   -- one that begins stands before all prefixes
@@ -59,7 +59,7 @@ module _ {A : Type 0} where
   begun s = at_place s None
 
 -- whether the answers in force hold at a prefix
-abbrev pub is_in_force : Option (Option Network) → Network → Bool
+abbrev pub is_in_force : Option (Option AddressPrefix) → AddressPrefix → Bool
 is_in_force None q = true
 is_in_force (Some place) q = is_beyond place q
 
@@ -74,7 +74,7 @@ module _ {A R L : Type 0} (hop : R → ℕ) (made : R → A → Option L) where
   goes_on answers (Some r) = made_by r (answers (hop r))
 
   -- whatever its prefix
-  abbrev pub resolved : Answers A → Network → Option R → Option L
+  abbrev pub resolved : Answers A → AddressPrefix → Option R → Option L
   resolved answers q row = goes_on answers row
 
   -- the rows of the link below

@@ -1,7 +1,7 @@
 -- What a change from above makes of a resolver, and what goes on below.
 use Rattle.std.specs.Prelude.{◌≡◌, ◌⊎◌, ℕ, Option, Some, None}
 use Rattle.std.specs.FinMap as map
-use Rattle.addr4.specs.Prefixes.{Network}
+use Rattle.addr4.specs.Prefixes.{AddressPrefix}
 use Rattle.link_change.specs.Rows.{Rows}
 use Rattle.link_change.specs.Changes.{IsSent}
 use Rattle.link_change.specs.declared.change.Change.{Change}
@@ -38,14 +38,14 @@ module _ {A : Type 0} where
     pub hops : KeepsOrLearns told old.known new.known
 
   -- the answers that came with the subnet are stale, and all else is as it was
-  pub record Invalidates (s : Network) (old new : Resolving A) : Type 0 where
+  pub record Invalidates (s : AddressPrefix) (old new : Resolving A) : Type 0 where
     pub client : new.client ≡ old.client
     pub walk : new.walk ≡ old.walk
     pub counts : new.counts ≡ old.counts
     pub known : IsMapped (staled s) old.known new.known
 
   -- some of the answers that came with the subnet are stale, and all else is as it was
-  pub record PartlyInvalidates (s : Network) (old new : Resolving A) : Type 0 where
+  pub record PartlyInvalidates (s : AddressPrefix) (old new : Resolving A) : Type 0 where
     pub client : new.client ≡ old.client
     pub walk : new.walk ≡ old.walk
     pub counts : new.counts ≡ old.counts
@@ -53,11 +53,11 @@ module _ {A : Type 0} where
 
 module _ {A R L : Type 0} (hop : R → ℕ) (made : R → A → Option L) where
   -- The next hops of the rows above are counted, and the rows below led from the old ones to the new ones.
-  pub record TakesOver (old new : Resolving A) (upper now : Rows R) (p : Network) (sent : Option (Change L)) : Type 0 where
+  pub record TakesOver (old new : Resolving A) (upper now : Rows R) (p : AddressPrefix) (sent : Option (Change L)) : Type 0 where
     pub counted : AreCounted (named_by hop now) new.counts
     pub sent_is : IsSent (res_rows hop made old upper) (res_rows hop made new now) p sent
 
   -- So it is for any rows above that the change leads on, where their next hops were counted before.
   abbrev pub TakesIn : Resolving A → Resolving A → Change R → Option (Change L) → Type 0
   TakesIn old new change sent =
-      (upper now : Rows R) (p : Network) → AreCounted (named_by hop upper) old.counts → IsSent upper now p (Some change) → TakesOver old new upper now p sent
+      (upper now : Rows R) (p : AddressPrefix) → AreCounted (named_by hop upper) old.counts → IsSent upper now p (Some change) → TakesOver old new upper now p sent

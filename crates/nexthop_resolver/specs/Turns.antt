@@ -1,7 +1,7 @@
 -- One turn of a resolver's task, by the first of three cases that holds.
 use Rattle.std.specs.Prelude.{◌≡◌, ◌⊎◌, ℕ, true, Option, Some, None, IsSome}
 use Rattle.std.specs.FinMap as map
-use Rattle.addr4.specs.Prefixes.{Network}
+use Rattle.addr4.specs.Prefixes.{AddressPrefix}
 use Rattle.link_change.specs.Rows.{Rows, Candidates}
 use Rattle.link_change.specs.declared.change.Change.{Change}
 use Rattle.link_change.specs.declared.turn.Turn.{Turn}
@@ -15,7 +15,7 @@ use Rattle.nexthop_resolver.specs.Registered.{Renews}
 
 module _ {A : Type 0} where
   -- while the walk is on, the answers stay; when it is over, the fresh ones are in force, also of next hops that are stale again
-  abbrev pub KnownAfter : Option (Option Network) → Hops A → Hops A → Type 0
+  abbrev pub KnownAfter : Option (Option AddressPrefix) → Hops A → Hops A → Type 0
   KnownAfter (Some place) old new = new ≡ old
   KnownAfter None old new = IsMapped settled old new
 
@@ -42,7 +42,7 @@ module _ {A R L : Type 0} (hop : R → ℕ) (made : R → A → Option L) (candi
   IsStep old new Quiet = Steps old new None
   IsStep old new (Sent change) = Steps old new (Some change)
 
-  module _ (kept : Option (Network × Interior) → A) (was is : Registry Interior) where
+  module _ (kept : Option (AddressPrefix × Interior) → A) (was is : Registry Interior) where
     -- 1. a walk is on
     pub record Goes (old new : Resolving A) (sent : Option (Change L)) : Type 0 where
       pub steps : Steps old new sent

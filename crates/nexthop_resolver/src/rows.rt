@@ -1,7 +1,7 @@
 //! Rows that name a next hop, and what is kept of the answers about it.
 
 ghost use Rattle.std.specs.Prelude.{◌≡◌, ℕ, Option};
-ghost use Rattle.addr4.specs.Prefixes.{Network};
+ghost use Rattle.addr4.specs.Prefixes.{AddressPrefix};
 ghost use Rattle.rib_route.specs.declared.rows.Interior.{Interior};
 ghost use Rattle.register_interest.specs.Matches.{match_of};
 ghost use Rattle.nexthop_resolver.specs.Kept.{first_router};
@@ -15,7 +15,7 @@ use rib_route::{External, FibRow, Iface, Interior};
 /// What is kept of the register's answer about a next hop.
 pub trait FromMatch: Answer {
     /// What is kept of the longest interior route that holds the next hop, or of none.
-    ghost kept_of: { Option (Network × Interior) → Self };
+    ghost kept_of: { Option (AddressPrefix × Interior) → Self };
 
     /// What is kept of an answer.
     fn from_match(found: &Option<Match<Interior>>) -> Self

@@ -3,9 +3,9 @@ use Rattle.std.proofs.Common.{◌≡◌, ℕ, ◌+◌, ◌-◌, ◌%◌, ◌^◌
 use Rattle.std.proofs.lemmas.Bool.{cases_eq, cases_lt}
 use Rattle.slab.specs.Slab.{Slab, get, ContainsKey}
 use Rattle.addr4.specs.Places.{IsBeyond}
-use Rattle.addr4.specs.Prefixes.{Network}
+use Rattle.addr4.specs.Prefixes.{AddressPrefix}
 use Rattle.addr4.proofs.RankLemmas.{before_is, is_before}
-use Rattle.addr4.proofs.HalfLemmas.{one_network}
+use Rattle.addr4.proofs.HalfLemmas.{one_address_prefix}
 use Rattle.nibble_trie.specs.declared.node.Node.{Node}
 use Rattle.nibble_trie.specs.declared.link.Link.{Link}
 use Rattle.nibble_trie.specs.declared.link.Target.{Target}
@@ -29,30 +29,30 @@ module _ {V : Type 0} where
   has_leaf leaves k has = by (get leaves k) refl has
     where
       by : (o : Option (Node V)) → get leaves k ≡ o → IsSome (option_map (λ n. n.prefix) o) → ContainsKey leaves k
-      by None e h = absurd (let x : is_some {T = Network} None ≡ true = h in cc)
+      by None e h = absurd (let x : is_some {T = AddressPrefix} None ≡ true = h in cc)
       by (Some n) e h = ap is_some e
 
-  pub has_found : (leaves : Slab (Node V)) (k : ℕ) (p : Network) → prefix_in leaves k ≡ Some p → ContainsKey leaves k
+  pub has_found : (leaves : Slab (Node V)) (k : ℕ) (p : AddressPrefix) → prefix_in leaves k ≡ Some p → ContainsKey leaves k
   has_found leaves k p found = has_leaf leaves k (subst IsSome (sym found) refl)
 
 -- the link behind a shorter leaf
-pub behind_next : (keys : ℕ → Option Network) (longer : ℕ → Option ℕ) (key length : ℕ) (p : Network) (link : Option ℕ) → IsChained keys longer → keys key ≡ Some p → longer key ≡ link → p.length < length → HasNext keys link length
+pub behind_next : (keys : ℕ → Option AddressPrefix) (longer : ℕ → Option ℕ) (key length : ℕ) (p : AddressPrefix) (link : Option ℕ) → IsChained keys longer → keys key ≡ Some p → longer key ≡ link → p.length < length → HasNext keys link length
 behind_next keys longer key length p link c found is lt = record { address = p.address; from = p.length + 1; within = omega arith; next = subst (λ l. IsNextOf keys p.address (p.length + 1) l) is (c.linked key p found) }
 
 -- fewer lengths are left behind it
-pub rest_falls : (keys : ℕ → Option Network) (longer : ℕ → Option ℕ) (key : ℕ) (p : Network) (link : Option ℕ) → IsChained keys longer → keys key ≡ Some p → p.length ≤ 32 → longer key ≡ link → rest_behind keys link < rest_of (Some p)
+pub rest_falls : (keys : ℕ → Option AddressPrefix) (longer : ℕ → Option ℕ) (key : ℕ) (p : AddressPrefix) (link : Option ℕ) → IsChained keys longer → keys key ≡ Some p → p.length ≤ 32 → longer key ≡ link → rest_behind keys link < rest_of (Some p)
 rest_falls keys longer key p None c found small is = omega arith
 rest_falls keys longer key p (Some m) c found small is =
     let n : IsNextOf keys p.address (p.length + 1) (Some m) = subst (λ l. IsNextOf keys p.address (p.length + 1) l) is (c.linked key p found) in
     subst (λ r. rest_of r < rest_of (Some p)) (sym n.1) (omega (arith, n.3))
 
 -- where an address has no head no prefix has it
-headless : (keys : ℕ → Option Network) (heads : ℕ → Option ℕ) → ((a : ℕ) → IsNextOf keys a 0 (heads a)) → (a k : ℕ) (p : Network) → heads a ≡ None → keys k ≡ Some p → p.address ≡ a → ⊥
+headless : (keys : ℕ → Option AddressPrefix) (heads : ℕ → Option ℕ) → ((a : ℕ) → IsNextOf keys a 0 (heads a)) → (a k : ℕ) (p : AddressPrefix) → heads a ≡ None → keys k ≡ Some p → p.address ≡ a → ⊥
 headless keys heads shortest a k p none found same = let n : IsNextOf keys a 0 None = subst (λ l. IsNextOf keys a 0 l) none (shortest a) in absurd (omega (arith, n k p found same))
 
 -- ---- the first key
 -- a place's first leaf is the first of its address
-pub leaf_starts : (keys : ℕ → Option Network) (index : Index) (heads : ℕ → Option ℕ) (layout : Layout) (at : Option (ℕ × ℕ)) (target : Target) (level from least key : ℕ) (r : Option ℕ) → Starts keys index heads layout at target level from least → target ≡ Leaf key → ((a : ℕ) → IsNextOf keys a 0 (Some key) → IsFirstOf keys (IsOfAddressFrom a from least) r) → IsFirstOf keys (FromAt layout at from least) r
+pub leaf_starts : (keys : ℕ → Option AddressPrefix) (index : Index) (heads : ℕ → Option ℕ) (layout : Layout) (at : Option (ℕ × ℕ)) (target : Target) (level from least key : ℕ) (r : Option ℕ) → Starts keys index heads layout at target level from least → target ≡ Leaf key → ((a : ℕ) → IsNextOf keys a 0 (Some key) → IsFirstOf keys (IsOfAddressFrom a from least) r) → IsFirstOf keys (FromAt layout at from least) r
 leaf_starts keys index heads layout at target level from least key r s is first =
     let f = leaf_fits index heads layout (record { at = at; level = level; target = target }) key s.holds s.stands is in
     first_same keys (IsOfAddressFrom f.0 from least) (FromAt layout at from least) r
@@ -63,7 +63,7 @@ leaf_starts keys index heads layout at target level from least key r s is first 
     ])
     (first f.0 (subst (λ l. IsNextOf keys f.0 0 l) f.2 (s.shortest f.0)))
 
-module _ (keys : ℕ → Option Network) (index : Index) (branch level first length : ℕ) where
+module _ (keys : ℕ → Option AddressPrefix) (index : Index) (branch level first length : ℕ) where
   -- the first of what is left of a branch from a digit on is the first of the place that leads to it
   abbrev pub IsLeft : ℕ → ℕ → ℕ → Type 0
   IsLeft digit from least = (heads : ℕ → Option ℕ) (layout : Layout) (at : Option (ℕ × ℕ)) → Starts keys index heads layout at (Inner branch) level first length → IsStart layout (Some (branch, digit)) from least × ((r : Option ℕ) → IsFirstOf keys (FromIn layout branch digit from least) r → IsFirstOf keys (FromAt layout at first length) r)
@@ -112,7 +112,7 @@ module _ (keys : ℕ → Option Network) (index : Index) (branch level first len
           (inl (refl, refl), λ next rest. l.1 next (in_rest keys layout branch digit from least l.0 r next none (at_digit heads layout (Some (branch, digit)) (starts_digit heads layout at s)) rest))
 
 -- ---- from the root down
-pub top_starts : (keys : ℕ → Option Network) (index : Index) (heads : ℕ → Option ℕ) (layout : Layout) (from least : ℕ) → IsLaid index heads layout → ((a : ℕ) → IsNextOf keys a 0 (heads a)) → from < 2 ^ 32 → Starts keys index heads layout None (leads index.root) 8 from least
+pub top_starts : (keys : ℕ → Option AddressPrefix) (index : Index) (heads : ℕ → Option ℕ) (layout : Layout) (from least : ℕ) → IsLaid index heads layout → ((a : ℕ) → IsNextOf keys a 0 (heads a)) → from < 2 ^ 32 → Starts keys index heads layout None (leads index.root) 8 from least
 top_starts keys index heads layout from least holds shortest fits = record {
   holds = holds;
   shortest = shortest;
@@ -120,11 +120,11 @@ top_starts keys index heads layout from least holds shortest fits = record {
   start = inr (high_all from fits);
 }
 
-pub top_first : (keys : ℕ → Option Network) (layout : Layout) (from least : ℕ) (r : Option ℕ) → IsSmall keys → IsFirstOf keys (FromAt layout None from least) r → IsFirstOf keys (IsFrom from least) r
+pub top_first : (keys : ℕ → Option AddressPrefix) (layout : Layout) (from least : ℕ) (r : Option ℕ) → IsSmall keys → IsFirstOf keys (FromAt layout None from least) r → IsFirstOf keys (IsFrom from least) r
 top_first keys layout from least r small first = first_same keys (FromAt layout None from least) (IsFrom from least) r (λ p x. x.from) (λ k p found x. record { lies = high_all p.address (small k p found).0; from = x }) first
 
 -- ---- beyond a place
-pub from_beyond : (keys : ℕ → Option Network) (q : Network) (from least : ℕ) (r : Option ℕ) → from ≡ q.address → least ≡ q.length + 1 → IsFirstOf keys (IsFrom from least) r → IsNextLeaf keys (Some q) r
+pub from_beyond : (keys : ℕ → Option AddressPrefix) (q : AddressPrefix) (from least : ℕ) (r : Option ℕ) → from ≡ q.address → least ≡ q.length + 1 → IsFirstOf keys (IsFrom from least) r → IsNextLeaf keys (Some q) r
 from_beyond keys q from least r same longer first = first_same keys (IsFrom from least) (IsBeyond (Some q)) r
     (λ p x. is_before q p (elim (cases_lt q.address p.address) [
       | inl less ↦ inl less
@@ -138,7 +138,7 @@ from_beyond keys q from least r same longer first = first_same keys (IsFrom from
     ]) first
 
 -- a longer one of its address
-pub longer_beyond : (keys : ℕ → Option Network) (q : Network) (r : Option ℕ) → is_some r ≡ true → IsNextOf keys q.address (q.length + 1) r → IsNextLeaf keys (Some q) r
+pub longer_beyond : (keys : ℕ → Option AddressPrefix) (q : AddressPrefix) (r : Option ℕ) → is_some r ≡ true → IsNextOf keys q.address (q.length + 1) r → IsNextLeaf keys (Some q) r
 longer_beyond keys q None some next = absurd (let x : is_some {T = ℕ} None ≡ true = some in cc)
 longer_beyond keys q (Some key) some next = (
   next.0,
@@ -153,36 +153,36 @@ longer_beyond keys q (Some key) some next = (
   ],
 )
 
-pub link_rest : (keys : ℕ → Option Network) (link : Option ℕ) (key : ℕ) (p : Network) (less : ℕ) → link ≡ Some key → keys key ≡ Some p → less < rest_of (Some p) → less < rest_behind keys link
+pub link_rest : (keys : ℕ → Option AddressPrefix) (link : Option ℕ) (key : ℕ) (p : AddressPrefix) (less : ℕ) → link ≡ Some key → keys key ≡ Some p → less < rest_of (Some p) → less < rest_behind keys link
 link_rest keys link key p less is found lt = subst (λ l. less < rest_behind keys l) (sym is) (subst (λ r. less < rest_of r) (sym found) lt)
 
-pub sought : (keys : ℕ → Option Network) (a length : ℕ) (link : Option ℕ) → IsNextOf keys a length link → HasNext keys link length
+pub sought : (keys : ℕ → Option AddressPrefix) (a length : ℕ) (link : Option ℕ) → IsNextOf keys a length link → HasNext keys link length
 sought keys a length link next = record { address = a; from = length; within = omega arith; next = next }
 
-pub leaf_at : (keys : ℕ → Option Network) (p : Network) (a length : ℕ) (r : Option ℕ) → a ≡ p.address → length ≡ p.length → IsLeafOf keys (record { address = a; length = length }) r → IsLeafOf keys p r
-leaf_at keys p a length r ea el leaf = subst (λ q. IsLeafOf keys q r) (one_network (record { address = a; length = length }) p ea el) leaf
+pub leaf_at : (keys : ℕ → Option AddressPrefix) (p : AddressPrefix) (a length : ℕ) (r : Option ℕ) → a ≡ p.address → length ≡ p.length → IsLeafOf keys (record { address = a; length = length }) r → IsLeafOf keys p r
+leaf_at keys p a length r ea el leaf = subst (λ q. IsLeafOf keys q r) (one_address_prefix (record { address = a; length = length }) p ea el) leaf
 
 -- the link of a prefix's leaf leads to the next one
-pub longer_in_node : {V : Type 0} (leaves : Slab (Node V)) (k : ℕ) (n : Node V) (p : Network) (r : Option ℕ) → IsChained (prefix_in leaves) (longer_in leaves) → get leaves k ≡ Some n → prefix_in leaves k ≡ Some p → r ≡ leaf_of (leads n.longer) → IsNextOf (prefix_in leaves) p.address (p.length + 1) r
+pub longer_in_node : {V : Type 0} (leaves : Slab (Node V)) (k : ℕ) (n : Node V) (p : AddressPrefix) (r : Option ℕ) → IsChained (prefix_in leaves) (longer_in leaves) → get leaves k ≡ Some n → prefix_in leaves k ≡ Some p → r ≡ leaf_of (leads n.longer) → IsNextOf (prefix_in leaves) p.address (p.length + 1) r
 longer_in_node leaves k n p r chained found is e = subst (λ l. IsNextOf (prefix_in leaves) p.address (p.length + 1) l) (ap (option_and_then (λ (m : Node _). leaf_of (leads m.longer))) found ∙ sym e) (chained.linked k p is)
 
 -- ---- the first leaf of an address, for a prefix of it
 -- there is none
-pub head_none : (keys : ℕ → Option Network) (p : Network) → IsNextOf keys p.address 0 None → IsHeadOf keys p None
+pub head_none : (keys : ℕ → Option AddressPrefix) (p : AddressPrefix) → IsNextOf keys p.address 0 None → IsHeadOf keys p None
 head_none keys p next = (next, λ k q found same. absurd (omega (arith, next k q found same)))
 
-pub absent_none : (keys : ℕ → Option Network) (p : Network) → IsNextOf keys p.address 0 None → (k : ℕ) → keys k ≡ Some p → ⊥
+pub absent_none : (keys : ℕ → Option AddressPrefix) (p : AddressPrefix) → IsNextOf keys p.address 0 None → (k : ℕ) → keys k ≡ Some p → ⊥
 absent_none keys p next k found = absurd (omega (arith, next k p found refl))
 
 -- it is longer
-pub head_some : (keys : ℕ → Option Network) (p : Network) (key : ℕ) (q : Network) → IsNextOf keys p.address 0 (Some key) → keys key ≡ Some q → p.length ≤ q.length → IsHeadOf keys p (Some key)
+pub head_some : (keys : ℕ → Option AddressPrefix) (p : AddressPrefix) (key : ℕ) (q : AddressPrefix) → IsNextOf keys p.address 0 (Some key) → keys key ≡ Some q → p.length ≤ q.length → IsHeadOf keys p (Some key)
 head_some keys p key q next found le = (next, later_some keys p.address 0 p.length key q (omega arith) found le next)
 
-pub absent_some : (keys : ℕ → Option Network) (p : Network) (key : ℕ) (q : Network) → IsNextOf keys p.address 0 (Some key) → keys key ≡ Some q → p.length < q.length → (k : ℕ) → keys k ≡ Some p → ⊥
+pub absent_some : (keys : ℕ → Option AddressPrefix) (p : AddressPrefix) (key : ℕ) (q : AddressPrefix) → IsNextOf keys p.address 0 (Some key) → keys key ≡ Some q → p.length < q.length → (k : ℕ) → keys k ≡ Some p → ⊥
 absent_some keys p key q next found lt k there =
     let e : next.0 ≡ q = one_found keys key next.0 q next.1 found in
     absurd (omega (arith, ap (λ x. x.length) e, next.4 k p there refl (omega arith)))
 
 -- its address
-pub head_address : (keys : ℕ → Option Network) (a key : ℕ) (q : Network) → IsNextOf keys a 0 (Some key) → keys key ≡ Some q → q.address ≡ a
+pub head_address : (keys : ℕ → Option AddressPrefix) (a key : ℕ) (q : AddressPrefix) → IsNextOf keys a 0 (Some key) → keys key ≡ Some q → q.address ≡ a
 head_address keys a key q next found = ap (λ x. x.address) (one_found keys key q next.0 found next.1) ∙ next.2

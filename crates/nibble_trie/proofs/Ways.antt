@@ -1,7 +1,7 @@
 -- The way of an address from the root down.
 use Rattle.std.proofs.Common.{◌≡◌, ◌≢◌, ℕ, ◌+◌, ◌-◌, ◌%◌, ◌^◌, ◌<◌, ◌≤◌, true, cond, [], get_or, Option, Some, None, is_some, refl, sym, ap, subst, ◌∙◌, arith}
 use Rattle.std.proofs.lemmas.Nat.{mod_below}
-use Rattle.addr4.specs.Prefixes.{Network}
+use Rattle.addr4.specs.Prefixes.{AddressPrefix}
 use Rattle.std.proofs.lemmas.Bool.{ne_eqb}
 use Rattle.slab.specs.Slab.{Slab, get, ContainsKey}
 use Rattle.nibble_trie.specs.declared.link.Target.TheVariants.{Nothing, Leaf, Inner}
@@ -81,13 +81,13 @@ pub leaf_fits : (index : Index) (heads : ℕ → Option ℕ) (layout : Layout) (
 leaf_fits index heads layout spot key h s is = subst (λ t. Fits (is_live index) heads layout spot.at t) is (fits_spot index heads layout spot h s)
 
 -- the leaf at a place has the address that it stands for
-pub named : (keys : ℕ → Option Network) (heads : ℕ → Option ℕ) (a key : ℕ) (p : Network) → Names keys heads → heads a ≡ Some key → keys key ≡ Some p → p.address ≡ a
+pub named : (keys : ℕ → Option AddressPrefix) (heads : ℕ → Option ℕ) (a key : ℕ) (p : AddressPrefix) → Names keys heads → heads a ≡ Some key → keys key ≡ Some p → p.address ≡ a
 named keys heads a key p names has found =
     let n = names a key has in
     let e : n.0 ≡ p = some_same n.0 p (sym n.1 ∙ found) in
     ap (λ q. q.address) (sym e) ∙ n.2
 
-pub head_leaf : (keys : ℕ → Option Network) (index : Index) (heads : ℕ → Option ℕ) (layout : Layout) (a : ℕ) (spot : Spot) (key : ℕ) (p : Network) → IsLaid index heads layout → Names keys heads → OnWay index layout a spot → spot.target ≡ Leaf key → keys key ≡ Some p → p.address ≡ a → heads a ≡ Some key
+pub head_leaf : (keys : ℕ → Option AddressPrefix) (index : Index) (heads : ℕ → Option ℕ) (layout : Layout) (a : ℕ) (spot : Spot) (key : ℕ) (p : AddressPrefix) → IsLaid index heads layout → Names keys heads → OnWay index layout a spot → spot.target ≡ Leaf key → keys key ≡ Some p → p.address ≡ a → heads a ≡ Some key
 head_leaf keys index heads layout a spot key p h names way is found same =
     let f = leaf_fits index heads layout spot key h way.stands is in
     let e : p.address ≡ f.0 = named keys heads f.0 key p names f.2 found in

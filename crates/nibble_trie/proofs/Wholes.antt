@@ -8,9 +8,9 @@ use Rattle.slab.specs.Slab.{Slab, get, ContainsKey, Updates, with_value as put_v
 use Rattle.slab.proofs.SlabLemmas.{Updates-with_value}
 use Rattle.std.specs.FinMap.{FinMap, same_map, get-empty}
 use Rattle.addr4.specs.Places.{IsBeyond, IsNextRow}
-use Rattle.addr4.proofs.HalfLemmas.{one_network}
+use Rattle.addr4.proofs.HalfLemmas.{one_address_prefix}
 use Rattle.addr4.proofs.PrefixOrder.{prefixes_total, exact_prefixes}
-use Rattle.addr4.specs.Prefixes.{Network, ComesBefore, prefix_cmp}
+use Rattle.addr4.specs.Prefixes.{AddressPrefix, ComesBefore, prefix_cmp}
 use Rattle.nibble_trie.specs.declared.node.Node.{Node}
 use Rattle.nibble_trie.specs.declared.link.Link.{Link}
 use Rattle.nibble_trie.specs.declared.branch.Branch.{Branch}
@@ -26,17 +26,17 @@ use Rattle.nibble_trie.proofs.Chains.{Adds, Removes, was_there, is_there, stood_
 use Rattle.nibble_trie.proofs.Rows.{prefix_found, node_at, keeps_at, keeps_touched, keeps_trans, rows_put, rows_removed, row_of, row_none, row_found}
 
 -- the prefix of a leaf
-abbrev pub IsOf : (ℕ → Option Network) → Option ℕ → Option Network → Type 0
+abbrev pub IsOf : (ℕ → Option AddressPrefix) → Option ℕ → Option AddressPrefix → Type 0
 IsOf keys None None = Unit {0}
 IsOf keys None (Some p) = ⊥
 IsOf keys (Some k) None = ⊥
 IsOf keys (Some k) (Some p) = keys k ≡ Some p
 
 -- a link to the next from a prefix's length on leads to its leaf
-pub leads_to_leaf : (keys : ℕ → Option Network) (longer : ℕ → Option ℕ) (p : Network) (link : Option ℕ) (key : ℕ) → IsChained keys longer → IsNextOf keys p.address p.length link → keys key ≡ Some p → link ≡ Some key
+pub leads_to_leaf : (keys : ℕ → Option AddressPrefix) (longer : ℕ → Option ℕ) (p : AddressPrefix) (link : Option ℕ) (key : ℕ) → IsChained keys longer → IsNextOf keys p.address p.length link → keys key ≡ Some p → link ≡ Some key
 leads_to_leaf keys longer p None key c next found = absurd (omega (arith, next key p found refl))
 leads_to_leaf keys longer p (Some m) key c next found =
-    let e : next.0 ≡ p = one_network next.0 p next.2 (omega (arith, next.3, next.4 key p found refl (omega arith))) in
+    let e : next.0 ≡ p = one_address_prefix next.0 p next.2 (omega (arith, next.3, next.4 key p found refl (omega arith))) in
     ap Some (c.single m key p (next.1 ∙ ap Some e) found)
 
 module _ {V : Type 0} where
@@ -68,17 +68,17 @@ module _ {V : Type 0} where
   pub adds_of : (old new : Slab (Node V)) (key : ℕ) (n : Node V) → get old key ≡ None → Updates old new key (Some n) → ((k : ℕ) → prefix_in old k ≡ Some n.prefix → ⊥) → Adds (prefix_in old) (prefix_in new) key n.prefix
   adds_of old new key n vacant u absent = record { vacant = ap (option_map (λ n. n.prefix)) vacant; absent = absent; here = prefix_found new key n u.changed; others = prefix_others old new key (Some n) u }
 
-  pub removes_of : (old new : Slab (Node V)) (key : ℕ) (p : Network) → Updates old new key None → prefix_in old key ≡ Some p → Removes (prefix_in old) (prefix_in new) key p
+  pub removes_of : (old new : Slab (Node V)) (key : ℕ) (p : AddressPrefix) → Updates old new key None → prefix_in old key ≡ Some p → Removes (prefix_in old) (prefix_in new) key p
   removes_of old new key p u was = record { was = was; gone = ap (option_map (λ n. n.prefix)) u.changed; others = prefix_others old new key None u }
 
   -- a key that is vacant is no other's
-  not_vacant : (leaves : Slab (Node V)) (key k : ℕ) (p : Network) → get leaves key ≡ None → prefix_in leaves k ≡ Some p → k ≢ key
+  not_vacant : (leaves : Slab (Node V)) (key k : ℕ) (p : AddressPrefix) → get leaves key ≡ None → prefix_in leaves k ≡ Some p → k ≢ key
   not_vacant leaves key k p vacant found e =
       let n = node_at leaves k p found in
       let some = sym n.1 ∙ ap (get leaves) e ∙ vacant in absurd (cc)
 
   -- ---- a value in the place of another
-  pub joins_replaced : (old new : Slab (Node V)) (key : ℕ) (n : Node V) (p : Network) (v : V) → IsChained (prefix_in old) (longer_in old) → get old key ≡ Some n → n.prefix ≡ p → Updates old new key (Some (record n { value = v })) → Joins old new p (Some v)
+  pub joins_replaced : (old new : Slab (Node V)) (key : ℕ) (n : Node V) (p : AddressPrefix) (v : V) → IsChained (prefix_in old) (longer_in old) → get old key ≡ Some n → n.prefix ≡ p → Updates old new key (Some (record n { value = v })) → Joins old new p (Some v)
   joins_replaced old new key n p v c found is u =
       let m : Node V = record n { value = v } in
       let keys = prefix_touched old new key n m u found refl in
@@ -91,7 +91,7 @@ module _ {V : Type 0} where
       }
 
   -- ---- a leaf behind another
-  pub joins_added : (old mid new : Slab (Node V)) (before key : ℕ) (b : Node V) (p : Network) (link own : Link) (v : V) → IsChained (prefix_in old) (longer_in old) → IsLastBelow (prefix_in old) (longer_in old) p.address p.length before → get old before ≡ Some b → get old key ≡ None → ((k : ℕ) → prefix_in old k ≡ Some p → ⊥) → Updates old mid key (Some (record { prefix = p; longer = own; value = v })) → own ≡ b.longer → Updates mid new before (Some (record b { longer = link })) → leaf_of (leads link) ≡ Some key → Joins old new p (Some v)
+  pub joins_added : (old mid new : Slab (Node V)) (before key : ℕ) (b : Node V) (p : AddressPrefix) (link own : Link) (v : V) → IsChained (prefix_in old) (longer_in old) → IsLastBelow (prefix_in old) (longer_in old) p.address p.length before → get old before ≡ Some b → get old key ≡ None → ((k : ℕ) → prefix_in old k ≡ Some p → ⊥) → Updates old mid key (Some (record { prefix = p; longer = own; value = v })) → own ≡ b.longer → Updates mid new before (Some (record b { longer = link })) → leaf_of (leads link) ≡ Some key → Joins old new p (Some v)
   joins_added old mid new before key b p link own v c last found vacant absent one is two leads_to =
       let node : Node V = record { prefix = p; longer = own; value = v } in
       let after : Node V = record b { longer = link } in
@@ -113,7 +113,7 @@ module _ {V : Type 0} where
       }
 
   -- ---- a leaf less behind another
-  pub joins_removed : (old mid new : Slab (Node V)) (before key : ℕ) (b n : Node V) (p : Network) (link : Link) → IsChained (prefix_in old) (longer_in old) → IsLastBelow (prefix_in old) (longer_in old) p.address p.length before → longer_in old before ≡ Some key → get old before ≡ Some b → get old key ≡ Some n → n.prefix ≡ p → Updates old mid before (Some (record b { longer = link })) → link ≡ n.longer → Updates mid new key None → Joins old new p None
+  pub joins_removed : (old mid new : Slab (Node V)) (before key : ℕ) (b n : Node V) (p : AddressPrefix) (link : Link) → IsChained (prefix_in old) (longer_in old) → IsLastBelow (prefix_in old) (longer_in old) p.address p.length before → longer_in old before ≡ Some key → get old before ≡ Some b → get old key ≡ Some n → n.prefix ≡ p → Updates old mid before (Some (record b { longer = link })) → link ≡ n.longer → Updates mid new key None → Joins old new p None
   joins_removed old mid new before key b n p link c last leads_to found there is one same two =
       let after : Node V = record b { longer = link } in
       let touched = prefix_touched old mid before b after one found refl in
@@ -133,7 +133,7 @@ module _ {V : Type 0} where
       }
 
   -- ---- nothing changed
-  pub joins_absent : (leaves : Slab (Node V)) (p : Network) → IsChained (prefix_in leaves) (longer_in leaves) → ((k : ℕ) → prefix_in leaves k ≡ Some p → ⊥) → Joins leaves leaves p None
+  pub joins_absent : (leaves : Slab (Node V)) (p : AddressPrefix) → IsChained (prefix_in leaves) (longer_in leaves) → ((k : ℕ) → prefix_in leaves k ≡ Some p → ⊥) → Joins leaves leaves p None
   joins_absent leaves p c absent = record {
     chained = c;
     heads = λ a head next. next;
@@ -142,14 +142,14 @@ module _ {V : Type 0} where
   }
 
   -- the index may stay
-  pub whole_joined : (old new : Slab (Node V)) (index : Index) (p : Network) (value : Option V) → IsWhole old index → Joins old new p value → (p.address < 2 ^ 32) × (p.length ≤ 32) → IsWhole new index
+  pub whole_joined : (old new : Slab (Node V)) (index : Index) (p : AddressPrefix) (value : Option V) → IsWhole old index → Joins old new p value → (p.address < 2 ^ 32) × (p.length ≤ 32) → IsWhole new index
   whole_joined old new index p value w j fits = record {
     heads = w.heads;
     indexes = w.indexes;
     shortest = λ a. j.heads a (w.heads a) (w.shortest a);
     chained = j.chained;
     small = λ k q at. elim (j.keys k q at) [
-      | inl e ↦ subst (λ (x : Network). (x.address < 2 ^ 32) × (x.length ≤ 32)) (sym e) fits
+      | inl e ↦ subst (λ (x : AddressPrefix). (x.address < 2 ^ 32) × (x.length ≤ 32)) (sym e) fits
       | inr was ↦ w.small k q was
     ];
   }
@@ -164,7 +164,7 @@ module _ {V : Type 0} where
         shortest = first_heads (prefix_in old) (prefix_in new) key n.prefix adds (longer_in old) (longer_in new) w.chained w.heads w.shortest is;
         chained = first_chained (prefix_in old) (prefix_in new) key n.prefix adds (longer_in old) (longer_in new) w.chained (w.heads n.prefix.address) is (longer_found new key n u.changed ∙ own) (longer_others old new key (Some n) u);
         small = λ k q at. elim (was_there (prefix_in old) (prefix_in new) key n.prefix adds k q at) [
-          | inl x ↦ subst (λ (x : Network). (x.address < 2 ^ 32) × (x.length ≤ 32)) (sym x.1) fits
+          | inl x ↦ subst (λ (x : AddressPrefix). (x.address < 2 ^ 32) × (x.length ≤ 32)) (sym x.1) fits
           | inr x ↦ w.small k q x.1
         ];
       }
@@ -174,7 +174,7 @@ module _ {V : Type 0} where
       rows_put old new n.prefix key n n.value w.chained.single w'.chained.single (keeps_at old new n.prefix key (Some n) u (λ x at. let none = sym at ∙ vacant in absurd (cc)) (λ x at. ap (λ (y : Node V). y.prefix) (some_same x n (sym at)))) u.changed refl refl
 
   -- ---- the first leaf of an address goes
-  pub first_taken : (old new : Slab (Node V)) (index after : Index) (key : ℕ) (p : Network) (w : IsWhole old index) → prefix_in old key ≡ Some p → w.heads p.address ≡ Some key → Updates old new key None → Indexes after (with_head w.heads p.address (longer_in old key)) → IsWhole new after
+  pub first_taken : (old new : Slab (Node V)) (index after : Index) (key : ℕ) (p : AddressPrefix) (w : IsWhole old index) → prefix_in old key ≡ Some p → w.heads p.address ≡ Some key → Updates old new key None → Indexes after (with_head w.heads p.address (longer_in old key)) → IsWhole new after
   first_taken old new index after key p w found is u indexes =
       let removes = removes_of old new key p u found in
       record {
@@ -185,7 +185,7 @@ module _ {V : Type 0} where
         small = λ k q at. w.small k q ((stood_there (prefix_in old) (prefix_in new) key p removes k q at).1);
       }
 
-  pub first_removed_rows : (old new : Slab (Node V)) (index after : Index) (key : ℕ) (p : Network) → IsWhole old index → IsWhole new after → prefix_in old key ≡ Some p → Updates old new key None → rows_of new ≡ map.remove (rows_of old) p
+  pub first_removed_rows : (old new : Slab (Node V)) (index after : Index) (key : ℕ) (p : AddressPrefix) → IsWhole old index → IsWhole new after → prefix_in old key ≡ Some p → Updates old new key None → rows_of new ≡ map.remove (rows_of old) p
   first_removed_rows old new index after key p w w' found u =
       let removes = removes_of old new key p u found in
       rows_removed old new p w.chained.single w'.chained.single (keeps_at old new p key None u (λ x at. some_same x.prefix p (sym (prefix_found old key x at) ∙ found)) (λ x at. absurd (cc)))
@@ -195,14 +195,14 @@ module _ {V : Type 0} where
   pub names_of : (leaves : Slab (Node V)) (index : Index) (w : IsWhole leaves index) → Names (prefix_in leaves) w.heads
   names_of leaves index w a k e = let n : IsNextOf (prefix_in leaves) a 0 (Some k) = subst (λ l. IsNextOf (prefix_in leaves) a 0 l) e (w.shortest a) in (n.0, n.1, n.2)
 
-  pub prefix_there : (leaves : Slab (Node V)) (k : ℕ) → ContainsKey leaves k → (p : Network) × (prefix_in leaves k ≡ Some p)
+  pub prefix_there : (leaves : Slab (Node V)) (k : ℕ) → ContainsKey leaves k → (p : AddressPrefix) × (prefix_in leaves k ≡ Some p)
   prefix_there leaves k has = by (get leaves k) refl has
     where
-      by : (o : Option (Node V)) → get leaves k ≡ o → IsSome o → (p : Network) × (prefix_in leaves k ≡ Some p)
+      by : (o : Option (Node V)) → get leaves k ≡ o → IsSome o → (p : AddressPrefix) × (prefix_in leaves k ≡ Some p)
       by None e h = absurd (let x : is_some {T = Node V} None ≡ true = h in cc)
       by (Some n) e h = (n.prefix, ap (option_map (λ n. n.prefix)) e)
 
-  pub names_added : (old new : Slab (Node V)) (heads : ℕ → Option ℕ) (key : ℕ) (p : Network) → Adds (prefix_in old) (prefix_in new) key p → Names (prefix_in old) heads → Names (prefix_in new) heads
+  pub names_added : (old new : Slab (Node V)) (heads : ℕ → Option ℕ) (key : ℕ) (p : AddressPrefix) → Adds (prefix_in old) (prefix_in new) key p → Names (prefix_in old) heads → Names (prefix_in new) heads
   names_added old new heads key p adds names a k e = let n = names a k e in (n.0, is_there (prefix_in old) (prefix_in new) key p adds k n.0 n.1, n.2)
 
   -- what another insert leaves
@@ -225,7 +225,7 @@ module _ {V : Type 0} where
   pub whole_empty : (leaves : Slab (Node V)) (index : Index) → leaves.slots ≡ [] → Indexes index (λ _. None) → IsWhole leaves index
   whole_empty leaves index empty indexes =
       let none : (k : ℕ) → get leaves k ≡ None = λ k. ap (λ (xs : List (Option (Node V))). get_or xs k None) empty in
-      let absent : (k : ℕ) (p : Network) → prefix_in leaves k ≡ Some p → ⊥ = λ k p found. let n = node_at leaves k p found in let clash = sym n.1 ∙ none k in absurd (cc) in
+      let absent : (k : ℕ) (p : AddressPrefix) → prefix_in leaves k ≡ Some p → ⊥ = λ k p found. let n = node_at leaves k p found in let clash = sym n.1 ∙ none k in absurd (cc) in
       record {
         heads = λ _. None;
         indexes = indexes;
@@ -235,27 +235,27 @@ module _ {V : Type 0} where
       }
 
   -- ---- a value written in its place
-  pub touched_joins : (leaves : Slab (Node V)) (key : ℕ) (n : Node V) (p : Network) (v : V) → IsChained (prefix_in leaves) (longer_in leaves) → get leaves key ≡ Some n → n.prefix ≡ p → Joins leaves (put_value leaves key (record n { value = v })) p (Some v)
+  pub touched_joins : (leaves : Slab (Node V)) (key : ℕ) (n : Node V) (p : AddressPrefix) (v : V) → IsChained (prefix_in leaves) (longer_in leaves) → get leaves key ≡ Some n → n.prefix ≡ p → Joins leaves (put_value leaves key (record n { value = v })) p (Some v)
   touched_joins leaves key n p v c found is = joins_replaced leaves (put_value leaves key (record n { value = v })) key n p v c found is (Updates-with_value leaves key (record n { value = v }) (contains leaves key n found))
 
-  pub touched_whole : (leaves : Slab (Node V)) (index : Index) (key : ℕ) (n : Node V) (p : Network) (v : V) → IsWhole leaves index → get leaves key ≡ Some n → n.prefix ≡ p → IsWhole (put_value leaves key (record n { value = v })) index
+  pub touched_whole : (leaves : Slab (Node V)) (index : Index) (key : ℕ) (n : Node V) (p : AddressPrefix) (v : V) → IsWhole leaves index → get leaves key ≡ Some n → n.prefix ≡ p → IsWhole (put_value leaves key (record n { value = v })) index
   touched_whole leaves index key n p v w found is =
       whole_joined leaves (put_value leaves key (record n { value = v })) index p (Some v) w (touched_joins leaves key n p v w.chained found is) (w.small key p (prefix_found leaves key n found ∙ ap Some is))
 
-  touched_rows : (leaves : Slab (Node V)) (index : Index) (key : ℕ) (n : Node V) (p : Network) (v : V) → IsWhole leaves index → get leaves key ≡ Some n → n.prefix ≡ p → rows_of (put_value leaves key (record n { value = v })) ≡ map.insert (rows_of leaves) p v
+  touched_rows : (leaves : Slab (Node V)) (index : Index) (key : ℕ) (n : Node V) (p : AddressPrefix) (v : V) → IsWhole leaves index → get leaves key ≡ Some n → n.prefix ≡ p → rows_of (put_value leaves key (record n { value = v })) ≡ map.insert (rows_of leaves) p v
   touched_rows leaves index key n p v w found is = (touched_joins leaves key n p v w.chained found is).rows
 
-  pub touched_contents : (leaves : Slab (Node V)) (index : Index) (key : ℕ) (n : Node V) (p : Network) (v : V) → IsWhole leaves index → get leaves key ≡ Some n → n.prefix ≡ p → ◌≡◌ {A = Contents V} (record { rows = rows_of (put_value leaves key (record n { value = v })); leaves = prefixes_of (put_value leaves key (record n { value = v })) }) (record { rows = map.insert (rows_of leaves) p v; leaves = prefixes_of leaves })
+  pub touched_contents : (leaves : Slab (Node V)) (index : Index) (key : ℕ) (n : Node V) (p : AddressPrefix) (v : V) → IsWhole leaves index → get leaves key ≡ Some n → n.prefix ≡ p → ◌≡◌ {A = Contents V} (record { rows = rows_of (put_value leaves key (record n { value = v })); leaves = prefixes_of (put_value leaves key (record n { value = v })) }) (record { rows = map.insert (rows_of leaves) p v; leaves = prefixes_of leaves })
   touched_contents leaves index key n p v w found is =
       ap (λ (rows : FinMap prefix_cmp V). record { rows = rows; leaves = prefixes_of (put_value leaves key (record n { value = v })) }) (touched_rows leaves index key n p v w found is)
-      ∙ ap (λ (xs : List (Option Network)). record { rows = map.insert (rows_of leaves) p v; leaves = xs }) (map-set_same (option_map (λ (m : Node V). m.prefix)) leaves.slots key (Some (record n { value = v })) None (sym (prefix_found leaves key n found)))
+      ∙ ap (λ (xs : List (Option AddressPrefix)). record { rows = map.insert (rows_of leaves) p v; leaves = xs }) (map-set_same (option_map (λ (m : Node V). m.prefix)) leaves.slots key (Some (record n { value = v })) None (sym (prefix_found leaves key n found)))
 
   -- the leaf of a prefix
-  pub leaf_node : (leaves : Slab (Node V)) (key : ℕ) (n : Node V) (p : Network) → prefix_in leaves key ≡ Some p → get leaves key ≡ Some n → n.prefix ≡ p
+  pub leaf_node : (leaves : Slab (Node V)) (key : ℕ) (n : Node V) (p : AddressPrefix) → prefix_in leaves key ≡ Some p → get leaves key ≡ Some n → n.prefix ≡ p
   leaf_node leaves key n p leaf found = some_same n.prefix p (sym (prefix_found leaves key n found) ∙ leaf)
 
   -- where contracts see it
-  pub lies_at : (leaves : Slab (Node V)) (key : ℕ) (p : Network) → prefix_in leaves key ≡ Some p → LiesAt (prefixes_of leaves) key p
+  pub lies_at : (leaves : Slab (Node V)) (key : ℕ) (p : AddressPrefix) → prefix_in leaves key ≡ Some p → LiesAt (prefixes_of leaves) key p
   lies_at leaves key p found = by leaves.slots key ∙ found
     where
       by : (slots : List (Option (Node V))) (k : ℕ) → get_or (list.map (option_map (λ (n : Node V). n.prefix)) slots) k None ≡ option_map (λ n. n.prefix) (get_or slots k None)
@@ -263,12 +263,12 @@ module _ {V : Type 0} where
       by (slot ∷ rest) zero = refl
       by (slot ∷ rest) (suc k) = by rest k
 
-  pub must_find : (leaves : Slab (Node V)) (p : Network) (result : Option ℕ) → IsSome (map.get (rows_of leaves) p) → IsLeafOf (prefix_in leaves) p result → IsSome result
+  pub must_find : (leaves : Slab (Node V)) (p : AddressPrefix) (result : Option ℕ) → IsSome (map.get (rows_of leaves) p) → IsLeafOf (prefix_in leaves) p result → IsSome result
   must_find leaves p None has absent = let clash : is_some {T = V} None ≡ true = sym (ap is_some (row_none leaves p absent)) ∙ has in absurd (cc)
   must_find leaves p (Some key) has leaf = refl
 
   -- ---- what stands next
-  pub next_row_is : (leaves : Slab (Node V)) (after result : Option Network) (key : Option ℕ) → IsChained (prefix_in leaves) (longer_in leaves) → IsNextLeaf (prefix_in leaves) after key → IsOf (prefix_in leaves) key result → IsNextRow (map.get (rows_of leaves)) after result
+  pub next_row_is : (leaves : Slab (Node V)) (after result : Option AddressPrefix) (key : Option ℕ) → IsChained (prefix_in leaves) (longer_in leaves) → IsNextLeaf (prefix_in leaves) after key → IsOf (prefix_in leaves) key result → IsNextRow (map.get (rows_of leaves)) after result
   next_row_is leaves after None None c next of = λ q beyond. row_none leaves q (λ k found. next k q found beyond)
   next_row_is leaves after (Some p) (Some key) c next of =
       let e : next.0 ≡ p = some_same next.0 p (sym next.1 ∙ of) in
@@ -294,7 +294,7 @@ module _ {V : Type 0} where
       let clash = sym n.1 ∙ ap (λ (xs : List (Option (Node V))). get_or xs k None) empty in absurd (cc)) ∙ sym (get-empty prefix_cmp q))
 
   -- the last leaf below a prefix, as the code finds it
-  pub last_at : (leaves : Slab (Node V)) (first before length : ℕ) (p : Network) → ((q : Network) → prefix_in leaves first ≡ Some q → IsLastBelow (prefix_in leaves) (longer_in leaves) q.address length before) → ContainsKey leaves first → ((q : Network) → prefix_in leaves first ≡ Some q → (q.address ≡ p.address) × (q.length < p.length)) → length ≡ p.length → IsLastBelow (prefix_in leaves) (longer_in leaves) p.address p.length before
+  pub last_at : (leaves : Slab (Node V)) (first before length : ℕ) (p : AddressPrefix) → ((q : AddressPrefix) → prefix_in leaves first ≡ Some q → IsLastBelow (prefix_in leaves) (longer_in leaves) q.address length before) → ContainsKey leaves first → ((q : AddressPrefix) → prefix_in leaves first ≡ Some q → (q.address ≡ p.address) × (q.length < p.length)) → length ≡ p.length → IsLastBelow (prefix_in leaves) (longer_in leaves) p.address p.length before
   last_at leaves first before length p last has below is =
       let f = prefix_there leaves first has in
       subst (λ l. IsLastBelow (prefix_in leaves) (longer_in leaves) p.address l before) is (subst (λ a. IsLastBelow (prefix_in leaves) (longer_in leaves) a length before) (below f.0 f.1).0 (last f.0 f.1))

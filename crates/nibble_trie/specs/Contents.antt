@@ -2,20 +2,20 @@
 use Rattle.std.specs.Prelude.{◌≡◌, ℕ, List, Option, Some, None, IsSome, slice_index_or, refl}
 use Rattle.std.specs.Coded.{Coded, code_by, coded×, coded_list, coded_option}
 use Rattle.std.specs.FinMap.{FinMap, code, get}
-use Rattle.addr4.specs.Prefixes.{Network, prefix_cmp, network_code}
+use Rattle.addr4.specs.Prefixes.{AddressPrefix, prefix_cmp, address_prefix_code}
 
 -- its map, and of each key in its nodes the prefix of the leaf that lies there
 pub record Contents (V : Type 0) : Type 0 where
   pub rows : FinMap prefix_cmp V
-  pub leaves : List (Option Network)
+  pub leaves : List (Option AddressPrefix)
 
 abbrev pub contents_code : {V : Type 0} → Coded V → Coded (Contents V)
-contents_code {V} c = code_by (FinMap prefix_cmp V × List (Option Network)) (coded× (code network_code c) (coded_list (coded_option network_code))) (λ t. (t.rows, t.leaves)) (λ p. record { rows = p.0; leaves = p.1 }) (λ _. refl)
+contents_code {V} c = code_by (FinMap prefix_cmp V × List (Option AddressPrefix)) (coded× (code address_prefix_code c) (coded_list (coded_option address_prefix_code))) (λ t. (t.rows, t.leaves)) (λ p. record { rows = p.0; leaves = p.1 }) (λ _. refl)
 
 module _ {V : Type 0} where
-  abbrev pub HasKey : FinMap prefix_cmp V → Network → Type 0
+  abbrev pub HasKey : FinMap prefix_cmp V → AddressPrefix → Type 0
   HasKey rows p = IsSome (get rows p)
 
 -- the leaf at a key is that of a prefix
-abbrev pub LiesAt : List (Option Network) → ℕ → Network → Type 0
+abbrev pub LiesAt : List (Option AddressPrefix) → ℕ → AddressPrefix → Type 0
 LiesAt leaves key p = slice_index_or leaves key None ≡ Some p

@@ -1,7 +1,7 @@
 -- What an index of leaves by their addresses keeps true.
 use Rattle.std.specs.Prelude.{◌≡◌, ◌≢◌, ℕ, ◌+◌, ◌*◌, ◌/◌, ◌%◌, ◌^◌, ◌<◌, ◌≤◌, Option, Some, None, if◌then◌else◌, nat_eq}
 use Rattle.slab.specs.Slab.{get, ContainsKey}
-use Rattle.addr4.specs.Prefixes.{Network}
+use Rattle.addr4.specs.Prefixes.{AddressPrefix}
 use Rattle.nibble_trie.specs.declared.link.Target.{Target}
 use Rattle.nibble_trie.specs.declared.link.Target.TheVariants.{Nothing, Leaf, Inner}
 use Rattle.nibble_trie.specs.declared.branch.Branch.{Branch}
@@ -70,8 +70,8 @@ pub record Indexes (index : Index) (heads : ℕ → Option ℕ) : Type 0 where
   pub holds : IsLaid index heads layout
 
 -- each leaf of the index has its address
-abbrev pub Names : (ℕ → Option Network) → (ℕ → Option ℕ) → Type 0
-Names keys heads = (a k : ℕ) → heads a ≡ Some k → (p : Network) × (keys k ≡ Some p) × (p.address ≡ a)
+abbrev pub Names : (ℕ → Option AddressPrefix) → (ℕ → Option ℕ) → Type 0
+Names keys heads = (a k : ℕ) → heads a ≡ Some k → (p : AddressPrefix) × (keys k ≡ Some p) × (p.address ≡ a)
 
 -- another leaf, or none, at an address
 abbrev pub with_head : (ℕ → Option ℕ) → ℕ → Option ℕ → ℕ → Option ℕ
@@ -111,7 +111,7 @@ pub record HasWay (index : Index) (a : ℕ) (spot : Spot) : Type 0 where
   pub holds : IsLaid index heads layout
   pub way : OnWay index layout a spot
 
-pub record HasNamedWay (keys : ℕ → Option Network) (index : Index) (a : ℕ) (spot : Spot) : Type 0 where
+pub record HasNamedWay (keys : ℕ → Option AddressPrefix) (index : Index) (a : ℕ) (spot : Spot) : Type 0 where
   pub heads : ℕ → Option ℕ
   pub layout : Layout
   pub holds : IsLaid index heads layout

@@ -2,7 +2,7 @@
 use Rattle.std.specs.Prelude.{◌≡◌, ◌⊎◌, ℕ, List, [], ◌∷◌, Option, Some, None}
 use Rattle.std.specs.FinMap.{FinMap, from_entries, insert, remove}
 use Rattle.slab.specs.Slab.{Slab}
-use Rattle.addr4.specs.Prefixes.{Network, prefix_cmp}
+use Rattle.addr4.specs.Prefixes.{AddressPrefix, prefix_cmp}
 use Rattle.nibble_trie.specs.declared.node.Node.{Node}
 use Rattle.nibble_trie.specs.declared.index.Index.{Index}
 use Rattle.nibble_trie.specs.Keys.{prefix_in, longer_in, IsNextOf, IsChained, IsSmall}
@@ -10,7 +10,7 @@ use Rattle.nibble_trie.specs.Index.{Indexes}
 
 module _ {V : Type 0} where
   -- the entries of these leaves
-  abbrev pub listing : List (Option (Node V)) → List (Network × V)
+  abbrev pub listing : List (Option (Node V)) → List (AddressPrefix × V)
   listing [] = []
   listing (None ∷ rest) = listing rest
   listing (Some n ∷ rest) = (n.prefix, n.value) ∷ listing rest
@@ -27,13 +27,13 @@ module _ {V : Type 0} where
     pub small : IsSmall (prefix_in leaves)
 
   -- rows with another value, or none, at a prefix
-  abbrev pub with_value : FinMap prefix_cmp V → Network → Option V → FinMap prefix_cmp V
+  abbrev pub with_value : FinMap prefix_cmp V → AddressPrefix → Option V → FinMap prefix_cmp V
   with_value rows p None = remove rows p
   with_value rows p (Some v) = insert rows p v
 
   -- another value, or none, stands at a prefix, and the first leaf of each address is the same
-  pub record Joins (old new : Slab (Node V)) (p : Network) (value : Option V) : Type 0 where
+  pub record Joins (old new : Slab (Node V)) (p : AddressPrefix) (value : Option V) : Type 0 where
     pub chained : IsChained (prefix_in new) (longer_in new)
     pub heads : (a : ℕ) (head : Option ℕ) → IsNextOf (prefix_in old) a 0 head → IsNextOf (prefix_in new) a 0 head
-    pub keys : (k : ℕ) (q : Network) → prefix_in new k ≡ Some q → (q ≡ p) ⊎ (prefix_in old k ≡ Some q)
+    pub keys : (k : ℕ) (q : AddressPrefix) → prefix_in new k ≡ Some q → (q ≡ p) ⊎ (prefix_in old k ≡ Some q)
     pub rows : rows_of new ≡ with_value (rows_of old) p value

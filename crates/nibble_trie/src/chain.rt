@@ -1,7 +1,7 @@
 //! The leaves of one address, by length.
 
 ghost use Rattle.std.specs.Prelude.{◌≡◌, ◌≤◌, ◌<◌, ℕ, Some};
-ghost use Rattle.addr4.specs.Prefixes.{Network};
+ghost use Rattle.addr4.specs.Prefixes.{AddressPrefix};
 ghost use Rattle.slab.specs.Slab.{ContainsKey};
 ghost use Rattle.nibble_trie.specs.Keys.{prefix_in, longer_in, IsNextOf, IsChained, HasNext, IsLastBelow, IsLeafOf, IsFirstOf, IsOfAddressFrom};
 
@@ -78,8 +78,8 @@ pub(crate) fn find<V>(leaves: &Slab<Node<V>>, link: Option<usize>, length: u8) -
 pub(crate) fn last_below<V>(leaves: &Slab<Node<V>>, key: usize, length: u8) -> usize
     requires chained { IsChained (prefix_in leaves.now) (longer_in leaves.now) }
     requires has { ContainsKey leaves.now key }
-    requires below { (p : Network) → prefix_in leaves.now key ≡ Some p → p.length < length }
-    ensures { (p : Network) → prefix_in leaves.now key ≡ Some p → IsLastBelow (prefix_in leaves.now) (longer_in leaves.now) p.address length result }
+    requires below { (p : AddressPrefix) → prefix_in leaves.now key ≡ Some p → p.length < length }
+    ensures { (p : AddressPrefix) → prefix_in leaves.now key ≡ Some p → IsLastBelow (prefix_in leaves.now) (longer_in leaves.now) p.address length result }
 {
     let node = &leaves[key];
     let next = match node.longer.key() {
@@ -102,7 +102,7 @@ pub(crate) fn place_behind<V>(
 ) -> (usize, Option<usize>)
     requires chained { IsChained (prefix_in leaves.now) (longer_in leaves.now) }
     requires has { ContainsKey leaves.now first }
-    requires below { (p : Network) → prefix_in leaves.now first ≡ Some p → (p.address ≡ prefix.address) × (p.length < prefix.length) }
+    requires below { (p : AddressPrefix) → prefix_in leaves.now first ≡ Some p → (p.address ≡ prefix.address) × (p.length < prefix.length) }
     ensures last { IsLastBelow (prefix_in leaves.now) (longer_in leaves.now) prefix.address prefix.length result.0 }
     ensures leaf { IsLeafOf (prefix_in leaves.now) prefix result.1 }
 {

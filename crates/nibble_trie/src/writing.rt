@@ -3,7 +3,7 @@
 ghost use Rattle.std.specs.Prelude.{◌≡◌, ℕ, ◌+◌, ◌<◌, ◌≤◌, ◌^◌, Option, Some, None, true};
 ghost use Rattle.std.specs.FinMap as map;
 ghost use Rattle.slab.specs.Slab.{get, Slab, ContainsKey, Updates, HasRoomFor};
-ghost use Rattle.addr4.specs.Prefixes.{Network};
+ghost use Rattle.addr4.specs.Prefixes.{AddressPrefix};
 ghost use Rattle.nibble_trie.specs.declared.node.Node.{Node};
 ghost use Rattle.nibble_trie.specs.Links.{leads, IsCell};
 ghost use Rattle.nibble_trie.specs.Keys.{prefix_in, longer_in, IsNextOf, IsChained, IsLastBelow, IsSmall, IsHeadOf};
@@ -125,7 +125,7 @@ fn put_behind<V>(leaves: &mut Slab<Node<V>>, first: usize, prefix: Prefix, value
     requires small { leaves.old.capacity < 2 ^ 31 }
     requires chained { IsChained (prefix_in leaves.old) (longer_in leaves.old) }
     requires has { ContainsKey leaves.old first }
-    requires below { (p : Network) → prefix_in leaves.old first ≡ Some p → (p.address ≡ prefix.address) × (p.length < prefix.length) }
+    requires below { (p : AddressPrefix) → prefix_in leaves.old first ≡ Some p → (p.address ≡ prefix.address) × (p.length < prefix.length) }
     ensures joins { Joins leaves.old leaves.new prefix (Some value) }
     ensures before { result ≡ map.get (rows_of leaves.old) prefix }
 {
@@ -231,7 +231,7 @@ fn unlink<V>(leaves: &mut Slab<Node<V>>, before: usize, key: usize, prefix: Pref
 fn take_behind<V>(leaves: &mut Slab<Node<V>>, first: usize, prefix: Prefix) -> Option<V>
     requires chained { IsChained (prefix_in leaves.old) (longer_in leaves.old) }
     requires has { ContainsKey leaves.old first }
-    requires below { (p : Network) → prefix_in leaves.old first ≡ Some p → (p.address ≡ prefix.address) × (p.length < prefix.length) }
+    requires below { (p : AddressPrefix) → prefix_in leaves.old first ≡ Some p → (p.address ≡ prefix.address) × (p.length < prefix.length) }
     ensures joins { Joins leaves.old leaves.new prefix None }
     ensures before { result ≡ map.get (rows_of leaves.old) prefix }
 {

@@ -11,7 +11,7 @@ use Rattle.std.proofs.lemmas.Map.Views.{Contains-from_any, All-from_any}
 use Rattle.std.specs.FinMap as tables
 use Rattle.std.specs.FinMap.{FinMap, is_sorted, entries_sorted, contains_key-keys}
 use Rattle.std.specs.FinMap.Entries.{below_all}
-use Rattle.addr4.specs.Prefixes.{Network, prefix_cmp, ComesBefore}
+use Rattle.addr4.specs.Prefixes.{AddressPrefix, prefix_cmp, ComesBefore}
 use Rattle.addr4.specs.Places.{IsBeyond}
 use Rattle.addr4.proofs.PrefixOrder.{prefixes_total, exact_prefixes, one_prefix}
 use Rattle.addr4.proofs.RankLemmas.{before_is, further}
@@ -24,14 +24,14 @@ use Rattle.pass_core.proofs.SplitLemmas.{sides, beyond_so, at_itself}
 use Rattle.out_chain.specs.Chains.{beyond_in}
 
 -- ---- a prefix beyond a place counts one
-abbrev one : Option Network → Network → ℕ
+abbrev one : Option AddressPrefix → AddressPrefix → ℕ
 one place q = cond (is_beyond place q) 1 0
 
-one_at_most : (place : Option Network) (q : Network) → one place q ≤ 1
+one_at_most : (place : Option AddressPrefix) (q : AddressPrefix) → one place q ≤ 1
 one_at_most place q = elim (is_beyond place q) as (λ b. cond b 1 0 ≤ 1) [ true ↦ omega arith | false ↦ omega arith ]
 
 -- what lies beyond a prefix beyond the place lies beyond the place
-one_further : (place : Option Network) (p q : Network) → IsBeyond place p → one (Some p) q ≤ one place q
+one_further : (place : Option AddressPrefix) (p q : AddressPrefix) → IsBeyond place p → one (Some p) q ≤ one place q
 one_further place p q h = elim (sides (Some p) q) as (λ _. one (Some p) q ≤ one place q) [
   | inl beyond ↦ rw (beyond_so place q (further place p q h beyond)) (one_at_most (Some p) q)
   | inr not_so ↦ rw not_so (omega arith)
@@ -40,11 +40,11 @@ one_further place p q h = elim (sides (Some p) q) as (λ _. one (Some p) q ≤ o
 -- ---- the rows of a map
 module _ (m : FinMap prefix_cmp Attrs) where
   -- before all prefixes most lie beyond
-  pub most_beyond : (place : Option Network) → beyond_in m place ≤ beyond_in m None
+  pub most_beyond : (place : Option AddressPrefix) → beyond_in m place ≤ beyond_in m None
   most_beyond place = sum_by-le-sum_by (one place) (one None) (tables.keys m) (one_at_most place)
 
   -- a place that moves to a row leaves fewer beyond it
-  pub moved_fewer : (place : Option Network) (p : Network) → IsBeyond place p → is_some (tables.get m p) ≡ true → beyond_in m (Some p) < beyond_in m place
+  pub moved_fewer : (place : Option AddressPrefix) (p : AddressPrefix) → IsBeyond place p → is_some (tables.get m p) ≡ true → beyond_in m (Some p) < beyond_in m place
   moved_fewer place p h is =
       let ps = tables.keys m in
       let w : Contains ps p = Contains-from_any one_prefix p ps (sym (contains_key-keys m p) ∙ is) in
@@ -56,26 +56,26 @@ module _ (m : FinMap prefix_cmp Attrs) where
       omega (arith, rest, now, before, gone, was)
 
   -- none lies beyond a place beyond which there is no row
-  pub none_beyond : (place : Option Network) → ((q : Network) → IsBeyond place q → is_some (tables.get m q) ≡ false) → beyond_in m place ≡ 0
+  pub none_beyond : (place : Option AddressPrefix) → ((q : AddressPrefix) → IsBeyond place q → is_some (tables.get m q) ≡ false) → beyond_in m place ≡ 0
   none_beyond place none =
       let within = sum_by-le (one place) 0 (tables.keys m) (All-from_any (eq_by_cmp_equiv prefixes_total) (λ q. one place q ≤ 0) (tables.keys m) (λ q any. here q (contains_key-keys m q ∙ any))) in
       omega (arith, within)
     where
-      here : (q : Network) → is_some (tables.get m q) ≡ true → one place q ≤ 0
+      here : (q : AddressPrefix) → is_some (tables.get m q) ≡ true → one place q ≤ 0
       here q there = elim (sides place q) as (λ _. one place q ≤ 0) [
         | inl beyond ↦ absurd (let clash : true ≡ false = sym there ∙ none q beyond in cc)
         | inr not_so ↦ rw not_so (omega arith)
       ]
 
   -- where the next row lies, some lie beyond the place; where there is no next row, none does
-  pub next_is_beyond : (place : Option Network) (p : Network) → IsNextCandidate (with_rows (tables.get m)) place (Some p) → 0 < beyond_in m place
+  pub next_is_beyond : (place : Option AddressPrefix) (p : AddressPrefix) → IsNextCandidate (with_rows (tables.get m)) place (Some p) → 0 < beyond_in m place
   next_is_beyond place p next = let less = moved_fewer place p next.0 next.1 in omega (arith, less)
 
-  pub no_next : (place : Option Network) → IsNextCandidate (with_rows (tables.get m)) place None → beyond_in m place ≡ 0
+  pub no_next : (place : Option AddressPrefix) → IsNextCandidate (with_rows (tables.get m)) place None → beyond_in m place ≡ 0
   no_next place next = none_beyond place next
 
   -- where none lies beyond a place, no row stands there
-  pub nothing_beyond : (place : Option Network) (q : Network) → beyond_in m place ≡ 0 → IsBeyond place q → tables.get m q ≡ None
+  pub nothing_beyond : (place : Option AddressPrefix) (q : AddressPrefix) → beyond_in m place ≡ 0 → IsBeyond place q → tables.get m q ≡ None
   nothing_beyond place q none h = by (tables.get m q) refl
     where
       by : (row : Option Attrs) → tables.get m q ≡ row → tables.get m q ≡ None
@@ -83,43 +83,43 @@ module _ (m : FinMap prefix_cmp Attrs) where
       by (Some a) at = absurd (let less = moved_fewer place q h (ap is_some at) in omega (arith, less, none))
 
 -- ---- what holds of a prefix where it holds of all that come before it, holds of each
-module _ (P : Network → Type 0) (step : (k : Network) → ((q : Network) → ComesBefore q k → P q) → P k) where
-  by_length : (n : ℕ) → ((q : Network) → q.address < n → P q) → (m : ℕ) (k : Network) → k.address < suc n → k.length < m → P k
+module _ (P : AddressPrefix → Type 0) (step : (k : AddressPrefix) → ((q : AddressPrefix) → ComesBefore q k → P q) → P k) where
+  by_length : (n : ℕ) → ((q : AddressPrefix) → q.address < n → P q) → (m : ℕ) (k : AddressPrefix) → k.address < suc n → k.length < m → P k
   by_length n lower zero k a l = absurd (omega (arith, l))
   by_length n lower (suc m) k a l = step k (λ q before. elim (before_is q k before) as (λ _. P q) [
     | inl less ↦ lower q (omega (arith, less, a))
     | inr same ↦ by_length n lower m q (let e = same.0 in omega (arith, e, a)) (let less = same.1 in omega (arith, less, l))
   ])
 
-  by_address : (n : ℕ) (k : Network) → k.address < n → P k
+  by_address : (n : ℕ) (k : AddressPrefix) → k.address < n → P k
   by_address zero k a = absurd (omega (arith, a))
   by_address (suc n) k a = by_length n (by_address n) (suc k.length) k a (omega arith)
 
-  pub by_order : (k : Network) → P k
+  pub by_order : (k : AddressPrefix) → P k
   by_order k = by_address (suc k.address) k (omega arith)
 
 -- ---- from a place to any candidate beyond it lies a least one: it can't be that there is none
-abbrev IsThere : Candidates → Option Network → Network → Type 0
-IsThere candidates place k = IsBeyond place k → candidates k ≡ true → ((p : Network) → IsNextCandidate candidates place (Some p) → (ComesBefore k p → ⊥) → ⊥) → ⊥
+abbrev IsThere : Candidates → Option AddressPrefix → AddressPrefix → Type 0
+IsThere candidates place k = IsBeyond place k → candidates k ≡ true → ((p : AddressPrefix) → IsNextCandidate candidates place (Some p) → (ComesBefore k p → ⊥) → ⊥) → ⊥
 
-not_before_itself : (k : Network) → ComesBefore k k → ⊥
+not_before_itself : (k : AddressPrefix) → ComesBefore k k → ⊥
 not_before_itself k h = let e : true ≡ false = sym (beyond_so (Some k) k h) ∙ at_itself k in absurd (cc)
 
-least_there : (candidates : Candidates) (place : Option Network) (k : Network) → IsThere candidates place k
+least_there : (candidates : Candidates) (place : Option AddressPrefix) (k : AddressPrefix) → IsThere candidates place k
 least_there candidates place = by_order (IsThere candidates place) (λ k lower beyond is after.
     after k (beyond, is, λ q further_on before. none k q lower further_on before after) (not_before_itself k))
   where
-    none : (k q : Network) → ((r : Network) → ComesBefore r k → IsThere candidates place r) → IsBeyond place q → ComesBefore q k
-        → ((p : Network) → IsNextCandidate candidates place (Some p) → (ComesBefore k p → ⊥) → ⊥) → candidates q ≡ false
+    none : (k q : AddressPrefix) → ((r : AddressPrefix) → ComesBefore r k → IsThere candidates place r) → IsBeyond place q → ComesBefore q k
+        → ((p : AddressPrefix) → IsNextCandidate candidates place (Some p) → (ComesBefore k p → ⊥) → ⊥) → candidates q ≡ false
     none k q lower beyond before after = elim (candidates q) as (λ b. candidates q ≡ b → candidates q ≡ false) [
       | true ↦ λ e. absurd (lower q before beyond e (λ p next not_later. after p next (λ later. not_later (prefixes_total.trans q k p before later))))
       | false ↦ λ e. e
     ] refl
 
 -- ---- so these numbers fall from a place to any candidate beyond it
-module _ (candidates : Candidates) (beyond : Option Network → ℕ) (counts : CountsBeyond candidates beyond) where
+module _ (candidates : Candidates) (beyond : Option AddressPrefix → ℕ) (counts : CountsBeyond candidates beyond) where
   -- the least one is the candidate, or one from which they fall further
-  next_way : (place : Option Network) (k p : Network) → IsNextCandidate candidates place (Some p) → (ComesBefore k p → ⊥) → (beyond (Some k) < beyond place → ⊥)
+  next_way : (place : Option AddressPrefix) (k p : AddressPrefix) → IsNextCandidate candidates place (Some p) → (ComesBefore k p → ⊥) → (beyond (Some k) < beyond place → ⊥)
       → (ComesBefore p k → beyond (Some p) < beyond place → (beyond (Some k) < beyond (Some p) → ⊥) → ⊥) → ⊥
   next_way place k p next not_later refuse further_on = by (prefix_cmp p k) refl
     where
@@ -131,12 +131,12 @@ module _ (candidates : Candidates) (beyond : Option Network → ℕ) (counts : C
           refuse (omega (arith, less, same))
       by Greater e = not_later (prefixes_total.antisymm k p ∙ ap ordering_reverse e)
 
-  falls_by : (n : ℕ) (place : Option Network) (k : Network) → beyond place ≤ n → IsBeyond place k → candidates k ≡ true → (beyond (Some k) < beyond place → ⊥) → ⊥
+  falls_by : (n : ℕ) (place : Option AddressPrefix) (k : AddressPrefix) → beyond place ≤ n → IsBeyond place k → candidates k ≡ true → (beyond (Some k) < beyond place → ⊥) → ⊥
   falls_by zero place k top h is refuse = least_there candidates place k h is (λ p next _. let less = counts.fewer place p next in omega (arith, less, top))
   falls_by (suc n) place k top h is refuse = least_there candidates place k h is (λ p next not_later.
       next_way place k p next not_later refuse (λ before less. falls_by n (Some p) k (omega (arith, less, top)) before is))
 
-  pub falls : (place : Option Network) (k : Network) → IsBeyond place k → candidates k ≡ true → beyond (Some k) < beyond place
+  pub falls : (place : Option AddressPrefix) (k : AddressPrefix) → IsBeyond place k → candidates k ≡ true → beyond (Some k) < beyond place
   falls place k h is = elim (cases_lt (beyond (Some k)) (beyond place)) [
     | inl less ↦ less
     | inr more ↦ absurd (falls_by (beyond place) place k (omega arith) h is (λ less. omega (arith, less, more)))
@@ -152,23 +152,23 @@ module _ (candidates : Candidates) (beyond : Option Network → ℕ) (counts : C
   less_so Greater h = absurd h
 
   -- all that stand behind a prefix lie beyond it
-  all_behind : (k : Network) (es : List (Network × Attrs)) → T (below_all prefix_cmp k es) → count_by (is_beyond (Some k)) (map (λ (e : Network × Attrs). e.0) es) ≡ length (map (λ (e : Network × Attrs). e.0) es)
+  all_behind : (k : AddressPrefix) (es : List (AddressPrefix × Attrs)) → T (below_all prefix_cmp k es) → count_by (is_beyond (Some k)) (map (λ (e : AddressPrefix × Attrs). e.0) es) ≡ length (map (λ (e : AddressPrefix × Attrs). e.0) es)
   all_behind k [] h = refl
   all_behind k (e ∷ es) h =
       let p = both_so (is_lt (prefix_cmp k e.0)) (below_all prefix_cmp k es) h in
-      let first = sum_by-cons (one (Some k)) e.0 (map (λ (e : Network × Attrs). e.0) es) in
+      let first = sum_by-cons (one (Some k)) e.0 (map (λ (e : AddressPrefix × Attrs). e.0) es) in
       let here : one (Some k) e.0 ≡ 1 = ap (λ b. cond b 1 0) (less_so (prefix_cmp k e.0) p.0) in
       let rest = all_behind k es p.1 in
       omega (arith, first, here, rest)
 
   -- no more prefixes that are candidates lie beyond a place than these numbers say
-  counted : (es : List (Network × Attrs)) (place : Option Network) → T (is_sorted prefix_cmp es) → AllByRecursion (λ e. candidates e.0 ≡ true) es → count_by (is_beyond place) (map (λ (e : Network × Attrs). e.0) es) ≤ beyond place
+  counted : (es : List (AddressPrefix × Attrs)) (place : Option AddressPrefix) → T (is_sorted prefix_cmp es) → AllByRecursion (λ e. candidates e.0 ≡ true) es → count_by (is_beyond place) (map (λ (e : AddressPrefix × Attrs). e.0) es) ≤ beyond place
   counted [] place sorted all = omega arith
   counted (e ∷ es) place sorted all =
       let p = both_so (below_all prefix_cmp e.0 es) (is_sorted prefix_cmp es) sorted in
-      let ks = map (λ (e : Network × Attrs). e.0) es in
+      let ks = map (λ (e : AddressPrefix × Attrs). e.0) es in
       let first = sum_by-cons (one place) e.0 ks in
-      elim (sides place e.0) as (λ _. count_by (is_beyond place) (map (λ (e : Network × Attrs). e.0) (e ∷ es)) ≤ beyond place) [
+      elim (sides place e.0) as (λ _. count_by (is_beyond place) (map (λ (e : AddressPrefix × Attrs). e.0) (e ∷ es)) ≤ beyond place) [
         | inl h ↦
             let less = falls place e.0 h all.0 in
             let rest = counted es (Some e.0) p.1 all.1 in
@@ -183,6 +183,6 @@ module _ (candidates : Candidates) (beyond : Option Network → ℕ) (counts : C
       ]
 
   -- nor more rows, where each stands at a candidate
-  pub rows_counted : (m : FinMap prefix_cmp Attrs) → ((q : Network) → is_some (tables.get m q) ≡ true → candidates q ≡ true) → (place : Option Network) → beyond_in m place ≤ beyond place
+  pub rows_counted : (m : FinMap prefix_cmp Attrs) → ((q : AddressPrefix) → is_some (tables.get m q) ≡ true → candidates q ≡ true) → (place : Option AddressPrefix) → beyond_in m place ≤ beyond place
   rows_counted m covers place =
       counted (tables.entries m) place (entries_sorted m) (all_entries prefixes_total (λ k (v : Attrs). candidates k ≡ true) m (λ k v at. covers k (ap is_some at)))

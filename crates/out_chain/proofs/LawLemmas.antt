@@ -2,7 +2,7 @@
 use Rattle.std.proofs.Common.{◌≡◌, ℕ, Bool, true, false, ◌||◌, ◌&&◌, is_some, cond, List, [], ◌∷◌, length, Option, Some, None, IsSome, refl, sym, ap, subst, ◌∙◌, arith}
 use Rattle.std.specs.Option.{option_map, ForSome}
 use Rattle.std.specs.FinMap as map
-use Rattle.addr4.specs.Prefixes.{Network}
+use Rattle.addr4.specs.Prefixes.{AddressPrefix}
 use Rattle.bgp_attr.specs.declared.attrs.Attrs.{Attrs}
 use Rattle.bgp_attr.specs.declared.route.Route.{Route}
 use Rattle.bgp_attr.specs.declared.speaker.Profile.{Profile}
@@ -32,11 +32,11 @@ exact_unless_held_up c queued best p has none =
     let same : read ≡ best p = unchanged_stays best unread p (first_false (changed_in unread p) (row_lags c.filter p read) none) in
     (same, ap (λ (rows : Rows Attrs). rows p) has ∙ latest_row (made_by c) c.filter p read (λ rules q. refl) (second_false (changed_in unread p) (row_lags c.filter p read) none) ∙ ap (made_by c (present c.filter) p) same)
 
-none_changed : (unread : List (Change Route)) (p : Network) → is_unread unread ≡ false → changed_in unread p ≡ false
+none_changed : (unread : List (Change Route)) (p : AddressPrefix) → is_unread unread ≡ false → changed_in unread p ≡ false
 none_changed [] p none = refl
 none_changed (change ∷ changes) p none = absurd (let clash : true ≡ false = none in cc)
 
-none_waits : {F : Type 0} (s : Passed F) (p : Network) (has_row : Bool) → is_some s.walk ≡ false → (has_row && holds_up s p) ≡ false
+none_waits : {F : Type 0} (s : Passed F) (p : AddressPrefix) (has_row : Bool) → is_some s.walk ≡ false → (has_row && holds_up s p) ≡ false
 none_waits s p true none = none_lags_without_a_walk s p (Some p) none
 none_waits s p false none = refl
 
@@ -62,7 +62,7 @@ heard_more : (profile : Profile) (change : Change Route) (unread : Option (List 
 heard_more profile change None heard after = tt
 heard_more profile change (Some changes) heard after = heard_last profile change changes heard after
 
-put_leads_on : (old new : Option (List (Change Route))) (best now : Rows Route) (p : Network) (change : Change Route) → new ≡ option_map (with_last change) old → IsSent best now p (Some change) → IsSome old
+put_leads_on : (old new : Option (List (Change Route))) (best now : Rows Route) (p : AddressPrefix) (change : Change Route) → new ≡ option_map (with_last change) old → IsSent best now p (Some change) → IsSome old
     → ChangesLead (rows_before (unread_or_none old) best) (unread_or_none old) best → ChangesLead (rows_before (unread_or_none new) now) (unread_or_none new) now
 put_leads_on None new best now p change is sent live leads = absurd (cc)
 put_leads_on (Some changes) new best now p change is sent live leads =
@@ -71,7 +71,7 @@ put_leads_on (Some changes) new best now p change is sent live leads =
     (subst (λ (r : Rows Route). ChangesLead r (with_last change changes) now) (sym (put_keeps_before best now p change changes sent))
     (put_leads (rows_before changes best) best now p change changes sent leads))
 
-heard_with : (profile : Profile) (best : Rows Route) (p : Network) (row : Option Route) → RowsMayBeHeard profile best → ForSome row (λ r. MayBeHeard profile r.attrs) → RowsMayBeHeard profile (with_row best p row)
+heard_with : (profile : Profile) (best : Rows Route) (p : AddressPrefix) (row : Option Route) → RowsMayBeHeard profile best → ForSome row (λ r. MayBeHeard profile r.attrs) → RowsMayBeHeard profile (with_row best p row)
 heard_with profile best p row all heard q = by_prefix q p (λ b. ForSome (cond b row (best q)) (λ (r : Route). MayBeHeard profile r.attrs)) (λ _. heard) (λ _. all q)
 
 pub put_keeps_standing : PutKeepsStanding
@@ -107,7 +107,7 @@ nothing_unread : (unread : List (Change Route)) → length unread ≡ 0 → unre
 nothing_unread [] e = refl
 nothing_unread (change ∷ changes) e = absurd (omega arith)
 
-no_walk : (beyond : Option Network → ℕ) (walk : Option (Walked (Option (List Rule)))) → walk_turns beyond walk ≡ 0 → walk ≡ None
+no_walk : (beyond : Option AddressPrefix → ℕ) (walk : Option (Walked (Option (List Rule)))) → walk_turns beyond walk ≡ 0 → walk ≡ None
 no_walk beyond None e = refl
 no_walk beyond (Some w) e = absurd (omega arith)
 

@@ -2,7 +2,7 @@
 use Rattle.std.proofs.Common.{◌≡◌, ℕ, ◌==◌, ◌&&◌, List, Option, Some, None, IfSome, IsSome, sym, ap, subst, ◌∙◌}
 use Rattle.std.specs.Option.{option_map}
 use Rattle.std.specs.FinMap as tables
-use Rattle.addr4.specs.Prefixes.{Network}
+use Rattle.addr4.specs.Prefixes.{AddressPrefix}
 use Rattle.bgp_attr.specs.declared.attrs.Attrs.{Attrs}
 use Rattle.bgp_attr.specs.declared.route.Route.{Route}
 use Rattle.link_change.specs.Rows.{Rows}
@@ -19,14 +19,14 @@ use Rattle.journal_text.specs.Values.{route_value, attrs_value, route_rows, attr
 use Rattle.out_chain.specs.Chains.{OutChained, made_by, outf_rows, out_links}
 use Rattle.out_chain.proofs.SessionLinks.{has_row}
 
-read_of : (unread : Option (List (Change Route))) (best : Rows Route) (p : Network) (row : Option Route) → IsSome unread → IfSome unread (λ u. row ≡ rows_before u best p)
+read_of : (unread : Option (List (Change Route))) (best : Rows Route) (p : AddressPrefix) (row : Option Route) → IsSome unread → IfSome unread (λ u. row ≡ rows_before u best p)
     → row ≡ rows_before (unread_or_none unread) best p
 read_of None best p row live at = absurd (cc)
 read_of (Some u) best p row live at = at
 
 -- the chain is seen as v, and known as m
 module _ (queued : Queued Route) (best : Rows Route) (m v : OutChained) (same : v ≡ m) (live : IsSome (tables.get queued m.reader)) (link : Link)
-    (own : IsSome (out_links m (read_rows queued m.reader best) link)) (p : Network) where
+    (own : IsSome (out_links m (read_rows queued m.reader best) link)) (p : AddressPrefix) where
   abbrev read : Rows Route
   read = read_rows queued m.reader best
 

@@ -1,7 +1,7 @@
 -- What the filter makes of a route that may be heard may be said to the peer.
 use Rattle.std.proofs.Common.{◌≡◌, ◌≢◌, List, Option, Some, None, refl, sym, ap, subst, ◌∙◌}
 use Rattle.std.specs.Option.{ForSome}
-use Rattle.addr4.specs.Prefixes.{Network}
+use Rattle.addr4.specs.Prefixes.{AddressPrefix}
 use Rattle.bgp_attr.specs.declared.attrs.Attrs.{Attrs}
 use Rattle.bgp_attr.specs.declared.route.Route.{Route}
 use Rattle.bgp_attr.specs.declared.speaker.Neighbour.{Neighbour}
@@ -19,7 +19,7 @@ use Rattle.peer_out.specs.Changes.{MayBeHeard, IsSender, IsSentOf}
 use Rattle.out_chain.specs.Chains.{OutChained, form_of, made_by, RowsMayBeHeard}
 
 -- ---- so it may be said
-sayable : (exit : Exit) (peer : Neighbour) (rules : Option (List Rule)) (p : Network) (row : Option Route) → IsSender exit.profile exit.me → ForSome row (λ r. MayBeHeard exit.profile r.attrs)
+sayable : (exit : Exit) (peer : Neighbour) (rules : Option (List Rule)) (p : AddressPrefix) (row : Option Route) → IsSender exit.profile exit.me → ForSome row (λ r. MayBeHeard exit.profile r.attrs)
     → ForSome (outgoing (form_of exit) peer rules p row) (IsSentOf exit.profile exit.external p)
 sayable exit peer rules p None sender heard a e = absurd (let clash : ◌≡◌ {A = Option Attrs} None (Some a) = e in cc)
 sayable exit peer rules p (Some row) sender heard a e =
@@ -27,7 +27,7 @@ sayable exit peer rules p (Some row) sender heard a e =
     record { me = exit.me; row = of.0; sender = sender; heard = subst (MayBeHeard exit.profile) (sym of.2) (heard row refl); sent = of.1 }
 
 -- ---- of a change that the reader took
-passed_after : {A B : Type 0} (f : Network → Option A → Option B) (change : Change A) (sent : Change B) → change.after ≢ change.before → ComputesOn f change (Some sent)
+passed_after : {A B : Type 0} (f : AddressPrefix → Option A → Option B) (change : Change A) (sent : Change B) → change.after ≢ change.before → ComputesOn f change (Some sent)
     → (sent.prefix ≡ change.prefix) × (sent.after ≡ f change.prefix change.after)
 passed_after {A} {B} f change sent differs computes =
     let p = change.prefix in
@@ -49,7 +49,7 @@ passed_sayable c change sent sender differs heard computes =
     (subst (λ o. ForSome o (IsSentOf c.exit.profile c.exit.external change.prefix)) (sym is.1) said)
 
 -- ---- of a turn of the walk
-walked_at : (c : OutChained) (f : Passed (Option (List Rule))) (upper : Rows Route) (next : Option Network) (sent : Change Attrs)
+walked_at : (c : OutChained) (f : Passed (Option (List Rule))) (upper : Rows Route) (next : Option AddressPrefix) (sent : Change Attrs)
     → IsSentAt next (passed_rows (made_by c) c.filter upper) (passed_rows (made_by c) f upper) (Some sent) → sent.after ≡ made_by c (function_at f sent.prefix) sent.prefix (upper sent.prefix)
 walked_at c f upper None sent is = absurd (let e = is.0 in cc)
 walked_at c f upper (Some p) sent is =

@@ -1,7 +1,7 @@
 -- The links of a session beside others: how they begin, change and end.
 use Rattle.std.proofs.Common.{◌≡◌, ℕ, ◌==◌, ◌&&◌, Bool, true, false, cond, [], ◌∷◌, ◌++◌, Option, Some, None, IsSome, refl, sym, subst}
 use Rattle.std.proofs.lemmas.Bool.{eq-eqb}
-use Rattle.addr4.specs.Prefixes.{Network}
+use Rattle.addr4.specs.Prefixes.{AddressPrefix}
 use Rattle.bgp_attr.specs.declared.attrs.Attrs.{Attrs}
 use Rattle.bgp_attr.specs.declared.route.Route.{Route}
 use Rattle.link_change.specs.Rows.{Rows, no_rows}
@@ -72,7 +72,7 @@ module _ (others : Links Value) (j s : ℕ) where
       ])
 
   -- ---- one change of each link
-  read_leads : (old new : Rows Route) (o a : Rows Value) (p : Network) (sent : Option (Change Route)) → IsSent old new p sent
+  read_leads : (old new : Rows Route) (o a : Rows Value) (p : AddressPrefix) (sent : Option (Change Route)) → IsSent old new p sent
       → Leads (beside_out j others (session_links j s (route_rows old) o a)) (sent_entries route_value (Read j s) sent) (beside_out j others (session_links j s (route_rows new) o a))
   read_leads old new o a p sent is =
       let from = beside_out j others (session_links j s (route_rows old) o a) in
@@ -80,7 +80,7 @@ module _ (others : Links Value) (j s : ℕ) where
       subst P (set_read (route_rows old) (route_rows new) o a)
       (leads_sent route_value (λ x y e. cc) from (Read j s) old new p sent (at_read (route_rows old) o a) is)
 
-  outf_leads : (old new : Rows Attrs) (r a : Rows Value) (p : Network) (sent : Option (Change Attrs)) → IsSent old new p sent
+  outf_leads : (old new : Rows Attrs) (r a : Rows Value) (p : AddressPrefix) (sent : Option (Change Attrs)) → IsSent old new p sent
       → Leads (beside_out j others (session_links j s r (attrs_rows old) a)) (sent_entries attrs_value (Outf j s) sent) (beside_out j others (session_links j s r (attrs_rows new) a))
   outf_leads old new r a p sent is =
       let from = beside_out j others (session_links j s r (attrs_rows old) a) in
@@ -88,7 +88,7 @@ module _ (others : Links Value) (j s : ℕ) where
       subst P (set_outf r (attrs_rows old) (attrs_rows new) a)
       (leads_sent attrs_value (λ x y e. cc) from (Outf j s) old new p sent (at_outf r (attrs_rows old) a) is)
 
-  adv_leads : (old new : Rows Attrs) (r o : Rows Value) (p : Network) (sent : Option (Change Attrs)) → IsSent old new p sent
+  adv_leads : (old new : Rows Attrs) (r o : Rows Value) (p : AddressPrefix) (sent : Option (Change Attrs)) → IsSent old new p sent
       → Leads (beside_out j others (session_links j s r o (attrs_rows old))) (sent_entries attrs_value (Adv j s) sent) (beside_out j others (session_links j s r o (attrs_rows new)))
   adv_leads old new r o p sent is =
       let from = beside_out j others (session_links j s r o (attrs_rows old)) in
@@ -97,7 +97,7 @@ module _ (others : Links Value) (j s : ℕ) where
       (leads_sent attrs_value (λ x y e. cc) from (Adv j s) old new p sent (at_adv r o (attrs_rows old)) is)
 
   -- all three, one below the other
-  pub goes_down : (read read' : Rows Route) (outf outf' adv adv' : Rows Attrs) (p q : Network) (first : Option (Change Route)) (sent : Option (Change Attrs))
+  pub goes_down : (read read' : Rows Route) (outf outf' adv adv' : Rows Attrs) (p q : AddressPrefix) (first : Option (Change Route)) (sent : Option (Change Attrs))
       → IsSent read read' p first → IsSent outf outf' q sent → IsSent adv adv' q sent
       → Leads (beside_out j others (session_links j s (route_rows read) (attrs_rows outf) (attrs_rows adv)))
       (sent_entries route_value (Read j s) first ++ (sent_entries attrs_value (Outf j s) sent ++ sent_entries attrs_value (Adv j s) sent))
@@ -140,7 +140,7 @@ module _ (others : Links Value) (j s : ℕ) where
   -- ---- and ends
 
 -- ---- a link's row
-pub has_row : (b : Bool) (rows : Rows Value) (p : Network) (row : Option Value) → IsSome (cond b (Some rows) None) → row ≡ rows p
+pub has_row : (b : Bool) (rows : Rows Value) (p : AddressPrefix) (row : Option Value) → IsSome (cond b (Some rows) None) → row ≡ rows p
     → (found : Rows Value) × (cond b (Some rows) None ≡ Some found) × (found p ≡ row)
 has_row true rows p row live at = (rows, refl, sym at)
 has_row false rows p row live at = absurd (cc)

@@ -5,7 +5,7 @@ use Rattle.std.specs.Option.{ForSome}
 use Rattle.std.specs.Cmp.{nat_cmp_total}
 use Rattle.std.specs.FinMap as tables
 use Rattle.std.specs.FinMap.{FinMap, get-insert, get-remove}
-use Rattle.addr4.specs.Prefixes.{Network, prefix_cmp}
+use Rattle.addr4.specs.Prefixes.{AddressPrefix, prefix_cmp}
 use Rattle.bgp_attr.specs.declared.attrs.Attrs.{Attrs}
 use Rattle.bgp_attr.specs.declared.route.Route.{Route}
 use Rattle.bgp_attr.specs.declared.speaker.Profile.{Profile}
@@ -53,10 +53,10 @@ use Rattle.out_chain.proofs.RefreshLemmas.{MayBeSent, after_sayable, after_with_
 
 -- ---- what a change, or none, does to rows, whatever its prefix is called
 
-abbrev no_prefix : Network
+abbrev no_prefix : AddressPrefix
 no_prefix = record { address = 0; length = 0 }
 
-abbrev prefix_of : Option (Change Attrs) → Network
+abbrev prefix_of : Option (Change Attrs) → AddressPrefix
 prefix_of None = no_prefix
 prefix_of (Some change) = change.prefix
 
@@ -65,11 +65,11 @@ sent_by old new None is = is
 sent_by old new (Some change) is = is
 
 -- the cache follows
-cache_sends : (m : FinMap prefix_cmp Attrs) (upper now : Rows Attrs) (p : Network) (sent : Option (Change Attrs)) → tables.get m ≡ upper → IsSent upper now p sent → IsSent (tables.get m) (tables.get (sent_after m sent)) p sent
+cache_sends : (m : FinMap prefix_cmp Attrs) (upper now : Rows Attrs) (p : AddressPrefix) (sent : Option (Change Attrs)) → tables.get m ≡ upper → IsSent upper now p sent → IsSent (tables.get m) (tables.get (sent_after m sent)) p sent
 cache_sends m upper now p None has is = refl
 cache_sends m upper now p (Some change) has is = (keeps m (kept_after m change.prefix change.after) change refl upper now p is has).0
 
-cache_has : (m : FinMap prefix_cmp Attrs) (upper now : Rows Attrs) (p : Network) (sent : Option (Change Attrs)) → tables.get m ≡ upper → IsSent upper now p sent → tables.get (sent_after m sent) ≡ now
+cache_has : (m : FinMap prefix_cmp Attrs) (upper now : Rows Attrs) (p : AddressPrefix) (sent : Option (Change Attrs)) → tables.get m ≡ upper → IsSent upper now p sent → tables.get (sent_after m sent) ≡ now
 cache_has m upper now p None has is = has ∙ sym is
 cache_has m upper now p (Some change) has is = (keeps m (kept_after m change.prefix change.after) change refl upper now p is has).1
 
@@ -147,7 +147,7 @@ module _ (queued left : Queued Route) (reader : ℕ) where
       omega (arith, less, now, was)
 
 -- ---- what goes out
-goes : (old : OutChained) (filter : Passed (Option (List Rule))) (read now : Rows Route) (p q : Network) (first : Option (Change Route)) (sent : Option (Change Attrs))
+goes : (old : OutChained) (filter : Passed (Option (List Rule))) (read now : Rows Route) (p q : AddressPrefix) (first : Option (Change Route)) (sent : Option (Change Attrs))
     → IsSent read now p first → IsSent (outf_rows old read) (outf_rows (with_filter old filter) now) q sent → HasSent old read → ForSome sent (IsTold old.exit)
     → GoesOut old (with_sent (with_filter old filter) sent) read now (sent_entries route_value (Read old.peer.number old.session) first) sent (said_of old (sent_entries route_value (Read old.peer.number old.session) first) sent)
 goes old filter read now p q first sent reads filters has told = record {

@@ -6,7 +6,7 @@ use Rattle.std.specs.List.{AllByRecursion, count_by}
 use Rattle.std.specs.Coded.{Coded, code_by, coded×, coded_ℕ, coded_bool, coded_option}
 use Rattle.std.specs.FinMap as map
 use Rattle.std.specs.FinMap.{FinMap}
-use Rattle.addr4.specs.Prefixes.{Network, prefix_cmp, network_code}
+use Rattle.addr4.specs.Prefixes.{AddressPrefix, prefix_cmp, address_prefix_code}
 use Rattle.bgp_attr.specs.declared.attrs.Attrs.{Attrs}
 use Rattle.bgp_attr.specs.declared.route.Route.{Route}
 use Rattle.bgp_attr.specs.declared.speaker.Profile.{Profile}
@@ -39,7 +39,7 @@ pub record OutChained : Type 0 where
   pub reader : ℕ
   pub filter : Passed (Option (List Rule))
   pub sent : FinMap prefix_cmp Attrs
-  pub refresh : Option (Option Network)
+  pub refresh : Option (Option AddressPrefix)
 
 -- ---- how it is stored
 abbrev pub exit_code : Coded Profile → Coded Speaker → Coded Exit
@@ -49,8 +49,8 @@ exit_code p s =
 
 abbrev pub out_chained_code : Coded Exit → Coded Neighbour → Coded (Passed (Option (List Rule))) → Coded Attrs → Coded OutChained
 out_chained_code e n f a =
-    code_by ((Exit × Neighbour) × ((ℕ × ℕ) × (Passed (Option (List Rule)) × (FinMap prefix_cmp Attrs × Option (Option Network)))))
-    (coded× (coded× e n) (coded× (coded× coded_ℕ coded_ℕ) (coded× f (coded× (map.code network_code a) (coded_option (coded_option network_code))))))
+    code_by ((Exit × Neighbour) × ((ℕ × ℕ) × (Passed (Option (List Rule)) × (FinMap prefix_cmp Attrs × Option (Option AddressPrefix)))))
+    (coded× (coded× e n) (coded× (coded× coded_ℕ coded_ℕ) (coded× f (coded× (map.code address_prefix_code a) (coded_option (coded_option address_prefix_code))))))
     (λ c. ((c.exit, c.peer), ((c.session, c.reader), (c.filter, (c.sent, c.refresh)))))
     (λ x. record { exit = x.0.0; peer = x.0.1; session = x.1.0.0; reader = x.1.0.1; filter = x.1.1.0; sent = x.1.1.1.0; refresh = x.1.1.1.1 }) (λ _. refl)
 
@@ -61,7 +61,7 @@ abbrev pub form_of : Exit → Form Attrs
 form_of exit p row = as_sent exit.profile exit.me exit.external p row
 
 -- what the outgoing filter makes of a row at a prefix, by rules, or by none
-abbrev pub made_by : OutChained → Option (List Rule) → Network → Option Route → Option Attrs
+abbrev pub made_by : OutChained → Option (List Rule) → AddressPrefix → Option Route → Option Attrs
 made_by c = outgoing (form_of c.exit) c.peer
 
 -- the rows of `outf.J.S`, where these are the rows that the reader has: at each prefix by the rules that hold there
@@ -102,15 +102,15 @@ out_candidates c read other q = false
 -- ---- the walk of a refresh
 
 -- how many rows lie beyond a place
-abbrev pub beyond_in : FinMap prefix_cmp Attrs → Option Network → ℕ
+abbrev pub beyond_in : FinMap prefix_cmp Attrs → Option AddressPrefix → ℕ
 beyond_in rows place = count_by (is_beyond place) (map.keys rows)
 
 -- a walk at a place is on where a row lies beyond it, and over where none does
-abbrev pub walk_on : FinMap prefix_cmp Attrs → Option Network → Option (Option Network)
+abbrev pub walk_on : FinMap prefix_cmp Attrs → Option AddressPrefix → Option (Option AddressPrefix)
 walk_on rows place = cond (beyond_in rows place == 0) None (Some place)
 
 -- whether the walk that was on goes on, over these rows
-abbrev pub still_on : FinMap prefix_cmp Attrs → Option (Option Network) → Option (Option Network)
+abbrev pub still_on : FinMap prefix_cmp Attrs → Option (Option AddressPrefix) → Option (Option AddressPrefix)
 still_on rows None = None
 still_on rows (Some place) = walk_on rows place
 
@@ -118,7 +118,7 @@ still_on rows (Some place) = walk_on rows place
 abbrev pub refreshed : OutChained → OutChained
 refreshed c = record c { refresh = walk_on c.sent None }
 
-abbrev pub left_on : FinMap prefix_cmp Attrs → Option (Option Network) → ℕ
+abbrev pub left_on : FinMap prefix_cmp Attrs → Option (Option AddressPrefix) → ℕ
 left_on rows None = 0
 left_on rows (Some place) = beyond_in rows place
 
@@ -137,7 +137,7 @@ has_refresh_work c = is_some c.refresh
 pub record IsOutChain (c : OutChained) : Type 0 where
   pub kind : c.exit.external ≡ not c.peer.internal
   pub sender : IsSender c.exit.profile c.exit.me
-  pub sayable : (p : Network) → ForSome (map.get c.sent p) (IsSentOf c.exit.profile c.exit.external p)
+  pub sayable : (p : AddressPrefix) → ForSome (map.get c.sent p) (IsSentOf c.exit.profile c.exit.external p)
   pub refresh : ForSome c.refresh (λ place. 0 < beyond_in c.sent place)
 
 -- What was sent is what the filter makes of the rows that the reader has.
@@ -148,7 +148,7 @@ HasSent c read = map.get c.sent ≡ outf_rows c read
 
 -- The attributes of each row are some that a neighbour's octets may hold,
 abbrev pub RowsMayBeHeard : Profile → Rows Route → Type 0
-RowsMayBeHeard profile rows = (p : Network) → ForSome (rows p) (λ r. MayBeHeard profile r.attrs)
+RowsMayBeHeard profile rows = (p : AddressPrefix) → ForSome (rows p) (λ r. MayBeHeard profile r.attrs)
 
 -- and so are those of the row after each change.
 abbrev pub ChangesMayBeHeard : Profile → List (Change Route) → Type 0
@@ -177,10 +177,10 @@ has_out_work c unread = is_unread unread || is_some c.filter.walk
 
 -- whether the task holds up a prefix, where this tells whether the reader has a row there: a change there isn't taken, or the walk has
 -- yet to come to the row, or other rules wait for its end
-abbrev pub out_lags : OutChained → List (Change Route) → Network → Bool → Bool
+abbrev pub out_lags : OutChained → List (Change Route) → AddressPrefix → Bool → Bool
 out_lags c unread p has_row = changed_in unread p || (has_row && holds_up c.filter p)
 
 -- how many turns are left, where these numbers count the candidates of the best rows: one for each change that the reader hasn't taken,
 -- and those of the walk
-abbrev pub out_turns_left : (Option Network → ℕ) → OutChained → List (Change Route) → ℕ
+abbrev pub out_turns_left : (Option AddressPrefix → ℕ) → OutChained → List (Change Route) → ℕ
 out_turns_left beyond c unread = length unread + walk_turns_left beyond c.filter

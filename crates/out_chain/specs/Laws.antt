@@ -3,7 +3,7 @@ use Rattle.std.specs.Prelude.{◌≡◌, ◌≢◌, ◌↔◌, Bool, false, is_s
 use Rattle.std.specs.Option.{ForSome}
 use Rattle.std.specs.FinMap as map
 use Rattle.std.specs.FinMap.{FinMap}
-use Rattle.addr4.specs.Prefixes.{Network, prefix_cmp}
+use Rattle.addr4.specs.Prefixes.{AddressPrefix, prefix_cmp}
 use Rattle.addr4.specs.Places.{IsBeyond}
 use Rattle.bgp_attr.specs.declared.attrs.Attrs.{Attrs}
 use Rattle.bgp_attr.specs.declared.route.Route.{Route}
@@ -22,26 +22,26 @@ use Rattle.out_chain.specs.Steps.{Resends}
 -- At a prefix that nothing holds up the reader has the best row, and the peer was sent exactly what the latest rules make of it.
 abbrev pub ExactUnlessHeldUp : Type 0
 ExactUnlessHeldUp =
-    (c : OutChained) (queued : Queued Route) (best : Rows Route) (p : Network) → HasSent c (read_rows queued c.reader best)
+    (c : OutChained) (queued : Queued Route) (best : Rows Route) (p : AddressPrefix) → HasSent c (read_rows queued c.reader best)
     → out_lags c (unread_by queued c.reader) p (is_some (read_rows queued c.reader best p)) ≡ false
     → (read_rows queued c.reader best p ≡ best p) × (map.get c.sent p ≡ made_by c (present c.filter) p (best p))
 
 -- Without work nothing holds up a prefix.
 abbrev pub NoneHeldUpWithoutWork : Type 0
 NoneHeldUpWithoutWork =
-    (c : OutChained) (unread : List (Change Route)) (p : Network) (has_row : Bool) → has_out_work c unread ≡ false → out_lags c unread p has_row ≡ false
+    (c : OutChained) (unread : List (Change Route)) (p : AddressPrefix) (has_row : Bool) → has_out_work c unread ≡ false → out_lags c unread p has_row ≡ false
 
 -- Where the reader has taken all, it has the best row. So whether there is a best row tells as much as whether the reader has one.
 abbrev pub BestRowTells : Type 0
 BestRowTells =
-    (c : OutChained) (queued : Queued Route) (best : Rows Route) (p : Network)
+    (c : OutChained) (queued : Queued Route) (best : Rows Route) (p : AddressPrefix)
     → out_lags c (unread_by queued c.reader) p (is_some (best p)) ≡ out_lags c (unread_by queued c.reader) p (is_some (read_rows queued c.reader best p))
 
 -- ---- what others do
 -- A change of the best rows that is put leaves a session standing, where the row after it may be heard.
 abbrev pub PutKeepsStanding : Type 0
 PutKeepsStanding =
-    (c : OutChained) (queued put : Queued Route) (best now : Rows Route) (p : Network) (change : Change Route) → OutStands c queued best
+    (c : OutChained) (queued put : Queued Route) (best now : Rows Route) (p : AddressPrefix) (change : Change Route) → OutStands c queued best
     → AppendsToAll change queued put → IsSent best now p (Some change) → ForSome change.after (λ r. MayBeHeard c.exit.profile r.attrs) → OutStands c put now
 
 -- So does what another reader does.
@@ -54,12 +54,12 @@ OthersKeepStanding =
 -- No turn is left exactly where the reader has taken all and no walk is on.
 abbrev pub NoTurnsWithoutWork : Type 0
 NoTurnsWithoutWork =
-    (beyond : Option Network → ℕ) (c : OutChained) (unread : List (Change Route)) → out_turns_left beyond c unread ≡ 0 → (unread ≡ []) × (c.filter.walk ≡ None)
+    (beyond : Option AddressPrefix → ℕ) (c : OutChained) (unread : List (Change Route)) → out_turns_left beyond c unread ≡ 0 → (unread ≡ []) × (c.filter.walk ≡ None)
 
 -- At most two whole walks are left beside what is unread.
 abbrev pub OutTurnsAreBounded : Type 0
 OutTurnsAreBounded =
-    (candidates : Candidates) (beyond : Option Network → ℕ) (c : OutChained) (unread : List (Change Route)) → CountsBeyond candidates beyond
+    (candidates : Candidates) (beyond : Option AddressPrefix → ℕ) (c : OutChained) (unread : List (Change Route)) → CountsBeyond candidates beyond
     → out_turns_left beyond c unread ≤ length unread + 2 * (beyond None + 1)
 
 -- ---- the walk of a refresh
@@ -81,10 +81,10 @@ NoneLeftWithoutRefresh = (c : OutChained) → IsOutChain c → (has_refresh_work
 
 -- A walk that is over has no row beyond its place.
 abbrev pub OverWithoutRowsBeyond : Type 0
-OverWithoutRowsBeyond = (rows : FinMap prefix_cmp Attrs) (place : Option Network) (q : Network) → walk_on rows place ≡ None → IsBeyond place q → map.get rows q ≡ None
+OverWithoutRowsBeyond = (rows : FinMap prefix_cmp Attrs) (place : Option AddressPrefix) (q : AddressPrefix) → walk_on rows place ≡ None → IsBeyond place q → map.get rows q ≡ None
 
 -- Where the reader has taken all, what was sent stands at candidates of the best rows, so that no more turns are left than these are.
 abbrev pub RefreshIsBounded : Type 0
 RefreshIsBounded =
-    (candidates : Candidates) (beyond : Option Network → ℕ) (c : OutChained) (queued : Queued Route) (best : Rows Route) → CountsBeyond candidates beyond → CoversRows candidates best
+    (candidates : Candidates) (beyond : Option AddressPrefix → ℕ) (c : OutChained) (queued : Queued Route) (best : Rows Route) → CountsBeyond candidates beyond → CoversRows candidates best
     → OutStands c queued best → has_out_work c (unread_by queued c.reader) ≡ false → refresh_left c ≤ beyond None

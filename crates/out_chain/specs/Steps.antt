@@ -3,7 +3,7 @@ use Rattle.std.specs.Prelude.{◌≡◌, ℕ, ◌<◌, Bool, true, false, not, �
 use Rattle.std.specs.Option.{ForSome}
 use Rattle.std.specs.FinMap as tables
 use Rattle.std.specs.FinMap.{FinMap}
-use Rattle.addr4.specs.Prefixes.{Network, prefix_cmp}
+use Rattle.addr4.specs.Prefixes.{AddressPrefix, prefix_cmp}
 use Rattle.bgp_attr.specs.declared.attrs.Attrs.{Attrs}
 use Rattle.bgp_attr.specs.declared.route.Route.{Route}
 use Rattle.bgp_attr.specs.declared.speaker.Profile.{Profile}
@@ -81,7 +81,7 @@ sent_after rows None = rows
 sent_after rows (Some change) = kept_after rows change.prefix change.after
 
 -- where the walk of a refresh then stands: it is over where no row lies beyond its place any more
-abbrev pub refresh_after : FinMap prefix_cmp Attrs → Option (Option Network) → Option (Change Attrs) → Option (Option Network)
+abbrev pub refresh_after : FinMap prefix_cmp Attrs → Option (Option AddressPrefix) → Option (Change Attrs) → Option (Option AddressPrefix)
 refresh_after rows refresh None = refresh
 refresh_after rows refresh (Some change) = still_on (kept_after rows change.prefix change.after) refresh
 
@@ -161,7 +161,7 @@ pub record TurnsOut (old new : OutChained) (queued left : Queued Route) (candida
   pub entries : List (Entry Value)
   pub by : ReadsFirst old new queued left best entries sent ⊎ WalksNext old new queued left candidates best entries sent
   pub goes : GoesOut old new (read_rows queued old.reader best) (read_rows left old.reader best) entries sent said
-  pub fewer : (beyond : Option Network → ℕ) → CountsBeyond candidates beyond → out_turns_left beyond new (unread_by left old.reader) < out_turns_left beyond old (unread_by queued old.reader)
+  pub fewer : (beyond : Option AddressPrefix → ℕ) → CountsBeyond candidates beyond → out_turns_left beyond new (unread_by left old.reader) < out_turns_left beyond old (unread_by queued old.reader)
 
 -- these lines were appended, and this is said of them
 abbrev pub AddsLines : (List Line → Type 0) → Journaled → Journaled → Type 0
@@ -177,15 +177,15 @@ IsOutTurn old new queued left candidates best before now (Sent change) = AddsLin
 -- ---- the walk of a refresh
 
 -- the change that brings a row where none stood: its message announces the prefix with these attributes
-abbrev pub announcing : Network → Attrs → Change Attrs
+abbrev pub announcing : AddressPrefix → Attrs → Change Attrs
 announcing p attrs = record { prefix = p; before = None; after = Some attrs }
 
 -- A turn of the walk: the least row beyond the place of what was sent is announced once more, by the octets that announced it, and the
 -- place moves there; no row changes on any link. The walk is over where no row lies beyond the new place.
 pub record Resends (old new : OutChained) (said : List Line) : Type 0 where
-  pub place : Option Network
+  pub place : Option AddressPrefix
   pub on : old.refresh ≡ Some place
-  pub prefix : Network
+  pub prefix : AddressPrefix
   pub attrs : Attrs
   pub next : IsNextCandidate (rows_of (tables.get old.sent)) place (Some prefix)
   pub row : tables.get old.sent prefix ≡ Some attrs

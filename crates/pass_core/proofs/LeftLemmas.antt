@@ -1,20 +1,20 @@
 -- How many turns a walk still takes.
 use Rattle.std.proofs.Common.{◌≡◌, ℕ, ◌+◌, ◌*◌, ◌<◌, ◌≤◌, true, false, is_some, Option, Some, None, refl, sym, subst, arith}
-use Rattle.addr4.specs.Prefixes.{Network}
+use Rattle.addr4.specs.Prefixes.{AddressPrefix}
 use Rattle.link_change.specs.Rows.{Candidates, IsNextCandidate}
 use Rattle.pass_core.specs.Passed.{Passed, Walked, walk_of_waiting, walk_stepped, after_walk}
 use Rattle.pass_core.specs.Turns.{walked_on}
 use Rattle.pass_core.specs.Left.{CountsBeyond, waiting_turns, walk_turns, turns_left}
 use Rattle.pass_core.specs.Laws.{WalkIsSpent, LeftIsBounded, LeftWhileOn, LeftFollows}
 
-module _ {F : Type 0} (beyond : Option Network → ℕ) where
+module _ {F : Type 0} (beyond : Option AddressPrefix → ℕ) where
   -- the turn that ends a walk
-  ended_turns : (place : Option Network) (waiting : Option F)
+  ended_turns : (place : Option AddressPrefix) (waiting : Option F)
       → walk_turns beyond (walk_of_waiting waiting) < beyond place + 1 + waiting_turns beyond waiting
   ended_turns place None = omega arith
   ended_turns place (Some f) = omega arith
 
-  fewer_turns : (candidates : Candidates) (s new : Passed F) (w : Walked F) (next : Option Network) → CountsBeyond candidates beyond
+  fewer_turns : (candidates : Candidates) (s new : Passed F) (w : Walked F) (next : Option AddressPrefix) → CountsBeyond candidates beyond
       → s.walk ≡ Some w → new ≡ walked_on next s → IsNextCandidate candidates w.place next → turns_left beyond new < turns_left beyond s
   fewer_turns candidates s new w None counts on is least =
       let P : Passed F → Type 0 = λ n. walk_turns beyond n.walk < walk_turns beyond s.walk in
@@ -41,7 +41,7 @@ module _ {F : Type 0} (beyond : Option Network → ℕ) where
   walk_left None = (λ e. absurd (let clash : false ≡ true = e in cc), λ _. refl)
   walk_left (Some w) = (λ _. omega arith, λ e. absurd (let clash : true ≡ false = e in cc))
 
-module _ {F : Type 0} (before now : Option Network → ℕ) (less : (place : Option Network) → now place ≤ before place) where
+module _ {F : Type 0} (before now : Option AddressPrefix → ℕ) (less : (place : Option AddressPrefix) → now place ≤ before place) where
   waiting_follows : (waiting : Option F) → waiting_turns now waiting ≤ waiting_turns before waiting
   waiting_follows None = omega arith
   waiting_follows (Some f) = let all = less None in omega (arith, all)

@@ -3,7 +3,7 @@ use Rattle.std.proofs.Common.{◌≡◌, ◌⊎◌, inl, inr, Bool, true, false,
 use Rattle.std.specs.Ordering.{is_lt, is_eq, ordering_reverse}
 use Rattle.std.specs.declared.cmp.Ordering.{Ordering}
 use Rattle.std.specs.declared.cmp.Ordering.TheVariants.{Less, Equal, Greater}
-use Rattle.addr4.specs.Prefixes.{Network, prefix_cmp, ComesBefore}
+use Rattle.addr4.specs.Prefixes.{AddressPrefix, prefix_cmp, ComesBefore}
 use Rattle.addr4.specs.Places.{IsBeyond}
 use Rattle.addr4.proofs.PrefixOrder.{by_prefix, itself, prefixes_total, exact_prefixes}
 use Rattle.link_change.specs.Rows.{Rows, with_row, Candidates, IsNextCandidate, CoversRows, computed_rows}
@@ -19,16 +19,16 @@ lesser Less = inl refl
 lesser Equal = inr refl
 lesser Greater = inr refl
 
-pub sides : (place : Option Network) (q : Network) → IsBeyond place q ⊎ (is_beyond place q ≡ false)
+pub sides : (place : Option AddressPrefix) (q : AddressPrefix) → IsBeyond place q ⊎ (is_beyond place q ≡ false)
 sides None q = inl tt
 sides (Some p) q = lesser (prefix_cmp p q)
 
-pub beyond_so : (place : Option Network) (q : Network) → IsBeyond place q → is_beyond place q ≡ true
+pub beyond_so : (place : Option AddressPrefix) (q : AddressPrefix) → IsBeyond place q → is_beyond place q ≡ true
 beyond_so None q h = refl
 beyond_so (Some p) q h = ap is_lt h
 
 -- before it, at it or behind it
-three_ways : (q p : Network) → ComesBefore q p ⊎ ((q ≡ p) ⊎ ComesBefore p q)
+three_ways : (q p : AddressPrefix) → ComesBefore q p ⊎ ((q ≡ p) ⊎ ComesBefore p q)
 three_ways q p = by (prefix_cmp q p) refl
   where
     by : (o : Ordering) → prefix_cmp q p ≡ o → ComesBefore q p ⊎ ((q ≡ p) ⊎ ComesBefore p q)
@@ -37,14 +37,14 @@ three_ways q p = by (prefix_cmp q p) refl
     by Greater e = inr (inr (prefixes_total.antisymm p q ∙ ap ordering_reverse e))
 
 -- what lies beyond a prefix beyond the place lies beyond the place
-further : (place : Option Network) (p q : Network) → IsBeyond place p → ComesBefore p q → IsBeyond place q
+further : (place : Option AddressPrefix) (p q : AddressPrefix) → IsBeyond place p → ComesBefore p q → IsBeyond place q
 further None p q h k = tt
 further (Some l) p q h k = prefixes_total.trans l p q h k
 
 not_both : (b : Bool) → b ≡ true → b ≡ false → ⊥
 not_both b h k = let e : true ≡ false = sym h ∙ k in cc
 
-not_beyond_so : (place : Option Network) (q : Network) → (IsBeyond place q → ⊥) → is_beyond place q ≡ false
+not_beyond_so : (place : Option AddressPrefix) (q : AddressPrefix) → (IsBeyond place q → ⊥) → is_beyond place q ≡ false
 not_beyond_so place q h = by (sides place q)
   where
     by : IsBeyond place q ⊎ (is_beyond place q ≡ false) → is_beyond place q ≡ false
@@ -52,30 +52,30 @@ not_beyond_so place q h = by (sides place q)
     by (inr e) = e
 
 -- a prefix isn't beyond itself
-pub at_itself : (p : Network) → is_beyond (Some p) p ≡ false
+pub at_itself : (p : AddressPrefix) → is_beyond (Some p) p ≡ false
 at_itself p = by (sides (Some p) p)
   where
     by : IsBeyond (Some p) p ⊎ (is_beyond (Some p) p ≡ false) → is_beyond (Some p) p ≡ false
     by (inl less) = absurd (let e : false ≡ true = sym (ap is_eq less) ∙ itself p in cc)
     by (inr e) = e
 
-module _ {A B : Type 0} (in_force fresh : Network → Option A → Option B) where
-  pub split_beyond : (place : Option Network) (q : Network) (row : Option A) → is_beyond place q ≡ true → split in_force fresh place q row ≡ in_force q row
+module _ {A B : Type 0} (in_force fresh : AddressPrefix → Option A → Option B) where
+  pub split_beyond : (place : Option AddressPrefix) (q : AddressPrefix) (row : Option A) → is_beyond place q ≡ true → split in_force fresh place q row ≡ in_force q row
   split_beyond place q row e = ap (λ b. cond b (in_force q row) (fresh q row)) e
 
-  pub split_behind : (place : Option Network) (q : Network) (row : Option A) → is_beyond place q ≡ false → split in_force fresh place q row ≡ fresh q row
+  pub split_behind : (place : Option AddressPrefix) (q : AddressPrefix) (row : Option A) → is_beyond place q ≡ false → split in_force fresh place q row ≡ fresh q row
   split_behind place q row e = ap (λ b. cond b (in_force q row) (fresh q row)) e
 
   module _ (old_none : MakesNone in_force) (new_none : MakesNone fresh) (candidates : Candidates) (upper : Rows A) (covers : CoversRows candidates upper) where
-    split_none : (place : Option Network) (q : Network) → split in_force fresh place q None ≡ None
+    split_none : (place : Option AddressPrefix) (q : AddressPrefix) → split in_force fresh place q None ≡ None
     split_none place q = elim (is_beyond place q) as (λ b. cond b (in_force q None) (fresh q None) ≡ None) [ true ↦ old_none q | false ↦ new_none q ]
 
     -- where no candidate is, no row is below, wherever the walk stands
-    bare : (place : Option Network) (q : Network) → candidates q ≡ false → split in_force fresh place q (upper q) ≡ None
+    bare : (place : Option AddressPrefix) (q : AddressPrefix) → candidates q ≡ false → split in_force fresh place q (upper q) ≡ None
     bare place q none = ap (split in_force fresh place q) (covers q none) ∙ split_none place q
 
     -- a step changes the row at the candidate alone
-    step_at : (place : Option Network) (p q : Network) → IsNextCandidate candidates place (Some p) → (q ≡ p → ⊥)
+    step_at : (place : Option AddressPrefix) (p q : AddressPrefix) → IsNextCandidate candidates place (Some p) → (q ≡ p → ⊥)
         → IsBeyond place q ⊎ (is_beyond place q ≡ false) → IsBeyond (Some p) q ⊎ (is_beyond (Some p) q ≡ false)
         → split in_force fresh (Some p) q (upper q) ≡ split in_force fresh place q (upper q)
     step_at place p q least apart (inl beyond) (inl past) =
@@ -92,19 +92,19 @@ module _ {A B : Type 0} (in_force fresh : Network → Option A → Option B) whe
     step_at place p q least apart (inr e) (inr behind) =
         split_behind (Some p) q (upper q) behind ∙ sym (split_behind place q (upper q) e)
 
-    pub steps : (place : Option Network) (p : Network) → IsNextCandidate candidates place (Some p)
+    pub steps : (place : Option AddressPrefix) (p : AddressPrefix) → IsNextCandidate candidates place (Some p)
         → computed_rows (split in_force fresh (Some p)) upper ≡ with_row (computed_rows (split in_force fresh place) upper) p (fresh p (upper p))
     steps place p least = same_function _ _ (λ q.
         by_prefix q p (λ b. split in_force fresh (Some p) q (upper q) ≡ cond b (fresh p (upper p)) (split in_force fresh place q (upper q)))
         (λ same. ap (λ k. split in_force fresh (Some p) k (upper k)) same ∙ split_behind (Some p) p (upper p) (at_itself p))
         (λ apart. step_at place p q least apart (sides place q) (sides (Some p) q)))
 
-    end_at : (place : Option Network) (q : Network) → IsNextCandidate candidates place None → IsBeyond place q ⊎ (is_beyond place q ≡ false)
+    end_at : (place : Option AddressPrefix) (q : AddressPrefix) → IsNextCandidate candidates place None → IsBeyond place q ⊎ (is_beyond place q ≡ false)
         → split in_force fresh place q (upper q) ≡ fresh q (upper q)
     end_at place q least (inl beyond) = let none = least q beyond in bare place q none ∙ sym (ap (fresh q) (covers q none) ∙ new_none q)
     end_at place q least (inr e) = split_behind place q (upper q) e
 
-    pub ends : (place : Option Network) → IsNextCandidate candidates place None → computed_rows (split in_force fresh place) upper ≡ computed_rows fresh upper
+    pub ends : (place : Option AddressPrefix) → IsNextCandidate candidates place None → computed_rows (split in_force fresh place) upper ≡ computed_rows fresh upper
     ends place least = same_function _ _ (λ q. end_at place q least (sides place q))
 
 pub split_begins : {A B : Type 0} → SplitBegins A B

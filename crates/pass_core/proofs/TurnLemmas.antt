@@ -1,6 +1,6 @@
 -- A stage whose rows are made by a function that is changed in the background.
 use Rattle.std.proofs.Common.{◌≡◌, Bool, true, false, ◌&&◌, ◌||◌, cond, Option, Some, None, is_some, IfSome, refl, sym, ap, subst, ◌∙◌}
-use Rattle.addr4.specs.Prefixes.{Network}
+use Rattle.addr4.specs.Prefixes.{AddressPrefix}
 use Rattle.link_change.specs.Rows.{Rows, with_row, Candidates, IsNextCandidate, CoversRows, computed_rows}
 use Rattle.link_change.specs.Changes.{IsSent, IsChangeOf}
 use Rattle.link_change.specs.Turns.{taken_turn}
@@ -14,7 +14,7 @@ use Rattle.pass_core.specs.Turns.{passed, passed_rows, IsSentAt, Walks, IsWalked
 use Rattle.pass_core.specs.Laws.{ExactUnlessHeldUp, NoneLagsWithoutAWalk, EditKeepsRows, PassedIsCovered, ChangeIsPassedOn, StepWalks, EndWalks, WalkLeads}
 use Rattle.pass_core.proofs.SplitLemmas.{split_behind, at_itself, steps, ends}
 
-latest_holds : {F : Type 0} (in_force : F) (walk : Option (Walked F)) (q : Network) → lags_by walk q ≡ false
+latest_holds : {F : Type 0} (in_force : F) (walk : Option (Walked F)) (q : AddressPrefix) → lags_by walk q ≡ false
     → function_of in_force walk q ≡ present_of in_force walk
 latest_holds {F} in_force None q none = refl
 latest_holds {F} in_force (Some w) q none = by_tests (is_beyond w.place q) w.waiting none
@@ -28,29 +28,29 @@ not_there : (b : Bool) → (b && false) ≡ false
 not_there true = refl
 not_there false = refl
 
-none_lags : {F : Type 0} (walk : Option (Walked F)) (q : Network) → is_some walk ≡ false → lags_by walk q ≡ false
+none_lags : {F : Type 0} (walk : Option (Walked F)) (q : AddressPrefix) → is_some walk ≡ false → lags_by walk q ≡ false
 none_lags None q off = refl
 none_lags (Some w) q off = absurd (let clash : true ≡ false = off in cc)
 
-edited_at : {F : Type 0} (in_force : F) (walk : Option (Walked F)) (f : F) (q : Network)
+edited_at : {F : Type 0} (in_force : F) (walk : Option (Walked F)) (f : F) (q : AddressPrefix)
     → function_of in_force (Some (walk_edited walk f)) q ≡ function_of in_force walk q
 edited_at in_force None f q = refl
 edited_at in_force (Some w) f q = refl
 
-begun_anew : {F : Type 0} (next : F) (waiting : Option F) (q : Network) → function_of next (walk_of_waiting waiting) q ≡ next
+begun_anew : {F : Type 0} (next : F) (waiting : Option F) (q : AddressPrefix) → function_of next (walk_of_waiting waiting) q ≡ next
 begun_anew next None q = refl
 begun_anew next (Some f) q = refl
 
-quiet_at : {B : Type 0} (next : Option Network) (old new : Rows B) → IsSentAt next old new None → new ≡ old
+quiet_at : {B : Type 0} (next : Option AddressPrefix) (old new : Rows B) → IsSentAt next old new None → new ≡ old
 quiet_at None old new h = h.1
 quiet_at (Some p) old new h = h
 
-sent_at : {B : Type 0} (next : Option Network) (old new : Rows B) (change : Change B) → IsSentAt next old new (Some change)
+sent_at : {B : Type 0} (next : Option AddressPrefix) (old new : Rows B) (change : Change B) → IsSentAt next old new (Some change)
     → IsSent old new change.prefix (Some change)
 sent_at None old new change h = absurd (let e = h.0 in cc)
 sent_at (Some p) old new change h = (refl, h.1, h.2)
 
-walk_on : {F : Type 0} (s : Passed F) (place : Option Network) → is_some s.walk ≡ true → IfSome s.walk (λ w. place ≡ w.place)
+walk_on : {F : Type 0} (s : Passed F) (place : Option AddressPrefix) → is_some s.walk ≡ true → IfSome s.walk (λ w. place ≡ w.place)
     → (w : Walked F) × (s.walk ≡ Some w) × (place ≡ w.place)
 walk_on {F} s place busy at = by s.walk refl busy at
   where
@@ -77,8 +77,8 @@ module _ {F A B : Type 0} where
   change_is_passed_on apply s change sent is = computes_on (passed apply s) change _ _ sent refl refl is
 
   -- ---- a walk is one of two functions and a place
-  module _ (apply : F → Network → Option A → Option B) where
-    split_by : (b : Bool) (in_force next : F) (q : Network) (row : Option A) → apply (cond b in_force next) q row ≡ cond b (apply in_force q row) (apply next q row)
+  module _ (apply : F → AddressPrefix → Option A → Option B) where
+    split_by : (b : Bool) (in_force next : F) (q : AddressPrefix) (row : Option A) → apply (cond b in_force next) q row ≡ cond b (apply in_force q row) (apply next q row)
     split_by true in_force next q row = refl
     split_by false in_force next q row = refl
 
@@ -88,7 +88,7 @@ module _ {F A B : Type 0} where
         ap (λ (x : Option (Walked F)). apply (function_of s.in_force x q) q (upper q)) on
         ∙ split_by (is_beyond w.place q) s.in_force w.next q (upper q))
 
-    on_step : (s : Passed F) (w : Walked F) (upper : Rows A) (p : Network) → s.walk ≡ Some w
+    on_step : (s : Passed F) (w : Walked F) (upper : Rows A) (p : AddressPrefix) → s.walk ≡ Some w
         → passed_rows apply (stepped s p) upper ≡ computed_rows (split (apply s.in_force) (apply w.next) (Some p)) upper
     on_step s w upper p on = on_walk (stepped s p) (record w { place = Some p }) upper (ap (λ x. walk_stepped x p) on)
 
@@ -98,7 +98,7 @@ module _ {F A B : Type 0} where
         ∙ ap (λ (f : F). apply f q (upper q)) (begun_anew w.next w.waiting q))
 
     module _ (nothing : (f : F) → MakesNone (apply f)) (candidates : Candidates) (upper : Rows A) (covers : CoversRows candidates upper) where
-      stepped_rows : (s : Passed F) (w : Walked F) (p : Network) → s.walk ≡ Some w → IsNextCandidate candidates w.place (Some p)
+      stepped_rows : (s : Passed F) (w : Walked F) (p : AddressPrefix) → s.walk ≡ Some w → IsNextCandidate candidates w.place (Some p)
           → passed_rows apply (stepped s p) upper ≡ with_row (passed_rows apply s upper) p (passed apply (stepped s p) p (upper p))
       stepped_rows s w p on least =
           let made = steps (apply s.in_force) (apply w.next) (nothing s.in_force) (nothing w.next) candidates upper covers w.place p least in
@@ -113,7 +113,7 @@ module _ {F A B : Type 0} where
           ∙ sym (ends (apply s.in_force) (apply w.next) (nothing s.in_force) (nothing w.next) candidates upper covers w.place least)
           ∙ sym (on_walk s w upper on)
 
-      step_walks : (s : Passed F) (w : Walked F) (p : Network) (sent : Option (Change B)) → s.walk ≡ Some w → IsNextCandidate candidates w.place (Some p)
+      step_walks : (s : Passed F) (w : Walked F) (p : AddressPrefix) (sent : Option (Change B)) → s.walk ≡ Some w → IsNextCandidate candidates w.place (Some p)
           → IsChangeOf p (passed apply s p (upper p)) (passed apply (stepped s p) p (upper p)) sent → Walks apply candidates upper s (stepped s p) sent
       step_walks s w p sent on least is = record {
         walk = w;
@@ -139,7 +139,7 @@ module _ {F A B : Type 0} where
       turned s new None h = h
       turned s new (Some change) h = h
 
-      pub goes_on : (s new : Passed F) (place : Option Network) (p : Network) (before after : Option B) (sent : Option (Change B))
+      pub goes_on : (s new : Passed F) (place : Option AddressPrefix) (p : AddressPrefix) (before after : Option B) (sent : Option (Change B))
           → is_some s.walk ≡ true → IfSome s.walk (λ w. place ≡ w.place) → new ≡ stepped s p → IsNextCandidate candidates place (Some p)
           → before ≡ passed apply s p (upper p) → after ≡ passed apply new p (upper p) → IsChangeOf p before after sent
           → IsWalked apply candidates upper s new (taken_turn sent)
@@ -152,7 +152,7 @@ module _ {F A B : Type 0} where
           (subst (λ row. IsChangeOf p before row sent) a_is is) in
           turned s new sent (subst (λ n. Walks apply candidates upper s n sent) (sym new_is) (step_walks s w.0 p sent w.1 beyond changed))
 
-      pub ends_here : (s new : Passed F) (place : Option Network)
+      pub ends_here : (s new : Passed F) (place : Option AddressPrefix)
           → is_some s.walk ≡ true → IfSome s.walk (λ w. place ≡ w.place) → new ≡ finished s → IsNextCandidate candidates place None
           → Walks apply candidates upper s new None
       ends_here s new place busy at new_is least =
@@ -161,12 +161,12 @@ module _ {F A B : Type 0} where
           (end_walks s w.0 w.1 (subst (λ l. IsNextCandidate candidates l None) w.2 least))
 
 -- at the prefix of a step the new function holds
-next_at : {F : Type 0} (in_force : F) (walk : Option (Walked F)) (p : Network) (f : F) → is_some walk ≡ true → IfSome walk (λ w. f ≡ w.next)
+next_at : {F : Type 0} (in_force : F) (walk : Option (Walked F)) (p : AddressPrefix) (f : F) → is_some walk ≡ true → IfSome walk (λ w. f ≡ w.next)
     → f ≡ function_of in_force (walk_stepped walk p) p
 next_at in_force None p f busy is = absurd (let e : false ≡ true = busy in cc)
 next_at in_force (Some w) p f busy is = is ∙ sym (ap (λ b. cond b in_force w.next) (at_itself p))
 
-pub coming_at : {F : Type 0} (s new : Passed F) (p : Network) (f : F) → is_some s.walk ≡ true → IfSome s.walk (λ w. f ≡ w.next) → new ≡ stepped s p
+pub coming_at : {F : Type 0} (s new : Passed F) (p : AddressPrefix) (f : F) → is_some s.walk ≡ true → IfSome s.walk (λ w. f ≡ w.next) → new ≡ stepped s p
     → f ≡ function_at new p
 coming_at s new p f busy is new_is = next_at s.in_force s.walk p f busy is ∙ sym (ap (λ n. function_at n p) new_is)
 

@@ -2,12 +2,12 @@
 use Rattle.std.specs.Prelude.{Bool, true, false, ◌||◌, Option, Some, None, is_some, if◌then◌else◌, refl}
 use Rattle.std.specs.Coded.{Coded, code_by, coded×, coded_option}
 use Rattle.std.specs.Ordering.{is_lt}
-use Rattle.addr4.specs.Prefixes.{Network, prefix_cmp, network_code}
+use Rattle.addr4.specs.Prefixes.{AddressPrefix, prefix_cmp, address_prefix_code}
 
 -- the new function, how far the walk has come, and the function that waits for its end
 pub record Walked (F : Type 0) : Type 0 where
   pub next : F
-  pub place : Option Network
+  pub place : Option AddressPrefix
   pub waiting : Option F
 
 -- the function in force, and the walk that is on
@@ -18,7 +18,7 @@ pub record Passed (F : Type 0) : Type 0 where
 -- ---- how they are stored
 abbrev pub walked_code : {F : Type 0} → Coded F → Coded (Walked F)
 walked_code {F} c =
-    code_by (F × (Option Network × Option F)) (coded× c (coded× (coded_option network_code) (coded_option c)))
+    code_by (F × (Option AddressPrefix × Option F)) (coded× c (coded× (coded_option address_prefix_code) (coded_option c)))
     (λ w. (w.next, (w.place, w.waiting))) (λ p. record { next = p.0; place = p.1.0; waiting = p.1.1 }) (λ _. refl)
 
 abbrev pub passed_code : {F : Type 0} → Coded F → Coded (Passed F)
@@ -28,17 +28,17 @@ passed_code {F} c =
 
 -- ---- what the calls do
 -- whether the prefix lies beyond the place
-abbrev pub is_beyond : Option Network → Network → Bool
+abbrev pub is_beyond : Option AddressPrefix → AddressPrefix → Bool
 is_beyond None q = true
 is_beyond (Some p) q = is_lt (prefix_cmp p q)
 
 module _ {F : Type 0} where
-  abbrev pub function_of : F → Option (Walked F) → Network → F
+  abbrev pub function_of : F → Option (Walked F) → AddressPrefix → F
   function_of in_force None q = in_force
   function_of in_force (Some w) q = if is_beyond w.place q then in_force else w.next
 
   -- the function that holds at a prefix: beyond the place of a walk the one in force, up to it the new one
-  abbrev pub function_at : Passed F → Network → F
+  abbrev pub function_at : Passed F → AddressPrefix → F
   function_at s = function_of s.in_force s.walk
 
   abbrev pub latest_of : F → Option F → F
@@ -61,13 +61,13 @@ module _ {F : Type 0} where
   abbrev pub waits : Passed F → Bool
   waits s = is_followed s.walk
 
-  abbrev pub lags_by : Option (Walked F) → Network → Bool
+  abbrev pub lags_by : Option (Walked F) → AddressPrefix → Bool
   lags_by None q = false
   lags_by (Some w) q = is_beyond w.place q || is_some w.waiting
 
   -- whether another function than the latest one may hold at a prefix: a walk is on, and the prefix lies beyond its place, or a
   -- function waits
-  abbrev pub holds_up : Passed F → Network → Bool
+  abbrev pub holds_up : Passed F → AddressPrefix → Bool
   holds_up s q = lags_by s.walk q
 
   -- a walk that stands before all prefixes, for which nothing waits
@@ -82,12 +82,12 @@ module _ {F : Type 0} where
   abbrev pub edited : Passed F → F → Passed F
   edited s f = record s { walk = Some (walk_edited s.walk f) }
 
-  abbrev pub walk_stepped : Option (Walked F) → Network → Option (Walked F)
+  abbrev pub walk_stepped : Option (Walked F) → AddressPrefix → Option (Walked F)
   walk_stepped None p = None
   walk_stepped (Some w) p = Some (record w { place = Some p })
 
   -- the walk stands at the prefix
-  abbrev pub stepped : Passed F → Network → Passed F
+  abbrev pub stepped : Passed F → AddressPrefix → Passed F
   stepped s p = record s { walk = walk_stepped s.walk p }
 
   abbrev pub walk_of_waiting : Option F → Option (Walked F)

@@ -3,7 +3,7 @@ use Rattle.std.proofs.Common.{◌≡◌, ℕ, ◌+◌, ◌<◌, ◌≤◌, Bool,
 use Rattle.std.specs.Prelude.{All, MatchOption, IsSome}
 use Rattle.std.specs.Option.{ForSome}
 use Rattle.std.proofs.lemmas.Bool.Decides.{nat_tests}
-use Rattle.addr4.specs.Prefixes.{Network}
+use Rattle.addr4.specs.Prefixes.{AddressPrefix}
 use Rattle.bgp_attr.specs.declared.attrs.Attrs.{Attrs}
 use Rattle.bgp_attr.specs.declared.attrs.Origin.{Origin}
 use Rattle.bgp_attr.specs.declared.route.Route.{Route}
@@ -14,7 +14,7 @@ use Rattle.bgp_wire.specs.declared.message.Update.{Update}
 use Rattle.bgp_wire.specs.declared.message.Message.TheVariants as messages
 use Rattle.bgp_wire.specs.Grammar.{Reads}
 use Rattle.bgp_wire.specs.Lengths.{announcement_length}
-use Rattle.bgp_wire.specs.Readable.{IsReadable, IsHost, IsNetwork, AreOctets, announcement}
+use Rattle.bgp_wire.specs.Readable.{IsReadable, IsHost, IsAddressPrefix, AreOctets, announcement}
 use Rattle.bgp_wire.specs.Spelling.{FitsAttrs, update_octets}
 use Rattle.bgp_wire.proofs.MessageLaws.{one_message}
 use Rattle.bgp_wire.proofs.ReadableMessages.{read_is_readable}
@@ -67,7 +67,7 @@ sent_by : (b : Bool) (n : ℕ) (form a : Attrs) → nat_le n 4096 ≡ b → cond
 sent_by true n form a test e = (cc, grind (arith, nat_tests))
 sent_by false n form a test e = absurd (cc)
 
-pub sent_is_readable : (profile : Profile) (external : Bool) (p : Network) (a : Attrs) → IsSentOf profile external p a → HasNumbers a → CanBeRead profile external p a
+pub sent_is_readable : (profile : Profile) (external : Bool) (p : AddressPrefix) (a : Attrs) → IsSentOf profile external p a → HasNumbers a → CanBeRead profile external p a
 sent_is_readable profile external p a is numbers =
     let form = sent_form profile is.me external is.row in
     let by = sent_by (nat_le (announcement_length profile.as4 p form) 4096) (announcement_length profile.as4 p form) form a refl is.sent in
@@ -75,12 +75,12 @@ sent_is_readable profile external p a is numbers =
     subst C by.0 (record { readable = form_readable profile external is.me is.row is.sender is.heard (subst HasNumbers (sym by.0) numbers); short = by.1 })
 
 -- the octets of a change, by the row after it
-change_by : (profile : Profile) (external : Bool) (p : Network) (after : Option Attrs) → IsNetwork p → ForSome after (CanBeRead profile external p) → (before : Option Attrs)
+change_by : (profile : Profile) (external : Bool) (p : AddressPrefix) (after : Option Attrs) → IsAddressPrefix p → ForSome after (CanBeRead profile external p) → (before : Option Attrs)
     → Reads profile external (message_octets profile.as4 (record { prefix = p; before = before; after = after })) (messages.Update (saying p after))
 change_by profile external p None network can before = withdrawal_is_read profile external p network
 change_by profile external p (Some a) network can before = let c = can a refl in announcement_is_read profile external p a network c.readable c.short
 
-pub reads_change : (profile : Profile) (external : Bool) (change : Change Attrs) → IsNetwork change.prefix → ForSome change.after (CanBeRead profile external change.prefix)
+pub reads_change : (profile : Profile) (external : Bool) (change : Change Attrs) → IsAddressPrefix change.prefix → ForSome change.after (CanBeRead profile external change.prefix)
     → IsReadAs profile external (message_octets profile.as4 change) (saying change.prefix change.after)
 reads_change profile external change network can =
     let reads = change_by profile external change.prefix change.after network can change.before in
@@ -88,7 +88,7 @@ reads_change profile external change network can =
     record { reads = reads; only = λ m also. one_message profile external octets m (messages.Update (saying change.prefix change.after)) also reads }
 
 -- octets of a change, as the peer reads them
-pub said : (profile : Profile) (external : Bool) (change : Change Attrs) (octets : List ℕ) → IsNetwork change.prefix → ForSome change.after (CanBeRead profile external change.prefix) → octets ≡ message_octets profile.as4 change
+pub said : (profile : Profile) (external : Bool) (change : Change Attrs) (octets : List ℕ) → IsAddressPrefix change.prefix → ForSome change.after (CanBeRead profile external change.prefix) → octets ≡ message_octets profile.as4 change
     → IsReadAs profile external octets (saying change.prefix change.after)
 said profile external change octets network can is =
     subst (λ (bytes : List ℕ). IsReadAs profile external bytes (saying change.prefix change.after)) (sym is) (reads_change profile external change network can)
@@ -98,18 +98,18 @@ pub no_longer : (profile : Profile) (external : Bool) (octets : List ℕ) (u : U
 no_longer profile external octets u is = is.reads.1.frame.top
 
 -- attributes that are sent can be read, by their numbers, as the code knows them
-pub can_be_read : (profile : Profile) (external : Bool) (p : Network) (a b : Attrs) → b ≡ a → HasNumbers b → IsSentOf profile external p a → CanBeRead profile external p b
+pub can_be_read : (profile : Profile) (external : Bool) (p : AddressPrefix) (a b : Attrs) → b ≡ a → HasNumbers b → IsSentOf profile external p a → CanBeRead profile external p b
 can_be_read profile external p a b is numbers sent = sent_is_readable profile external p b (subst (IsSentOf profile external p) (sym is) sent) numbers
 
 -- their octets are read as the announcement
-pub announcement_said : (profile : Profile) (external : Bool) (p : Network) (a b : Attrs) (octets : List ℕ) → b ≡ a → IsNetwork p → CanBeRead profile external p b → octets ≡ update_octets profile.as4 (announcement p b)
+pub announcement_said : (profile : Profile) (external : Bool) (p : AddressPrefix) (a b : Attrs) (octets : List ℕ) → b ≡ a → IsAddressPrefix p → CanBeRead profile external p b → octets ≡ update_octets profile.as4 (announcement p b)
     → IsReadAs profile external octets (announcement p a)
 announcement_said profile external p a b octets is network can written =
     subst (λ (x : Attrs). IsReadAs profile external octets (announcement p x)) is
     (said profile external (record { prefix = p; before = None; after = Some b }) octets network (λ x e. let same : b ≡ x = cc in subst (CanBeRead profile external p) same can) written)
 
 -- without one there is nothing to be read
-pub none_can : (profile : Profile) (external : Bool) (p : Network) (after : Option Attrs) → after ≡ None → ForSome after (CanBeRead profile external p)
+pub none_can : (profile : Profile) (external : Bool) (p : AddressPrefix) (after : Option Attrs) → after ≡ None → ForSome after (CanBeRead profile external p)
 none_can profile external p after at b is = absurd (cc)
 
 -- an announcement that fits is written
@@ -117,7 +117,7 @@ pub is_there : {A : Type 0} (o : Option A) (n : ℕ) (P : A → Type 0) → Matc
 is_there None n P long short = absurd (omega arith)
 is_there (Some x) n P fits short = refl
 
-pub sent_fits : (profile : Profile) (external : Bool) (p : Network) (a : Attrs) → CanBeRead profile external p a → FitsAttrs profile.as4 a
+pub sent_fits : (profile : Profile) (external : Bool) (p : AddressPrefix) (a : Attrs) → CanBeRead profile external p a → FitsAttrs profile.as4 a
 sent_fits profile external p a can = readable_fits profile external a can.readable
 
 pub read_may_be_heard : (profile : Profile) (external : Bool) (bytes : List ℕ) (u : Update) (a : Attrs) → AreOctets bytes → Reads profile external bytes (messages.Update u) → u.attrs ≡ Some a → MayBeHeard profile a

@@ -1,7 +1,7 @@
 -- The message that says a change of what a peer was sent.
 use Rattle.std.specs.Prelude.{◌≡◌, ℕ, ◌<◌, ◌≤◌, ◌^◌, List, All, Bool, false, Option, Some, None}
 use Rattle.std.specs.Option.{ForSome}
-use Rattle.addr4.specs.Prefixes.{Network}
+use Rattle.addr4.specs.Prefixes.{AddressPrefix}
 use Rattle.bgp_attr.specs.declared.attrs.Attrs.{Attrs}
 use Rattle.bgp_attr.specs.declared.route.Route.{Route}
 use Rattle.bgp_attr.specs.declared.speaker.Profile.{Profile}
@@ -18,7 +18,7 @@ use Rattle.link_change.specs.declared.change.Change.{Change}
 use Rattle.peer_out.specs.Forms.{as_sent}
 
 -- one prefix is announced with what is sent from now on, or withdrawn
-abbrev pub saying : Network → Option Attrs → Update
+abbrev pub saying : AddressPrefix → Option Attrs → Update
 saying p None = withdrawal p
 saying p (Some a) = announcement p a
 
@@ -40,7 +40,7 @@ pub record IsSender (profile : Profile) (me : Speaker) : Type 0 where
   pub addr : IsHost me.addr
 
 -- the attributes are what is sent at the prefix of some route whose attributes may be heard
-pub record IsSentOf (profile : Profile) (external : Bool) (p : Network) (a : Attrs) : Type 0 where
+pub record IsSentOf (profile : Profile) (external : Bool) (p : AddressPrefix) (a : Attrs) : Type 0 where
   pub me : Speaker
   pub row : Route
   pub sender : IsSender profile me
@@ -55,6 +55,6 @@ pub record HasNumbers (a : Attrs) : Type 0 where
   pub clusters : All (λ n. n < 2 ^ 32) a.reflection.clusters
 
 -- a peer reads the attributes as they are, and the announcement fits into a message
-pub record CanBeRead (profile : Profile) (external : Bool) (p : Network) (a : Attrs) : Type 0 where
+pub record CanBeRead (profile : Profile) (external : Bool) (p : AddressPrefix) (a : Attrs) : Type 0 where
   pub readable : IsReadable profile external a
   pub short : announcement_length profile.as4 p a ≤ 4096

@@ -1,6 +1,6 @@
 -- The form in which a route is sent to a peer (RFC 4271, sections 5.1 and 9.1.3; RFC 4456, section 8).
 use Rattle.std.specs.Prelude.{◌+◌, nat_le, Bool, if◌then◌else◌, Option, Some, None}
-use Rattle.addr4.specs.Prefixes.{Network}
+use Rattle.addr4.specs.Prefixes.{AddressPrefix}
 use Rattle.bgp_attr.specs.declared.attrs.Attrs.{Attrs}
 use Rattle.bgp_attr.specs.declared.route.Route.{Route}
 use Rattle.bgp_attr.specs.declared.speaker.Profile.{Profile}
@@ -37,7 +37,7 @@ sent_form profile me external row = record {
 }
 
 -- What is sent at a prefix: nothing where the announcement would have more than the 4,096 octets of a message (section 4.1).
-abbrev pub as_sent : Profile → Speaker → Bool → Network → Route → Option Attrs
+abbrev pub as_sent : Profile → Speaker → Bool → AddressPrefix → Route → Option Attrs
 as_sent profile me external p row =
     if nat_le (announcement_length profile.as4 p (sent_form profile me external row)) 4096 then Some (sent_form profile me external row) else None
 

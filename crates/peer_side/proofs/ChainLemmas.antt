@@ -1,7 +1,7 @@
 -- What a fall, a turn and a weld leave of a chain.
 use Rattle.std.proofs.Common.{◌≡◌, ℕ, ◌<◌, ◌≤◌, List, length, Option, Some, None, refl, sym, ap, subst, ◌∙◌, arith}
 use Rattle.std.specs.List.{AllByRecursion}
-use Rattle.addr4.specs.Prefixes.{Network}
+use Rattle.addr4.specs.Prefixes.{AddressPrefix}
 use Rattle.bgp_attr.specs.declared.attrs.Attrs.{Attrs}
 use Rattle.bgp_attr.specs.declared.route.Route.{Route}
 use Rattle.link_change.specs.Changes.{IsSent}
@@ -33,14 +33,14 @@ turn_leads other c less sent entries t = absurd t
 
 -- ---- the lost sessions of a chain
 
-thinned_before : (s : ℕ) (p : Network) (row : Option Attrs) (ds : List (Lost Attrs)) → AllByRecursion (λ d. d.number < s) ds → AllByRecursion (λ d. d.number < s) (deletions_after ds p row)
+thinned_before : (s : ℕ) (p : AddressPrefix) (row : Option Attrs) (ds : List (Lost Attrs)) → AllByRecursion (λ d. d.number < s) ds → AllByRecursion (λ d. d.number < s) (deletions_after ds p row)
 thinned_before s p None ds all = all
 thinned_before s p (Some attrs) ds all = all_mapped (λ (d : Lost Attrs). d.number < s) (without p) (λ d lt. lt) ds all
 
-pub fed_before : (s : ℕ) (p : Network) (row : Option Attrs) (c : Chained) → AreBefore s c → AreBefore s (fed c p row)
+pub fed_before : (s : ℕ) (p : AddressPrefix) (row : Option Attrs) (c : Chained) → AreBefore s c → AreBefore s (fed c p row)
 fed_before s p row c all = thinned_before s p row c.incoming.tables.deletions all
 
-swept_before : (s n : ℕ) (p : Network) (c : Chained) → AreBefore s c → AreBefore s (swept n p c)
+swept_before : (s n : ℕ) (p : AddressPrefix) (c : Chained) → AreBefore s c → AreBefore s (swept n p c)
 swept_before s n p c all = all_mapped (λ (d : Lost Attrs). d.number < s) (swept_one n p) (λ d lt. subst (λ (m : ℕ). m < s) (sym (swept_number n p d)) lt) c.incoming.tables.deletions all
 
 pub weld_before : (s : ℕ) (c : Chained) → AreBefore s c → AreBefore s (welded c)
@@ -49,11 +49,11 @@ weld_before s c all = all_filtered (λ (d : Lost Attrs). d.number < s) is_full c
 pub weld_few : (c : Chained) → length (welded c).incoming.tables.deletions ≤ length c.incoming.tables.deletions
 weld_few c = few_filter is_full c.incoming.tables.deletions
 
-thinned_few : (p : Network) (row : Option Attrs) (ds : List (Lost Attrs)) → length (deletions_after ds p row) ≤ length ds
+thinned_few : (p : AddressPrefix) (row : Option Attrs) (ds : List (Lost Attrs)) → length (deletions_after ds p row) ≤ length ds
 thinned_few p None ds = omega arith
 thinned_few p (Some attrs) ds = let e = few_map (without p) ds in omega (arith, e)
 
-pub fed_few : (p : Network) (row : Option Attrs) (c : Chained) → length (fed c p row).incoming.tables.deletions ≤ length c.incoming.tables.deletions
+pub fed_few : (p : AddressPrefix) (row : Option Attrs) (c : Chained) → length (fed c p row).incoming.tables.deletions ≤ length c.incoming.tables.deletions
 fed_few p row c = thinned_few p row c.incoming.tables.deletions
 
 -- ---- the rules of the latest edit stay
@@ -66,11 +66,11 @@ module _ {F : Type 0} where
   finish_keeps in_force None = refl
   finish_keeps in_force (Some w) = waiting_is_present w.next w.waiting
 
-  step_keeps : (in_force : F) (walk : Option (Walked F)) (p : Network) → present (stepped (record { in_force = in_force; walk = walk }) p) ≡ present_of in_force walk
+  step_keeps : (in_force : F) (walk : Option (Walked F)) (p : AddressPrefix) → present (stepped (record { in_force = in_force; walk = walk }) p) ≡ present_of in_force walk
   step_keeps in_force None p = refl
   step_keeps in_force (Some w) p = refl
 
-walked_keeps : (next : Option Network) (s : Passed (List Rule)) → present (walked_on next s) ≡ present s
+walked_keeps : (next : Option AddressPrefix) (s : Passed (List Rule)) → present (walked_on next s) ≡ present s
 walked_keeps None s = finish_keeps s.in_force s.walk
 walked_keeps (Some p) s = step_keeps s.in_force s.walk p
 
@@ -116,12 +116,12 @@ turn_nears (Fin n) a k c less sent entries at chain t =
 turn_nears other a k c less sent entries at chain t = absurd t
 
 -- ---- what comes out on `filt.K`
-walk_sent : (next : Option Network) (old new : Network → Option Route) (sent : Option (Change Route)) → IsSentAt next old new sent → (p : Network) × IsSent old new p sent
+walk_sent : (next : Option AddressPrefix) (old new : AddressPrefix → Option Route) (sent : Option (Change Route)) → IsSentAt next old new sent → (p : AddressPrefix) × IsSent old new p sent
 walk_sent None old new sent is = (record { address = 0; length = 0 }, subst (λ (s : Option (Change Route)). IsSent old new (record { address = 0; length = 0 }) s) (sym is.0) is.1)
 walk_sent (Some p) old new sent is = (p, is)
 
-pub turn_sent : (task : Task) (c less : Chained) (sent : Option (Change Route)) (entries : List (Entry Value)) → Turned c less task sent entries → (p : Network) × IsSent (filt_rows c) (filt_rows less) p sent
+pub turn_sent : (task : Task) (c less : Chained) (sent : Option (Change Route)) (entries : List (Entry Value)) → Turned c less task sent entries → (p : AddressPrefix) × IsSent (filt_rows c) (filt_rows less) p sent
 turn_sent (Del k s) c less sent entries t = (t.1.prefix, t.1.rows)
 turn_sent (Fin k) c less sent entries t =
-    subst (λ (x : Chained). (p : Network) × IsSent (filt_rows c) (filt_rows x) p sent) (sym t.1.after) (walk_sent t.1.walks.next (filt_rows c) (filt_rows (record c { filter = less.filter })) sent t.1.walks.changes)
+    subst (λ (x : Chained). (p : AddressPrefix) × IsSent (filt_rows c) (filt_rows x) p sent) (sym t.1.after) (walk_sent t.1.walks.next (filt_rows c) (filt_rows (record c { filter = less.filter })) sent t.1.walks.changes)
 turn_sent other c less sent entries t = absurd t

@@ -4,7 +4,7 @@ use Rattle.std.specs.FinMap as tables
 use Rattle.std.specs.FinMap.{FinMap}
 use Rattle.std.proofs.lemmas.List.Sums.{sum_by-cons, sum_by-le-sum_by}
 use Rattle.std.specs.List.{sum_by}
-use Rattle.addr4.specs.Prefixes.{Network, prefix_cmp}
+use Rattle.addr4.specs.Prefixes.{AddressPrefix, prefix_cmp}
 use Rattle.bgp_attr.specs.declared.attrs.Attrs.{Attrs}
 use Rattle.link_change.proofs.MapLemmas.{values_length}
 use Rattle.policy_rules.specs.declared.rule.Rule.{Rule}
@@ -18,7 +18,7 @@ use Rattle.in_chain.specs.Steps.{swept, welded}
 use Rattle.in_chain.specs.Laws.{TurnsAreBounded}
 use Rattle.peer_side.specs.Peers.{Chains, lost_of, lost_in, left_in, rows_in}
 
-pub swept_rows : (s : ℕ) (c : Chained) (p : Network) (a : Attrs) (t : FinMap prefix_cmp Attrs) → IsChain c → table_of s c.incoming.tables.deletions ≡ Some t → tables.get t p ≡ Some a → lost_of (swept s p c) + 1 ≡ lost_of c
+pub swept_rows : (s : ℕ) (c : Chained) (p : AddressPrefix) (a : Attrs) (t : FinMap prefix_cmp Attrs) → IsChain c → table_of s c.incoming.tables.deletions ≡ Some t → tables.get t p ≡ Some a → lost_of (swept s p c) + 1 ≡ lost_of c
 swept_rows s c p a t chain stands at = swept_rows_of s p t a c.incoming.tables.deletions chain.rising stands at
 
 pub weld_rows : (c : Chained) → lost_of (welded c) ≡ lost_of c
@@ -29,14 +29,14 @@ waiting_more a b None most = omega arith
 waiting_more a b (Some rules) most = omega (arith, most)
 
 -- no more turns of the filter's walk, where no more rows lie beyond its place
-fewer_turns : (t u : Tables Attrs) (walk : Option (Walked (List Rule))) → tables_count t ≤ tables_count u → ((place : Option Network) → tables_beyond place t ≤ tables_beyond place u) → walk_turns t walk ≤ walk_turns u walk
+fewer_turns : (t u : Tables Attrs) (walk : Option (Walked (List Rule))) → tables_count t ≤ tables_count u → ((place : Option AddressPrefix) → tables_beyond place t ≤ tables_beyond place u) → walk_turns t walk ≤ walk_turns u walk
 fewer_turns t u None less beyond = omega arith
 fewer_turns t u (Some w) less beyond =
     let a = beyond w.place in
     let b = waiting_more (tables_count t) (tables_count u) w.waiting less in
     omega (arith, a, b)
 
-pub swept_turns : (s : ℕ) (c : Chained) (p : Network) → lost_of (swept s p c) ≤ lost_of c → turns_left (swept s p c) ≤ turns_left c
+pub swept_turns : (s : ℕ) (c : Chained) (p : AddressPrefix) → lost_of (swept s p c) ≤ lost_of c → turns_left (swept s p c) ≤ turns_left c
 swept_turns s c p less = fewer_turns (swept s p c).incoming.tables c.incoming.tables c.filter.walk (omega (arith, less)) (λ place. swept_beyond place s p c.incoming.tables)
 
 pub weld_turns : (c : Chained) → turns_left (welded c) ≤ turns_left c

@@ -8,7 +8,7 @@ use Rattle.std.specs.Ordering.{nat_cmp}
 use Rattle.std.specs.Map.{keys_of}
 use Rattle.std.specs.FinMap as tables
 use Rattle.std.specs.Cmp.{nat_cmp_total}
-use Rattle.addr4.specs.Prefixes.{Network}
+use Rattle.addr4.specs.Prefixes.{AddressPrefix}
 use Rattle.bgp_attr.specs.declared.attrs.Attrs.{Attrs}
 use Rattle.link_change.proofs.MapLemmas.{all_entries, all_values, entries_in, read_in}
 use Rattle.journal_text.specs.declared.link.Task.{Task}
@@ -31,35 +31,35 @@ find_alike V W [] all = refl
 find_alike V W (x ∷ xs) all = ap (λ (b : Bool). cond b (Some x) (find V xs)) all.0 ∙ ap (λ (o : Option Task). cond (W x) (Some x) o) (find_alike V W xs all.1)
 
 -- a task of a chain holds up what that of the peer does
-alike : (a : Chains) → IsPeers a → (p : Network) (k : ℕ) (c : Chained) → chain_at k a ≡ Some c → (task : Task) → lags_in task (chain_at c.incoming.number a) p ≡ chain_lags c task p
+alike : (a : Chains) → IsPeers a → (p : AddressPrefix) (k : ℕ) (c : Chained) → chain_at k a ≡ Some c → (task : Task) → lags_in task (chain_at c.incoming.number a) p ≡ chain_lags c task p
 alike a peers p k c at task = ap (λ (o : Option Chained). lags_in task o p) (ap (λ (n : ℕ). chain_at n a) (peers k c at).number ∙ at)
 
-each_stage : (a : Chains) → IsPeers a → (p : Network) → AllByRecursion (λ c. AllByRecursion (λ t. peer_lags a t p ≡ chain_lags c t p) (chain_tasks c)) (tables.values a)
+each_stage : (a : Chains) → IsPeers a → (p : AddressPrefix) → AllByRecursion (λ c. AllByRecursion (λ t. peer_lags a t p ≡ chain_lags c t p) (chain_tasks c)) (tables.values a)
 each_stage a peers p = all_values nat_cmp_total (λ c. AllByRecursion (λ t. peer_lags a t p ≡ chain_lags c t p) (chain_tasks c)) a (λ k c at. of_stages k c at c.incoming.tables.deletions)
   where
     of_stages : (k : ℕ) (c : Chained) → chain_at k a ≡ Some c → (ds : List (Lost Attrs)) → AllByRecursion (λ t. peer_lags a t p ≡ chain_lags c t p) (map (λ d. Del c.incoming.number d.number) ds)
     of_stages k c at [] = tt
     of_stages k c at (d ∷ ds) = (alike a peers p k c at (Del c.incoming.number d.number), of_stages k c at ds)
 
-lost_among : (W : Task → Bool) (p : Network) (cs : List Chained) → AllByRecursion (λ c. AllByRecursion (λ t. W t ≡ chain_lags c t p) (chain_tasks c)) cs → find W (flat_map chain_tasks cs) ≡ first_lost p cs
+lost_among : (W : Task → Bool) (p : AddressPrefix) (cs : List Chained) → AllByRecursion (λ c. AllByRecursion (λ t. W t ≡ chain_lags c t p) (chain_tasks c)) cs → find W (flat_map chain_tasks cs) ≡ first_lost p cs
 lost_among W p [] all = refl
 lost_among W p (c ∷ cs) all = find_both W (chain_tasks c) (flat_map chain_tasks cs)
     ∙ ap (λ (o : Option Task). option_or o (find W (flat_map chain_tasks cs))) (find_alike W (λ t. chain_lags c t p) (chain_tasks c) all.0)
     ∙ ap (λ (o : Option Task). option_or (find (λ t. chain_lags c t p) (chain_tasks c)) o) (lost_among W p cs all.1)
 
-pub first_stage_held : (a : Chains) (p : Network) (cs : List Chained) → IsPeers a → cs ≡ tables.values a → first_lost p cs ≡ find (λ t. peer_lags a t p) (deletion_tasks a)
+pub first_stage_held : (a : Chains) (p : AddressPrefix) (cs : List Chained) → IsPeers a → cs ≡ tables.values a → first_lost p cs ≡ find (λ t. peer_lags a t p) (deletion_tasks a)
 first_stage_held a p cs peers is = ap (first_lost p) is ∙ sym (lost_among (λ t. peer_lags a t p) p (tables.values a) (each_stage a peers p))
 
-each_walk : (a : Chains) → IsPeers a → (p : Network) → AllByRecursion (λ c. peer_lags a (Fin c.incoming.number) p ≡ chain_lags c (Fin c.incoming.number) p) (tables.values a)
+each_walk : (a : Chains) → IsPeers a → (p : AddressPrefix) → AllByRecursion (λ c. peer_lags a (Fin c.incoming.number) p ≡ chain_lags c (Fin c.incoming.number) p) (tables.values a)
 each_walk a peers p = all_values nat_cmp_total (λ c. peer_lags a (Fin c.incoming.number) p ≡ chain_lags c (Fin c.incoming.number) p) a (λ k c at. alike a peers p k c at (Fin c.incoming.number))
 
-walk_among : (W : Task → Bool) (p : Network) (cs : List Chained) → AllByRecursion (λ c. W (Fin c.incoming.number) ≡ chain_lags c (Fin c.incoming.number) p) cs
+walk_among : (W : Task → Bool) (p : AddressPrefix) (cs : List Chained) → AllByRecursion (λ c. W (Fin c.incoming.number) ≡ chain_lags c (Fin c.incoming.number) p) cs
     → find W (map (λ c. Fin c.incoming.number) cs) ≡ first_walking p cs
 walk_among W p [] all = refl
 walk_among W p (c ∷ cs) all = ap (λ (b : Bool). cond b (Some (Fin c.incoming.number)) (find W (map (λ d. Fin d.incoming.number) cs))) all.0
     ∙ ap (λ (o : Option Task). cond (chain_lags c (Fin c.incoming.number) p) (Some (Fin c.incoming.number)) o) (walk_among W p cs all.1)
 
-pub first_walk_held : (a : Chains) (p : Network) (cs : List Chained) → IsPeers a → cs ≡ tables.values a → first_walking p cs ≡ find (λ t. peer_lags a t p) (filter_tasks a)
+pub first_walk_held : (a : Chains) (p : AddressPrefix) (cs : List Chained) → IsPeers a → cs ≡ tables.values a → first_walking p cs ≡ find (λ t. peer_lags a t p) (filter_tasks a)
 first_walk_held a p cs peers is = ap (first_walking p) is ∙ sym (walk_among (λ t. peer_lags a t p) p (tables.values a) (each_walk a peers p))
 
 -- ---- at most so many stages stand in each chain

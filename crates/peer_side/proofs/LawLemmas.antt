@@ -7,7 +7,7 @@ use Rattle.std.proofs.lemmas.Map.Made.{Contains-values_of}
 use Rattle.std.specs.Ordering.{nat_cmp}
 use Rattle.std.specs.FinMap as tables
 use Rattle.std.specs.FinMap.{get-entries, nat_cmp-IsAntisymmetric}
-use Rattle.addr4.specs.Prefixes.{Network}
+use Rattle.addr4.specs.Prefixes.{AddressPrefix}
 use Rattle.link_change.proofs.MapLemmas.{find_at}
 use Rattle.journal_text.specs.declared.link.Task.{Task}
 use Rattle.journal_text.specs.declared.link.Task.TheVariants.{Del, Fin}
@@ -29,14 +29,14 @@ less_by : (a b c : Bool) → (b ≡ false → c ≡ false) → (a && b) ≡ fals
 less_by true b c less none = less none
 less_by false b c less none = refl
 
-of_chain : (c : Chained) (task : Task) (p : Network) → has_turn c task ≡ false → chain_lags c task p ≡ false
+of_chain : (c : Chained) (task : Task) (p : AddressPrefix) → has_turn c task ≡ false → chain_lags c task p ≡ false
 of_chain c (Del k s) p idle =
     less_by (k == c.incoming.number) (is_some (table_of s c.incoming.tables.deletions)) (has_row (table_of s c.incoming.tables.deletions) p) (no_stage_has (table_of s c.incoming.tables.deletions) p) idle
 of_chain c (Fin k) p idle =
     less_by (k == c.incoming.number) (is_some c.filter.walk) (row_lags c.filter p (in_rows c.incoming p)) (none_lags_without_a_walk c.filter p (in_rows c.incoming p)) idle
 of_chain c other p idle = refl
 
-by_chain : (task : Task) (p : Network) (o : Option Chained) → has_turn_in task o ≡ false → lags_in task o p ≡ false
+by_chain : (task : Task) (p : AddressPrefix) (o : Option Chained) → has_turn_in task o ≡ false → lags_in task o p ≡ false
 by_chain task p None idle = refl
 by_chain task p (Some c) idle = of_chain c task p idle
 

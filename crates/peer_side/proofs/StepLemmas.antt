@@ -1,7 +1,7 @@
 -- A step of one chain, as one of the side.
 use Rattle.std.proofs.Common.{◌≡◌, ℕ, ◌+◌, ◌<◌, ◌≤◌, List, length, Option, Some, None, refl, sym, ap, subst, ◌∙◌, arith}
 use Rattle.std.proofs.lemmas.Option.{same_Some}
-use Rattle.addr4.specs.Prefixes.{Network}
+use Rattle.addr4.specs.Prefixes.{AddressPrefix}
 use Rattle.bgp_attr.specs.declared.attrs.Attrs.{Attrs}
 use Rattle.bgp_attr.specs.declared.route.Route.{Route}
 use Rattle.bgp_attr.specs.declared.speaker.Speaker.{Speaker}
@@ -53,14 +53,14 @@ module _ (a : Chains) (k : ℕ) (c : Chained) (at : chain_at k a ≡ Some c) (pe
     };
   }
 
-  changed : (c' : Chained) (p : Network) (sent : Option (Change Route)) → IsSent (filt_rows c) (filt_rows c') p sent → Changes k p sent a (put_chain k c' a)
+  changed : (c' : Chained) (p : AddressPrefix) (sent : Option (Change Route)) → IsSent (filt_rows c) (filt_rows c') p sent → Changes k p sent a (put_chain k c' a)
   changed c' p sent is = record {
     rows = subst (λ (old : Rows Route). IsSent old (filt_at (put_chain k c' a) k) p sent) (sym (ap filt_by at)) (subst (λ (new : Rows Route). IsSent (filt_rows c) new p sent) (sym (ap filt_by (put_here k c' a))) is);
     others = λ j other. ap filt_by (put_other k c' a j other);
   }
 
   -- ---- a feed
-  pub fed_adds : (p : Network) (row : Option Attrs) (sent : Option (Change Route)) (c' : Chained) (before now : Journaled) → IsSent (filt_rows c) (filt_rows c') p sent → c' ≡ fed c p row
+  pub fed_adds : (p : AddressPrefix) (row : Option Attrs) (sent : Option (Change Route)) (c' : Chained) (before now : Journaled) → IsSent (filt_rows c) (filt_rows c') p sent → c' ≡ fed c p row
       → Adds (Falls c c' p (way_of_feed c.incoming) sent) before now → IsChain c' → OneEmptyAtMost c'.incoming.tables.deletions → Adds (FeedsInward k p row sent a (put_chain k c' a)) before now
   fed_adds p row sent c' before now rows is adds chain one = (
     adds.0,
@@ -160,7 +160,7 @@ took_adds task sent a c less before now at peers adds chain one = (
     left : Left c less
     left = turn_left task c less sent adds.0 adds.2
 
-    out : (p : Network) × IsSent (filt_rows c) (filt_rows less) p sent
+    out : (p : AddressPrefix) × IsSent (filt_rows c) (filt_rows less) p sent
     out = turn_sent task c less sent adds.0 adds.2
 
 pub comes_inward : (task : Task) (a : Chains) (k : ℕ) (c less : Chained) (before now : Journaled) (turn : Turn Route) → k ≡ peer_of task → chain_at k a ≡ Some c → IsPeers a → IsTaken c less task before now turn → IsChain less

@@ -6,7 +6,7 @@ use Rattle.std.specs.Ordering.{nat_cmp}
 use Rattle.std.specs.BTreeMap.{BTreeMap, get}
 use Rattle.std.specs.FinMap as tables
 use Rattle.std.specs.FinMap.{FinMap}
-use Rattle.addr4.specs.Prefixes.{Network, prefix_cmp}
+use Rattle.addr4.specs.Prefixes.{AddressPrefix, prefix_cmp}
 use Rattle.bgp_attr.specs.declared.attrs.Attrs.{Attrs}
 use Rattle.bgp_attr.specs.declared.route.Route.{Route}
 use Rattle.link_change.specs.Rows.{Rows, Candidates, no_rows}
@@ -124,12 +124,12 @@ has_turn_in task (Some c) = has_turn c task
 abbrev pub has_peer_work : Chains → Task → Bool
 has_peer_work a task = has_turn_in task (chain_at (peer_of task) a)
 
-abbrev pub lags_in : Task → Option Chained → Network → Bool
+abbrev pub lags_in : Task → Option Chained → AddressPrefix → Bool
 lags_in task None p = false
 lags_in task (Some c) p = chain_lags c task p
 
 -- whether a task of a peer holds up a prefix
-abbrev pub peer_lags : Chains → Task → Network → Bool
+abbrev pub peer_lags : Chains → Task → AddressPrefix → Bool
 peer_lags a task = lags_in task (chain_at (peer_of task) a)
 
 -- the deletion stages of a chain, the earliest session first
@@ -145,7 +145,7 @@ abbrev pub filter_tasks : Chains → List Task
 filter_tasks a = map (λ c. Fin c.incoming.number) (tables.values a)
 
 -- the first stage that holds up a prefix, and the first walk
-abbrev pub first_lost : Network → List Chained → Option Task
+abbrev pub first_lost : AddressPrefix → List Chained → Option Task
 first_lost p [] = None
 first_lost p (c ∷ cs) = option_or (find (λ task. chain_lags c task p) (chain_tasks c)) (first_lost p cs)
 
@@ -153,7 +153,7 @@ first_lost p (c ∷ cs) = option_or (find (λ task. chain_lags c task p) (chain_
 abbrev pub HaveFew : BTreeMap ℕ Chained → Type 0
 HaveFew m = (k : ℕ) (c : Chained) → get nat_cmp m k ≡ Some c → length c.incoming.tables.deletions ≤ 16
 
-abbrev pub first_walking : Network → List Chained → Option Task
+abbrev pub first_walking : AddressPrefix → List Chained → Option Task
 first_walking p [] = None
 first_walking p (c ∷ cs) = if chain_lags c (Fin c.incoming.number) p then Some (Fin c.incoming.number) else first_walking p cs
 

@@ -1,6 +1,6 @@
 -- What each call makes of the peers' chains, and what it keeps.
 use Rattle.std.specs.Prelude.{◌≡◌, ℕ, ◌+◌, ◌<◌, ◌≤◌, ◌==◌, false, List, Option, Some, None}
-use Rattle.addr4.specs.Prefixes.{Network}
+use Rattle.addr4.specs.Prefixes.{AddressPrefix}
 use Rattle.bgp_attr.specs.declared.attrs.Attrs.{Attrs}
 use Rattle.bgp_attr.specs.declared.route.Route.{Route}
 use Rattle.link_change.specs.Changes.{IsSent}
@@ -31,7 +31,7 @@ abbrev pub chain_weld_entries : Chained → List (Entry Value)
 chain_weld_entries c = weld_entries (owners.Peer c.incoming.number) (In c.incoming.number) c.incoming.tables.deletions
 
 -- One prefix is announced or withdrawn in the chain of peer k: the fall down to `filt.K`.
-pub record FeedsPeer (k : ℕ) (p : Network) (row : Option Attrs) (sent : Option (Change Route)) (a a' : Chains) (entries : List (Entry Value)) : Type 0 where
+pub record FeedsPeer (k : ℕ) (p : AddressPrefix) (row : Option Attrs) (sent : Option (Change Route)) (a a' : Chains) (entries : List (Entry Value)) : Type 0 where
   pub chain : Chained
   pub at : chain_at k a ≡ Some chain
   pub falls : Falls chain (fed chain p row) p (way_of_feed chain.incoming) sent entries
@@ -85,11 +85,11 @@ pub record FallsInward (k : ℕ) (a a' : Chains) (entries : List (Entry Value)) 
   pub sound : IsPeersBut k a'
 
 -- a change, if there is one, came out on `filt.K` of peer k at a prefix; the rows of every other `filt.K` stay
-pub record Changes (k : ℕ) (p : Network) (sent : Option (Change Route)) (a a' : Chains) : Type 0 where
+pub record Changes (k : ℕ) (p : AddressPrefix) (sent : Option (Change Route)) (a a' : Chains) : Type 0 where
   pub rows : IsSent (filt_at a k) (filt_at a' k) p sent
   pub others : (j : ℕ) → (j == k) ≡ false → filt_at a' j ≡ filt_at a j
 
-pub record FeedsInward (k : ℕ) (p : Network) (row : Option Attrs) (sent : Option (Change Route)) (a a' : Chains) (entries : List (Entry Value)) : Type 0 where
+pub record FeedsInward (k : ℕ) (p : AddressPrefix) (row : Option Attrs) (sent : Option (Change Route)) (a a' : Chains) (entries : List (Entry Value)) : Type 0 where
   pub feeds : FeedsPeer k p row sent a a' entries
   pub fall : FallsInward k a a' entries
   pub changes : Changes k p sent a a'
@@ -133,7 +133,7 @@ pub record WeldsInward (k : ℕ) (a a' : Chains) (entries : List (Entry Value)) 
 pub record TakesInward (task : Task) (sent : Option (Change Route)) (a a' : Chains) (entries : List (Entry Value)) : Type 0 where
   pub turn : TurnsPeer task sent a a' entries
   pub fall : FallsInward (peer_of task) a a' entries
-  pub changes : (p : Network) × Changes (peer_of task) p sent a a'
+  pub changes : (p : AddressPrefix) × Changes (peer_of task) p sent a a'
   pub leaves : Leaves turn.chain turn.turned_chain
   pub nearer : Nears task a a'
 

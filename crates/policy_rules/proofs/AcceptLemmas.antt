@@ -3,7 +3,7 @@ use Rattle.std.proofs.Common.{◌≡◌, ◌==◌, ◌&&◌, ◌+◌, ◌<◌, �
 use Rattle.std.specs.Prelude.{◌↔◌, IsTrue}
 use Rattle.std.proofs.lemmas.List.{at_drop_more}
 use Rattle.std.proofs.Math.ListN.{drop_of_length-le}
-use Rattle.addr4.specs.Prefixes.{Network}
+use Rattle.addr4.specs.Prefixes.{AddressPrefix}
 use Rattle.bgp_attr.specs.declared.attrs.Attrs.{Attrs}
 use Rattle.bgp_attr.specs.declared.route.Route.{Route}
 use Rattle.policy_rules.specs.declared.rule.Condition.{Condition}
@@ -16,7 +16,7 @@ use Rattle.policy_rules.specs.Verdicts.{has_as, origin_number, covers, holds, by
 use Rattle.policy_rules.proofs.KeptLemmas.{acted_keeps}
 use Rattle.policy_rules.proofs.VerdictLemmas.{holds_decides}
 
-abbrev pub holds_of : Condition → Network → Attrs → Bool
+abbrev pub holds_of : Condition → AddressPrefix → Attrs → Bool
 holds_of Any p a = true
 holds_of (Within q least most) p a = covers q p && (nat_le least p.length && nat_le p.length most)
 holds_of (Path asn) p a = has_as a.path asn
@@ -27,11 +27,11 @@ lets_by Accept later = true
 lets_by Reject later = false
 lets_by Next later = later
 
-abbrev pub accepted_by : List Rule → Network → Attrs → Bool
+abbrev pub accepted_by : List Rule → AddressPrefix → Attrs → Bool
 accepted_by [] p a = true
 accepted_by (rule ∷ rules) p a = cond (holds_of rule.condition p a) (lets_by rule.verdict (accepted_by rules p a)) (accepted_by rules p a)
 
-holds_is : (c : Condition) (p : Network) (r : Route) → holds c p r ≡ holds_of c p r.attrs
+holds_is : (c : Condition) (p : AddressPrefix) (r : Route) → holds c p r ≡ holds_of c p r.attrs
 holds_is Any p r = refl
 holds_is (Within q least most) p r = refl
 holds_is (Path asn) p r = refl
@@ -46,7 +46,7 @@ by_cond : (t : Bool) (x y : Option Route) (b c : Bool) → is_some x ≡ b → i
 by_cond true x y b c e f = e
 by_cond false x y b c e f = f
 
-pub accepted : (rules : List Rule) (p : Network) (r : Route) → is_some (judged_by rules p r) ≡ accepted_by rules p r.attrs
+pub accepted : (rules : List Rule) (p : AddressPrefix) (r : Route) → is_some (judged_by rules p r) ≡ accepted_by rules p r.attrs
 accepted [] p r = refl
 accepted (rule ∷ rules) p r =
     by_cond (holds rule.condition p r) (by_verdict rule.verdict (acted rule.actions r) (judged_by rules p (acted rule.actions r))) (judged_by rules p r)
@@ -57,7 +57,7 @@ accepted (rule ∷ rules) p r =
     ∙ ap (λ (t : Bool). cond t (lets_by rule.verdict (accepted_by rules p r.attrs)) (accepted_by rules p r.attrs)) (holds_is rule.condition p r)
 
 -- ---- one rule of a list after the other
-module _ (p : Network) (a : Attrs) where
+module _ (p : AddressPrefix) (a : Attrs) where
   -- the answer of the rules from a place on
   abbrev pub from : List Rule → ℕ → Bool
   from items i = accepted_by (drop i items) p a

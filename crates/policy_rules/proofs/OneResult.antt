@@ -1,6 +1,6 @@
 -- Rules judge a route in one way alone.
 use Rattle.std.proofs.Common.{◌≡◌, List, [], ◌∷◌, ◌++◌, Option, sym, ◌∙◌, subst, inl, inr}
-use Rattle.addr4.specs.Prefixes.{Network}
+use Rattle.addr4.specs.Prefixes.{AddressPrefix}
 use Rattle.bgp_attr.specs.declared.route.Route.{Route}
 use Rattle.policy_rules.specs.declared.rule.Verdict.{Verdict}
 use Rattle.policy_rules.specs.declared.rule.Verdict.TheVariants.{Accept, Reject, Next}
@@ -13,13 +13,13 @@ decided_once Accept r a b h k = h ∙ sym k
 decided_once Reject r a b h k = h ∙ sym k
 decided_once Next r a b h k = absurd h
 
-ended_once : (p : Network) (rules : List Rule) (r : Route) (a b : Option Route) → EndsWith p rules r a → EndsWith p rules r b → a ≡ b
+ended_once : (p : AddressPrefix) (rules : List Rule) (r : Route) (a b : Option Route) → EndsWith p rules r a → EndsWith p rules r b → a ≡ b
 ended_once p [] r a b h k = h ∙ sym k
 ended_once p (rule ∷ more) r a b h k = decided_once rule.verdict (acted rule.actions r) a b h.1 k.1
 
 -- a rule that passes a route on doesn't decide
 not_both :
-    (p : Network) (rule : Rule) (more : List Rule) (r after : Route) (result : Option Route) →
+    (p : AddressPrefix) (rule : Rule) (more : List Rule) (r after : Route) (result : Option Route) →
     PassesOn p rule r after → EndsWith p (rule ∷ more) r result → ⊥
 not_both p rule more r after result h ends =
     elim h [
@@ -27,7 +27,7 @@ not_both p rule more r after result h ends =
       | inr acts ↦ subst (λ v. Decides v (acted rule.actions r) result) acts.1 ends.1
     ]
 
-passed_once : (p : Network) (rule : Rule) (r m n : Route) → PassesOn p rule r m → PassesOn p rule r n → m ≡ n
+passed_once : (p : AddressPrefix) (rule : Rule) (r m n : Route) → PassesOn p rule r m → PassesOn p rule r n → m ≡ n
 passed_once p rule r m n h k =
     elim h [
       | inl s ↦ elim k [ inl t ↦ s.1 ∙ sym t.1 | inr t ↦ absurd (s.0 t.0) ]
@@ -35,7 +35,7 @@ passed_once p rule r m n h k =
     ]
 
 fronts :
-    (p : Network) (front other_front behind other_behind : List Rule) (r m n : Route) (a b : Option Route) →
+    (p : AddressPrefix) (front other_front behind other_behind : List Rule) (r m n : Route) (a b : Option Route) →
     front ++ behind ≡ other_front ++ other_behind →
     AllPassOn p front r m → EndsWith p behind m a →
     AllPassOn p other_front r n → EndsWith p other_behind n b → a ≡ b

@@ -2,21 +2,21 @@
 use Rattle.std.proofs.Common.{◌≡◌, ℕ, suc, ◌+◌, ◌<◌, ◌≤◌, List, [], ◌∷◌, ◌++◌, length, get_or, take, drop, Option, Some, None, refl, sym, ◌∙◌, subst, ap}
 use Rattle.std.proofs.Math.Seq.{drop-cons}
 use Rattle.std.proofs.lemmas.List.{append-nil, take_all, take_more, take-append-drop}
-use Rattle.addr4.specs.Prefixes.{Network}
+use Rattle.addr4.specs.Prefixes.{AddressPrefix}
 use Rattle.bgp_attr.specs.declared.route.Route.{Route}
 use Rattle.policy_rules.specs.declared.rule.Rule.{Rule}
 use Rattle.policy_rules.specs.declared.rule.Verdict.TheVariants.{Accept, Reject}
 use Rattle.policy_rules.specs.Judged.{Judged, AllPassOn, PassesOn, EndsWith, Outcome, Decides, acted}
 
 pub one_more :
-    (p : Network) (front : List Rule) (rule : Rule) (r between after : Route) →
+    (p : AddressPrefix) (front : List Rule) (rule : Rule) (r between after : Route) →
     AllPassOn p front r between → PassesOn p rule between after → AllPassOn p (front ++ rule ∷ []) r after
 one_more p [] rule r between after pass one = (after, (subst (λ x. PassesOn p rule x after) pass one, refl))
 one_more p (f ∷ front) rule r between after pass one =
     (pass.0, (pass.1.0, one_more p front rule pass.0 between after pass.1.1 one))
 
 pub one_more_at :
-    (p : Network) (rules : List Rule) (i : ℕ) (rule : Rule) (r between after : Route) →
+    (p : AddressPrefix) (rules : List Rule) (i : ℕ) (rule : Rule) (r between after : Route) →
     i < length rules → rule ≡ get_or rules i rule →
     AllPassOn p (take i rules) r between → PassesOn p rule between after → AllPassOn p (take (i + 1) rules) r after
 one_more_at p rules i rule r between after below is pass one =
@@ -24,17 +24,17 @@ one_more_at p rules i rule r between after below is pass one =
     (one_more p (take i rules) rule r between after pass one)
 
 pub accepts :
-    (p : Network) (rule : Rule) (more : List Rule) (r after : Route) →
+    (p : AddressPrefix) (rule : Rule) (more : List Rule) (r after : Route) →
     Outcome Accept rule p r after → EndsWith p (rule ∷ more) r (Some after)
 accepts p rule more r after h = (h.0, subst (λ v. Decides v (acted rule.actions r) (Some after)) (sym h.1) (ap Some h.2))
 
 pub rejects :
-    (p : Network) (rule : Rule) (more : List Rule) (r after : Route) →
+    (p : AddressPrefix) (rule : Rule) (more : List Rule) (r after : Route) →
     Outcome Reject rule p r after → EndsWith p (rule ∷ more) r None
 rejects p rule more r after h = (h.0, subst (λ v. Decides v (acted rule.actions r) None) (sym h.1) refl)
 
 pub decided :
-    (p : Network) (items rules : List Rule) (i : ℕ) (rule : Rule) (r between : Route) (result : Option Route) →
+    (p : AddressPrefix) (items rules : List Rule) (i : ℕ) (rule : Rule) (r between : Route) (result : Option Route) →
     items ≡ rules → i < length items → rule ≡ get_or items i rule →
     AllPassOn p (take i items) r between → EndsWith p (rule ∷ drop (suc i) items) between result → Judged rules p r result
 decided p items rules i rule r between result same below is passed ended =
@@ -48,7 +48,7 @@ decided p items rules i rule r between result same below is passed ended =
     })
 
 pub passed_by_all :
-    (p : Network) (items rules : List Rule) (i : ℕ) (r between : Route) →
+    (p : AddressPrefix) (items rules : List Rule) (i : ℕ) (r between : Route) →
     items ≡ rules → length items ≤ i → AllPassOn p (take i items) r between → Judged rules p r (Some between)
 passed_by_all p items rules i r between same end passed =
     subst (λ x. Judged x p r (Some between)) same (record {

@@ -7,7 +7,7 @@ use Rattle.std.specs.Str.{bytes_eq}
 use Rattle.std.specs.Str.Parse.{digits_value}
 use Rattle.addr4.specs.Blocks.{size_of_length}
 use Rattle.addr4.specs.Prefixes.{IsMasked}
-use Rattle.addr4.specs.Texts.{is_numeral, value_below, number_below, number_of, addr_of, addr_from_parts, addr_from_octets, network_of, prefix_from_parts, prefix_of, parts}
+use Rattle.addr4.specs.Texts.{is_numeral, value_below, number_below, number_of, addr_of, addr_from_parts, addr_from_octets, address_prefix_of, prefix_from_parts, prefix_of, parts}
 use Rattle.bgp_attr.specs.declared.attrs.Origin as origin
 use Rattle.policy_rules.specs.declared.rule.Condition.{Condition}
 use Rattle.policy_rules.specs.declared.rule.Condition.TheVariants.{Any, Path, Origin}
@@ -66,15 +66,15 @@ masked_again a s pos =
     let e : a - a % s ≡ a / s * s + 0 = omega (arith, div-add-mod' a s) in
     ap (λ n. n % s) e ∙ mod-mul-add (a / s) s 0 pos
 
-network_ok : (a l : Option ℕ) → IfSome a (λ n. n < 2 ^ 32) → IfSome l (λ n. n < 33) → IfSome (network_of 32 a l) (λ q. IsMasked 32 q × (q.address < 2 ^ 32))
-network_ok None l ha hl = tt
-network_ok (Some a) None ha hl = tt
-network_ok (Some a) (Some l) ha hl = ((omega arith, masked_again a (size_of_length 32 l) (pow_pos (32 - l))), omega arith)
+address_prefix_ok : (a l : Option ℕ) → IfSome a (λ n. n < 2 ^ 32) → IfSome l (λ n. n < 33) → IfSome (address_prefix_of 32 a l) (λ q. IsMasked 32 q × (q.address < 2 ^ 32))
+address_prefix_ok None l ha hl = tt
+address_prefix_ok (Some a) None ha hl = tt
+address_prefix_ok (Some a) (Some l) ha hl = ((omega arith, masked_again a (size_of_length 32 l) (pow_pos (32 - l))), omega arith)
 
 prefix_parts_ok : (ps : List (List ℕ)) → IfSome (prefix_from_parts 32 ps) (λ q. IsMasked 32 q × (q.address < 2 ^ 32))
 prefix_parts_ok [] = tt
 prefix_parts_ok (a ∷ []) = tt
-prefix_parts_ok (a ∷ l ∷ []) = network_ok (addr_of a) (number_below 33 l) (addr_fits a) (below 33 l)
+prefix_parts_ok (a ∷ l ∷ []) = address_prefix_ok (addr_of a) (number_below 33 l) (addr_fits a) (below 33 l)
 prefix_parts_ok (a ∷ l ∷ x ∷ more) = tt
 
 pub prefix_ok : (text : List ℕ) → IfSome (prefix_of 32 text) (λ q. IsMasked 32 q × (q.address < 2 ^ 32))

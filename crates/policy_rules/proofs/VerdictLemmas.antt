@@ -6,7 +6,7 @@ use Rattle.std.proofs.lemmas.Bool.{eqb-true, eq-eqb, leb-true, le-leb}
 use Rattle.std.proofs.lemmas.Bool.Decides.{Decides-and, Decides-like, Decides-eqb, not_from_Decides}
 use Rattle.std.proofs.lemmas.List.Folds.{Any-from_list_any, list_any-from_Any, list_any_at}
 use Rattle.std.proofs.lemmas.Map.Views.{Contains-from_any}
-use Rattle.addr4.specs.Prefixes.{Network, Covers, behind}
+use Rattle.addr4.specs.Prefixes.{AddressPrefix, Covers, behind}
 use Rattle.bgp_attr.specs.Paths.{HasAs}
 use Rattle.bgp_attr.specs.declared.path.Segment.{Segment}
 use Rattle.bgp_attr.specs.declared.attrs.Origin as origin
@@ -42,7 +42,7 @@ has_decides path asn = any_decides _ _ (λ s. number_decides s.numbers asn) path
 at_most_decides : (a b : ℕ) → Decides (nat_le a b) (a ≤ b)
 at_most_decides a b = (leb-true a b, le-leb a b)
 
-covers_decides : (p q : Network) → Decides (covers p q) (Covers 32 p q)
+covers_decides : (p q : AddressPrefix) → Decides (covers p q) (Covers 32 p q)
 covers_decides p q =
     Decides-like _ (λ h. record { from = h.0; to = h.1 }) (λ h. (h.from, h.to))
     (Decides-and _ _ (at_most_decides p.address q.address) (at_most_decides (behind 32 q) (behind 32 p)))
@@ -61,7 +61,7 @@ same_origin Incomplete Incomplete e = refl
 origin_decides : (a b : origin.Origin) → Decides (origin_number a == origin_number b) (a ≡ b)
 origin_decides a b = Decides-like _ (same_origin a b) (ap origin_number) (Decides-eqb (origin_number a) (origin_number b))
 
-pub holds_decides : (c : Condition) (p : Network) (r : Route) → Decides (holds c p r) (Holds c p r)
+pub holds_decides : (c : Condition) (p : AddressPrefix) (r : Route) → Decides (holds c p r) (Holds c p r)
 holds_decides All p r = (λ _. tt, λ _. refl)
 holds_decides (Within q least most) p r =
     Decides-like _ (λ h. (h.0, h.1.0, h.1.1)) (λ h. (h.0, (h.1, h.2)))
@@ -71,7 +71,7 @@ holds_decides (Origin o) p r = origin_decides r.attrs.origin o
 
 -- ---- a rule in front of others
 passed :
-    (p : Network) (rule : Rule) (rules : List Rule) (r after : Route) (result : Option Route) →
+    (p : AddressPrefix) (rule : Rule) (rules : List Rule) (r after : Route) (result : Option Route) →
     PassesOn p rule r after → Judged rules p after result → Judged (rule ∷ rules) p r result
 passed p rule rules r after result one h = record {
   front = rule ∷ h.front;
@@ -83,7 +83,7 @@ passed p rule rules r after result one h = record {
 }
 
 ended :
-    (p : Network) (rule : Rule) (rules : List Rule) (r : Route) (v : Verdict) (result : Option Route) →
+    (p : AddressPrefix) (rule : Rule) (rules : List Rule) (r : Route) (v : Verdict) (result : Option Route) →
     rule.verdict ≡ v → Holds rule.condition p r → DecidesBy v (acted rule.actions r) result → Judged (rule ∷ rules) p r result
 ended p rule rules r v result is h decided = record {
   front = [];
@@ -95,7 +95,7 @@ ended p rule rules r v result is h decided = record {
 }
 
 by_its_verdict :
-    (p : Network) (rule : Rule) (rules : List Rule) (r : Route) (v : Verdict) (later : Option Route) →
+    (p : AddressPrefix) (rule : Rule) (rules : List Rule) (r : Route) (v : Verdict) (later : Option Route) →
     rule.verdict ≡ v → Holds rule.condition p r → Judged rules p (acted rule.actions r) later →
     Judged (rule ∷ rules) p r (by_verdict v (acted rule.actions r) later)
 by_its_verdict p rule rules r Accept later is h more = ended p rule rules r Accept (Some (acted rule.actions r)) is h refl
@@ -104,7 +104,7 @@ by_its_verdict p rule rules r Next later is h more =
     passed p rule rules r (acted rule.actions r) later (inr (h, is, refl)) more
 
 by_condition :
-    (p : Network) (rule : Rule) (rules : List Rule) (r : Route) (b : Bool) (acts skips : Option Route) →
+    (p : AddressPrefix) (rule : Rule) (rules : List Rule) (r : Route) (b : Bool) (acts skips : Option Route) →
     Decides b (Holds rule.condition p r) → (Holds rule.condition p r → Judged (rule ∷ rules) p r acts) →
     Judged rules p r skips → Judged (rule ∷ rules) p r (cond b acts skips)
 by_condition p rule rules r true acts skips d h more = h (d.0 refl)
@@ -121,5 +121,5 @@ answer_is_judged (rule ∷ rules) p r =
     (answer_is_judged rules p r)
 
 pub judged_so :
-    (rules : List Rule) (p : Network) (r : Route) (result : Option Route) → Judged rules p r result → result ≡ judged_by rules p r
+    (rules : List Rule) (p : AddressPrefix) (r : Route) (result : Option Route) → Judged rules p r result → result ≡ judged_by rules p r
 judged_so rules p r result h = one_result rules p r result (judged_by rules p r) h (answer_is_judged rules p r)

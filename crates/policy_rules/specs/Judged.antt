@@ -1,6 +1,6 @@
 -- The first rule that decides.
 use Rattle.std.specs.Prelude.{◌≡◌, ◌≤◌, ◌⊎◌, List, [], ◌∷◌, ◌++◌, Option, Some, None, fold}
-use Rattle.addr4.specs.Prefixes.{Network, Covers}
+use Rattle.addr4.specs.Prefixes.{AddressPrefix, Covers}
 use Rattle.bgp_attr.specs.Paths.{HasAs}
 use Rattle.bgp_attr.specs.declared.route.Route.{Route}
 use Rattle.policy_rules.specs.declared.rule.Condition.{Condition}
@@ -12,7 +12,7 @@ use Rattle.policy_rules.specs.declared.rule.Verdict.TheVariants.{Accept, Reject,
 use Rattle.policy_rules.specs.declared.rule.Rule.{Rule}
 
 -- the condition holds of a route at a prefix
-abbrev pub Holds : Condition → Network → Route → Type 0
+abbrev pub Holds : Condition → AddressPrefix → Route → Type 0
 Holds Any p r = Unit {0}
 Holds (Within q least most) p r = Covers 32 q p × (least ≤ p.length) × (p.length ≤ most)
 Holds (Path asn) p r = HasAs r.attrs.path asn
@@ -36,13 +36,13 @@ pub record KeepsSource (r after : Route) : Type 0 where
   pub from : after.from ≡ r.from
 
 -- a rule passes a route on: its condition doesn't hold, or it does its actions and its verdict is `next`
-abbrev pub PassesOn : Network → Rule → Route → Route → Type 0
+abbrev pub PassesOn : AddressPrefix → Rule → Route → Route → Type 0
 PassesOn p rule r after =
     ((¬ Holds rule.condition p r) × (after ≡ r))
     ⊎ (Holds rule.condition p r × (rule.verdict ≡ Next) × (after ≡ acted rule.actions r))
 
 -- each rule passes the route on, as the one before left it
-abbrev pub AllPassOn : Network → List Rule → Route → Route → Type 0
+abbrev pub AllPassOn : AddressPrefix → List Rule → Route → Route → Type 0
 AllPassOn p [] r after = after ≡ r
 AllPassOn p (rule ∷ rules) r after = (between : Route) × (PassesOn p rule r between × AllPassOn p rules between after)
 
@@ -53,19 +53,19 @@ Decides Reject r result = result ≡ None
 Decides Next r result = ⊥
 
 -- one rule's answer, and the route as it leaves it
-abbrev pub Outcome : Verdict → Rule → Network → Route → Route → Type 0
+abbrev pub Outcome : Verdict → Rule → AddressPrefix → Route → Route → Type 0
 Outcome Next rule p r after = PassesOn p rule r after
 Outcome Accept rule p r after = Holds rule.condition p r × (rule.verdict ≡ Accept) × (after ≡ acted rule.actions r)
 Outcome Reject rule p r after = Holds rule.condition p r × (rule.verdict ≡ Reject)
 
 -- behind the rules that pass a route on: it is accepted as it is, or the next rule's condition holds and its verdict
 -- decides, after its actions
-abbrev pub EndsWith : Network → List Rule → Route → Option Route → Type 0
+abbrev pub EndsWith : AddressPrefix → List Rule → Route → Option Route → Type 0
 EndsWith p [] r result = result ≡ Some r
 EndsWith p (rule ∷ more) r result = Holds rule.condition p r × Decides rule.verdict (acted rule.actions r) result
 
 -- some front of the rules passes the route on, and what follows decides
-pub record Judged (rules : List Rule) (p : Network) (r : Route) (result : Option Route) : Type 0 where
+pub record Judged (rules : List Rule) (p : AddressPrefix) (r : Route) (result : Option Route) : Type 0 where
   pub front : List Rule
   pub behind : List Rule
   pub between : Route

@@ -1,6 +1,6 @@
 -- What holds of judging as a whole.
 use Rattle.std.specs.Prelude.{◌≡◌, List, Option}
-use Rattle.addr4.specs.Prefixes.{Network}
+use Rattle.addr4.specs.Prefixes.{AddressPrefix}
 use Rattle.bgp_attr.specs.declared.route.Route.{Route}
 use Rattle.policy_rules.specs.declared.rule.Rule.{Rule}
 use Rattle.policy_rules.specs.Judged.{Judged}
@@ -9,8 +9,8 @@ use Rattle.policy_rules.specs.Verdicts.{judged_by}
 -- rules judge a route in one way alone
 abbrev pub OneResult : Type 0
 OneResult =
-    (rules : List Rule) (p : Network) (r : Route) (a b : Option Route) → Judged rules p r a → Judged rules p r b → a ≡ b
+    (rules : List Rule) (p : AddressPrefix) (r : Route) (a b : Option Route) → Judged rules p r a → Judged rules p r b → a ≡ b
 
 -- The first rule that decides gives what the function computes.
 abbrev pub AnswerIsJudged : Type 0
-AnswerIsJudged = (rules : List Rule) (p : Network) (r : Route) → Judged rules p r (judged_by rules p r)
+AnswerIsJudged = (rules : List Rule) (p : AddressPrefix) (r : Route) → Judged rules p r (judged_by rules p r)

@@ -2,7 +2,7 @@
 -- law.
 use Rattle.std.specs.Prelude.{ℕ, ◌==◌, ◌&&◌, nat_le, nat_eq, Bool, true, cond, List, [], ◌∷◌, Option, Some, None}
 use Rattle.std.specs.List.{list_any}
-use Rattle.addr4.specs.Prefixes.{Network, behind}
+use Rattle.addr4.specs.Prefixes.{AddressPrefix, behind}
 use Rattle.bgp_attr.specs.declared.path.Segment.{Segment}
 use Rattle.bgp_attr.specs.declared.attrs.Origin as origin
 use Rattle.bgp_attr.specs.declared.attrs.Origin.TheVariants.{Igp, Egp, Incomplete}
@@ -23,11 +23,11 @@ origin_number Igp = 0
 origin_number Egp = 1
 origin_number Incomplete = 2
 
-abbrev pub covers : Network → Network → Bool
+abbrev pub covers : AddressPrefix → AddressPrefix → Bool
 covers p q = nat_le p.address q.address && nat_le (behind 32 q) (behind 32 p)
 
 -- whether the condition holds
-abbrev pub holds : Condition → Network → Route → Bool
+abbrev pub holds : Condition → AddressPrefix → Route → Bool
 holds Any p r = true
 holds (Within q least most) p r = covers q p && (nat_le least p.length && nat_le p.length most)
 holds (Path asn) p r = has_as r.attrs.path asn
@@ -40,7 +40,7 @@ by_verdict Reject r later = None
 by_verdict Next r later = later
 
 -- the answer of the rules
-abbrev pub judged_by : List Rule → Network → Route → Option Route
+abbrev pub judged_by : List Rule → AddressPrefix → Route → Option Route
 judged_by [] p r = Some r
 judged_by (rule ∷ rules) p r =
     cond (holds rule.condition p r)

@@ -1,6 +1,6 @@
 -- Laws of redistribution, for the crates above.
 use Rattle.std.specs.Prelude.{◌≡◌, ◌≢◌, Bool, Some, None, Option}
-use Rattle.addr4.specs.Prefixes.{Network}
+use Rattle.addr4.specs.Prefixes.{AddressPrefix}
 use Rattle.bgp_attr.specs.declared.route.Route.{Route}
 use Rattle.bgp_attr.specs.declared.speaker.Speaker.{Speaker}
 use Rattle.rib_route.specs.declared.Proto.{Proto}
@@ -30,5 +30,5 @@ NothingAtFirst = (me : Speaker) (upper : Rows Interior) → passed_rows (redistr
 -- Every row is the route of the speaker's own, and stands where the interior row is of a protocol of the set.
 abbrev pub OnlyOwnRoutes : Type 0
 OnlyOwnRoutes =
-    (me : Speaker) (on : Protos) (p : Network) (row : Option Interior) (route : Route) → redistributed me on p row ≡ Some route
+    (me : Speaker) (on : Protos) (p : AddressPrefix) (row : Option Interior) (route : Route) → redistributed me on p row ≡ Some route
     → route ≡ local_route me

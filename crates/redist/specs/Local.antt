@@ -1,6 +1,6 @@
 -- The routes of this speaker's own, which redistribution makes of interior ones (RFC 4271, sections 5.1 and 9.4).
 use Rattle.std.specs.Prelude.{ℕ, Bool, false, if◌then◌else◌, [], Option, Some, None}
-use Rattle.addr4.specs.Prefixes.{Network}
+use Rattle.addr4.specs.Prefixes.{AddressPrefix}
 use Rattle.bgp_attr.specs.declared.attrs.Attrs.{Attrs}
 use Rattle.bgp_attr.specs.declared.attrs.Origin.TheVariants.{Incomplete}
 use Rattle.bgp_attr.specs.declared.route.Route.{Route}
@@ -45,5 +45,5 @@ is_on on None = false
 is_on on (Some row) = has on row.proto
 
 -- what is made of the interior row at a prefix, where these protocols are redistributed
-abbrev pub redistributed : Speaker → Protos → Network → Option Interior → Option Route
+abbrev pub redistributed : Speaker → Protos → AddressPrefix → Option Interior → Option Route
 redistributed me on p row = if is_on on row then Some (local_route me) else None

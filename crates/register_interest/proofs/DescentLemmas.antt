@@ -3,7 +3,7 @@ use Rattle.std.proofs.Common.{◌↔◌, IsTrue, Bool, true, false, ◌≡◌, �
 use Rattle.std.proofs.lemmas.Bool.{cases_lt}
 use Rattle.std.specs.BTreeMap.Range.{IsLeBy}
 use Rattle.addr4.specs.Blocks.{size_of_length}
-use Rattle.addr4.specs.Prefixes.{Network, prefix_cmp, IsMasked, Covers, Holds, block}
+use Rattle.addr4.specs.Prefixes.{AddressPrefix, prefix_cmp, IsMasked, Covers, Holds, block}
 use Rattle.addr4.proofs.BlockLemmas.{size_pos}
 use Rattle.addr4.proofs.HalfLemmas.{same_block, block_same}
 use Rattle.link_change.specs.Rows.{Rows}
@@ -12,17 +12,17 @@ use Rattle.register_interest.specs.Search.{IsLastTo, IsNoneAbove, Shared}
 use Rattle.register_interest.proofs.CoverLemmas.{block_masked, block_holds, nested, held_by_cover, longest_from}
 use Rattle.register_interest.proofs.OrderLemmas.{before_address, before_length, cases_before, cases_up_to, up_to, inside}
 
-pub own : (w : ℕ) (p : Network) → Holds w p p.address
+pub own : (w : ℕ) (p : AddressPrefix) → Holds w p p.address
 own w p = record { from = omega arith; to = omega (arith, size_pos w p.length) }
 
 -- a prefix of the address, of at most n bits, is at or before the one of n bits
-held_before : (w a n : ℕ) (q : Network) → n ≤ w → IsMasked w q → Holds w q a → q.length ≤ n → IsLeBy prefix_cmp q (block w a n)
+held_before : (w a n : ℕ) (q : AddressPrefix) → n ≤ w → IsMasked w q → Holds w q a → q.length ≤ n → IsLeBy prefix_cmp q (block w a n)
 held_before w a n q top mq hq le =
     let mb = block_masked w a n top in
     up_to q (block w a n) (inside w a q (block w a n) mq mb (nested w a q (block w a n) mq mb le hq (block_holds w a n)))
 
 -- two addresses of a prefix share its bits
-shares : (w a k n : ℕ) (q : Network) → IsMasked w q → Holds w q k → Holds w q a → n < q.length → Shared w k a n → ⊥
+shares : (w a k n : ℕ) (q : AddressPrefix) → IsMasked w q → Holds w q k → Holds w q a → n < q.length → Shared w k a n → ⊥
 shares w a k n q mq hk ha lt s =
     let le = mq.0 in
     let r = block w q.address (n + 1) in
@@ -54,14 +54,14 @@ pub descent_first : {V : Type 0} (w : ℕ) (rows : Rows V) (a n : ℕ) → n ≡
 descent_first w rows a n is = record { within = omega arith; none = λ q mq hq lt. absurd (let le = mq.0 in omega arith) }
 
 -- no row up to the bound
-pub descent_none : {V : Type 0} (w : ℕ) (rows : Rows V) (a n : ℕ) (b : Network) → IsDescent w rows a n → b ≡ block w a n → IsLastTo rows b None → None ≡ longest w rows a
+pub descent_none : {V : Type 0} (w : ℕ) (rows : Rows V) (a n : ℕ) (b : AddressPrefix) → IsDescent w rows a n → b ≡ block w a n → IsLastTo rows b None → None ≡ longest w rows a
 descent_none w rows a n b is b_is last = longest_from w rows a None (λ q mq hq. elim (cases_lt n q.length) [
   | inl lt ↦ is.none q mq hq lt
-  | inr le ↦ last q (subst (λ (x : Network). IsLeBy prefix_cmp q x) (sym b_is) (held_before w a n q is.within mq hq le))
+  | inr le ↦ last q (subst (λ (x : AddressPrefix). IsLeBy prefix_cmp q x) (sym b_is) (held_before w a n q is.within mq hq le))
 ])
 
 -- the last row up to the bound holds the address
-pub descent_found : {V : Type 0} (w : ℕ) (rows : Rows V) (a n : ℕ) (b : Network) (r : Network × V) → IsDescent w rows a n → b ≡ block w a n → IsLastTo rows b (Some r) → IsMasked w r.0 → Holds w r.0 a → Some r ≡ longest w rows a
+pub descent_found : {V : Type 0} (w : ℕ) (rows : Rows V) (a n : ℕ) (b : AddressPrefix) (r : AddressPrefix × V) → IsDescent w rows a n → b ≡ block w a n → IsLastTo rows b (Some r) → IsMasked w r.0 → Holds w r.0 a → Some r ≡ longest w rows a
 descent_found w rows a n b r is b_is last mr hr = longest_from w rows a (Some r) (
   mr,
   hr,
@@ -69,29 +69,29 @@ descent_found w rows a n b r is b_is last mr hr = longest_from w rows a (Some r)
   λ q mq hq long. elim (cases_lt n q.length) [
     | inl lt ↦ is.none q mq hq lt
     | inr le ↦
-        last.2 q (subst (λ (x : Network). IsLeBy prefix_cmp q x) (sym b_is) (held_before w a n q is.within mq hq le))
+        last.2 q (subst (λ (x : AddressPrefix). IsLeBy prefix_cmp q x) (sym b_is) (held_before w a n q is.within mq hq le))
         (elim (inside w a r.0 q mr mq (nested w a r.0 q mr mq (omega arith) hr hq)) [
-          | inl same ↦ absurd (let l : r.0.length ≡ q.length = ap (λ (x : Network). x.length) same in omega arith)
+          | inl same ↦ absurd (let l : r.0.length ≡ q.length = ap (λ (x : AddressPrefix). x.length) same in omega arith)
           | inr before ↦ before
         ])
   ],
 )
 
 -- the row's address is at or before the bound's
-row_address : (p q : Network) → IsLeBy prefix_cmp p q → p.address ≤ q.address
+row_address : (p q : AddressPrefix) → IsLeBy prefix_cmp p q → p.address ≤ q.address
 row_address p q h = elim (cases_up_to p q h) [
-  | inl same ↦ let e : p.address ≡ q.address = ap (λ (x : Network). x.address) same in omega arith
+  | inl same ↦ let e : p.address ≡ q.address = ap (λ (x : AddressPrefix). x.address) same in omega arith
   | inr before ↦ before_address p q before
 ]
 
-row_length : (p q : Network) → IsLeBy prefix_cmp p q → p.address ≡ q.address → p.length ≤ q.length
+row_length : (p q : AddressPrefix) → IsLeBy prefix_cmp p q → p.address ≡ q.address → p.length ≤ q.length
 row_length p q h e = elim (cases_up_to p q h) [
-  | inl same ↦ let l : p.length ≡ q.length = ap (λ (x : Network). x.length) same in omega arith
+  | inl same ↦ let l : p.length ≡ q.length = ap (λ (x : AddressPrefix). x.length) same in omega arith
   | inr before ↦ let lt = before_length p q before e in omega arith
 ]
 
 -- a row up to the bound that doesn't hold the address shares fewer bits with it than the bound has
-pub descent_ends : (w a n s : ℕ) (k : Network) → n ≤ w → IsLeBy prefix_cmp k (block w a n) → IsMasked w k → (Holds w k a → ⊥) → Shared w k.address a s → s < n
+pub descent_ends : (w a n s : ℕ) (k : AddressPrefix) → n ≤ w → IsLeBy prefix_cmp k (block w a n) → IsMasked w k → (Holds w k a → ⊥) → Shared w k.address a s → s < n
 descent_ends w a n s k top le mk out sh = elim (cases_lt s n) [
   | inl lt ↦ lt
   | inr more ↦ absurd (
@@ -109,12 +109,12 @@ descent_ends w a n s k top le mk out sh = elim (cases_lt s n) [
 ]
 
 -- The last row up to the bound doesn't hold the address: no row of more bits than its address k shares with the address does.
-pub descent_more : {V : Type 0} (w : ℕ) (rows : Rows V) (a n s k x : ℕ) (b : Network) (r : Network × V) (t : Bool) → IsDescent w rows a n → b ≡ block w a n → IsLastTo rows b (Some r) → IsMasked w r.0
+pub descent_more : {V : Type 0} (w : ℕ) (rows : Rows V) (a n s k x : ℕ) (b : AddressPrefix) (r : AddressPrefix × V) (t : Bool) → IsDescent w rows a n → b ≡ block w a n → IsLastTo rows b (Some r) → IsMasked w r.0
     → (IsTrue t ↔ Holds w r.0 a) → t ≡ false → k ≡ r.0.address → x ≡ a → Shared w k x s → IsDescent w rows a s × (s < n)
 descent_more w rows a n s k x b r t is b_is last mr told not_held k_is x_is shared =
     let sh : Shared w r.0.address a s = subst (λ (y : ℕ). Shared w y a s) k_is (subst (λ (y : ℕ). Shared w k y s) x_is shared) in
     let out : Holds w r.0 a → ⊥ = λ h. let clash : true ≡ false = sym (told.1 h) ∙ not_held in cc in
-    let at : IsLeBy prefix_cmp r.0 (block w a n) = subst (λ (y : Network). IsLeBy prefix_cmp r.0 y) b_is last.0 in
+    let at : IsLeBy prefix_cmp r.0 (block w a n) = subst (λ (y : AddressPrefix). IsLeBy prefix_cmp r.0 y) b_is last.0 in
     let low = row_address r.0 (block w a n) at in
     let from = (block_holds w a n).from in
     let below = sh.below in (
@@ -123,7 +123,7 @@ descent_more w rows a n s k x b r t is b_is last mr told not_held k_is x_is shar
         none = λ q mq hq more. elim (cases_lt n q.length) [
           | inl lt ↦ is.none q mq hq lt
           | inr le ↦ elim (cases_before r.0 q) [
-            | inl before ↦ last.2 q (subst (λ (y : Network). IsLeBy prefix_cmp q y) (sym b_is) (held_before w a n q is.within mq hq le)) before
+            | inl before ↦ last.2 q (subst (λ (y : AddressPrefix). IsLeBy prefix_cmp q y) (sym b_is) (held_before w a n q is.within mq hq le)) before
             | inr o ↦ elim o [
               | inl same ↦ absurd (out (subst (λ y. Holds w y a) (sym same) hq))
               | inr after ↦ absurd (let first = before_address q r.0 after in let to = hq.to in shares w a r.0.address s q mq (record { from = omega arith; to = omega arith }) hq more sh)

@@ -19,7 +19,7 @@ use Rattle.std.proofs.lemmas.List.Kept.{IsStrictlySortedBy-filter}
 use Rattle.std.proofs.lemmas.Map.Views.{btree_map_get_iff}
 use Rattle.std.proofs.lemmas.Map.Lookups.{exact_pairs, exact_unsigned}
 use Rattle.std.proofs.lemmas.List.Elements.{Contains-append_left, Contains-append_right, Contains-append_cases, Contains-push, Contains-push_cases}
-use Rattle.addr4.specs.Prefixes.{Network, prefix_cmp, ComesBefore, IsMasked, Covers, Holds, behind, block}
+use Rattle.addr4.specs.Prefixes.{AddressPrefix, prefix_cmp, ComesBefore, IsMasked, Covers, Holds, behind, block}
 use Rattle.addr4.proofs.BlockLemmas.{size_pos, covers_length, covers_holds}
 use Rattle.addr4.proofs.HalfLemmas.{same_from_covers}
 use Rattle.addr4.proofs.PrefixOrder.{prefixes_total, exact_prefixes}
@@ -35,26 +35,26 @@ pub interests_total : IsTotalOrder interest_cmp
 interests_total = then_total (on_total (λ (p : Interest). p.subnet) prefixes_total) (on_total (λ (p : Interest). p.client) nat_cmp_total)
 
 pub exact_interests : IsAntisymmetric interest_cmp
-exact_interests p q h = ap (λ (k : Network × ℕ). record { subnet = k.0; client = k.1 }) (exact_pairs prefix_cmp nat_cmp exact_prefixes exact_unsigned (p.subnet, p.client) (q.subnet, q.client) h)
+exact_interests p q h = ap (λ (k : AddressPrefix × ℕ). record { subnet = k.0; client = k.1 }) (exact_pairs prefix_cmp nat_cmp exact_prefixes exact_unsigned (p.subnet, p.client) (q.subnet, q.client) h)
 
 abbrev pub Kept : Type 0
-Kept = Interest × Option Network
+Kept = Interest × Option AddressPrefix
 
 -- ---- the part of a map that a change reaches
 
 -- appended were those of the entries seen that a change at p reaches
-pub record IsHitsOf (width : ℕ) (p : Network) (seen : List Kept) (before out : List Interest) : Type 0 where
+pub record IsHitsOf (width : ℕ) (p : AddressPrefix) (seen : List Kept) (before out : List Interest) : Type 0 where
   pub hits : List Interest
   pub is : out ≡ before ++ hits
-  pub only : (k : Interest) → Contains hits k → (m : Option Network) × Contains seen (k, m) × IsHit width p k.subnet m
-  pub all : (k : Interest) (m : Option Network) → Contains seen (k, m) → IsHit width p k.subnet m → Contains hits k
+  pub only : (k : Interest) → Contains hits k → (m : Option AddressPrefix) × Contains seen (k, m) × IsHit width p k.subnet m
+  pub all : (k : Interest) (m : Option AddressPrefix) → Contains seen (k, m) → IsHit width p k.subnet m → Contains hits k
   pub sorted : IsStrictlySortedBy interest_cmp (keys_of seen) → IsStrictlySortedBy interest_cmp hits
 
-pub no_hits : (w : ℕ) (p : Network) (before : List Interest) → IsHitsOf w p [] before before
+pub no_hits : (w : ℕ) (p : AddressPrefix) (before : List Interest) → IsHitsOf w p [] before before
 unfolding IsStrictlySortedBy
 no_hits w p before = record { hits = []; is = sym (append-nil before); only = λ k h. absurd (omega (arith, h.1)); all = λ k m h _. absurd (omega (arith, h.1)); sorted = λ s. s }
 
-last_sorted : (seen : List Kept) (e : Kept) (hits : List Interest) → ((k : Interest) → Contains hits k → (m : Option Network) × Contains seen (k, m)) → (IsStrictlySortedBy interest_cmp (keys_of seen) → IsStrictlySortedBy interest_cmp hits)
+last_sorted : (seen : List Kept) (e : Kept) (hits : List Interest) → ((k : Interest) → Contains hits k → (m : Option AddressPrefix) × Contains seen (k, m)) → (IsStrictlySortedBy interest_cmp (keys_of seen) → IsStrictlySortedBy interest_cmp hits)
     → IsStrictlySortedBy interest_cmp (keys_of (seen ++ e ∷ [])) → IsStrictlySortedBy interest_cmp (hits ++ e.0 ∷ [])
 unfolding IsStrictlySortedBy
 last_sorted seen e hits only sorted s =
@@ -64,7 +64,7 @@ last_sorted seen e hits only sorted s =
       | inr same ↦ let o = only x hx in subst (λ (z : Interest). interest_cmp x z ≡ Less) same (front.1 x (has_key seen (x, o.0) o.1))
     ])
 
-pub hits_more : (w : ℕ) (p : Network) (seen : List Kept) (before out now : List Interest) (e : Kept) → IsHitsOf w p seen before out → Pushes w p e out now → IsHitsOf w p (seen ++ e ∷ []) before now
+pub hits_more : (w : ℕ) (p : AddressPrefix) (seen : List Kept) (before out now : List Interest) (e : Kept) → IsHitsOf w p seen before out → Pushes w p e out now → IsHitsOf w p (seen ++ e ∷ []) before now
 hits_more w p seen before out now e is (inl h) = record {
   hits = is.hits ++ e.0 ∷ [];
   is = h.1 ∙ ap (λ l. l ++ e.0 ∷ []) is.is ∙ append_assoc before is.hits (e.0 ∷ []);
@@ -130,7 +130,7 @@ between_in_range from to k h =
     ap (λ b. b && not (is_lt (interest_cmp to k))) e ∙ f
 
 -- the entries of a part of the map
-pub part_hits : (w : ℕ) (p : Network) (m : BTreeMap Interest (Option Network)) (now : Interests) (from to : Interest) (seen : List Kept) (before out : List Interest) → IsOrdered interest_cmp m → from_entries m.entries ≡ now
+pub part_hits : (w : ℕ) (p : AddressPrefix) (m : BTreeMap Interest (Option AddressPrefix)) (now : Interests) (from to : Interest) (seen : List Kept) (before out : List Interest) → IsOrdered interest_cmp m → from_entries m.entries ≡ now
     → seen ≡ entries_between interest_cmp (Included from) (Included to) m.entries → IsHitsOf w p seen before out → Appends w p (get now) (IsBetween from to) before out
 part_hits w p m now from to seen before out ordered view part is =
     let test : Interest → Bool = λ k. range_contains interest_cmp (Included from) (Included to) k in
@@ -149,7 +149,7 @@ part_hits w p m now from to seen before out ordered view part is =
     }
 
 -- a map without entries has no interest that a change could reach
-pub none_reached : (w : ℕ) (p : Network) (es : List Kept) (now : Interests) (out : List Interest) → from_entries es ≡ now → length es ≡ 0 → out ≡ [] → AreReached w p (get now) out
+pub none_reached : (w : ℕ) (p : AddressPrefix) (es : List Kept) (now : Interests) (out : List Interest) → from_entries es ≡ now → length es ≡ 0 → out ≡ [] → AreReached w p (get now) out
 unfolding IsStrictlySortedBy
 none_reached w p [] now out view none is = record {
   only = λ k h. absurd (let c : Contains [] k = subst (λ (l : List Interest). Contains l k) is h in omega (arith, c.1));
@@ -161,7 +161,7 @@ none_reached w p (e ∷ es) now out view none is = absurd (omega (arith, none))
 -- ---- subnets in order
 
 -- the one is the other or comes before it
-abbrev pub IsFrom : Network → Network → Type 0
+abbrev pub IsFrom : AddressPrefix → AddressPrefix → Type 0
 IsFrom p q = (p ≡ q) ⊎ ComesBefore p q
 
 then_le : (r s : Ordering) → is_gt (ordering_then r s) ≡ false → (r ≡ Equal) ⊎ (r ≡ Less)
@@ -180,7 +180,7 @@ from_order a b h = elim (then_le (prefix_cmp a.subnet b.subnet) (nat_cmp a.clien
   | inr l ↦ inr l
 ]
 
-order_itself : (p : Network) → prefix_cmp p p ≡ Equal
+order_itself : (p : AddressPrefix) → prefix_cmp p p ≡ Equal
 order_itself p = elim (cases_before p p) [
   | inl before ↦ absurd (not_itself p p before refl)
   | inr o ↦ grind (arith, nat_tests)
@@ -192,7 +192,7 @@ client_le a b le = grind (arith, nat_tests, le)
 pub order_from : (a b : Interest) → a.client ≤ b.client → IsFrom a.subnet b.subnet → IsLeBy interest_cmp a b
 order_from a b le h =
     le_then (prefix_cmp a.subnet b.subnet) (nat_cmp a.client b.client) (client_le a.client b.client le) (elim h [
-      | inl e ↦ inl (subst (λ (x : Network). prefix_cmp a.subnet x ≡ Equal) e (order_itself a.subnet))
+      | inl e ↦ inl (subst (λ (x : AddressPrefix). prefix_cmp a.subnet x ≡ Equal) e (order_itself a.subnet))
       | inr l ↦ inr l
     ])
 
@@ -200,26 +200,26 @@ pub order_before : (a b : Interest) → ComesBefore a.subnet b.subnet → intere
 order_before a b h = ap (λ o. ordering_then o (nat_cmp a.client b.client)) h
 
 -- of all clients the interests in the subnets from p to q
-abbrev pub first_of : Network → Interest
+abbrev pub first_of : AddressPrefix → Interest
 first_of p = record { subnet = p; client = 0 }
 
-abbrev pub last_of : Network → Interest
+abbrev pub last_of : AddressPrefix → Interest
 last_of q = record { subnet = q; client = 255 }
 
-between_subnets : (p q : Network) (k : Interest) → IsBetween (first_of p) (last_of q) k → IsFrom p k.subnet × IsFrom k.subnet q
+between_subnets : (p q : AddressPrefix) (k : Interest) → IsBetween (first_of p) (last_of q) k → IsFrom p k.subnet × IsFrom k.subnet q
 between_subnets p q k h = (from_order (first_of p) k h.0, from_order k (last_of q) h.1)
 
-subnets_between : (p q : Network) (k : Interest) → k.client < 256 → IsFrom p k.subnet → IsFrom k.subnet q → IsBetween (first_of p) (last_of q) k
+subnets_between : (p q : AddressPrefix) (k : Interest) → k.client < 256 → IsFrom p k.subnet → IsFrom k.subnet q → IsBetween (first_of p) (last_of q) k
 subnets_between p q k lt f t = (order_from (first_of p) k (omega arith) f, order_from k (last_of q) (omega arith) t)
 
-both_from : (p q : Network) → IsFrom p q → IsFrom q p → q ≡ p
+both_from : (p q : AddressPrefix) → IsFrom p q → IsFrom q p → q ≡ p
 both_from p q (inl e) b = sym e
 both_from p q (inr lt) (inl e) = e
 both_from p q (inr lt) (inr gt) = absurd (let a = before_address p q lt in let b = before_address q p gt in let e : p.address ≡ q.address = omega arith in let l = before_length p q lt e in let m = before_length q p gt (sym e) in omega arith)
 
 -- ---- which interests are chosen
 
-choose : (w : ℕ) (p : Network) (m : Interests) (P Q : Interest → Type 0) (before now : List Interest) → AreProper w m → ((k : Interest) → IsProper w k → P k → Q k) → ((k : Interest) → IsProper w k → Q k → P k) → Appends w p (get m) P before now → Appends w p (get m) Q before now
+choose : (w : ℕ) (p : AddressPrefix) (m : Interests) (P Q : Interest → Type 0) (before now : List Interest) → AreProper w m → ((k : Interest) → IsProper w k → P k → Q k) → ((k : Interest) → IsProper w k → Q k → P k) → Appends w p (get m) P before now → Appends w p (get m) Q before now
 choose w p m P Q before now proper onward back is = record {
   hits = is.hits;
   is = is.is;
@@ -229,14 +229,14 @@ choose w p m P Q before now proper onward back is = record {
 }
 
 -- those in one subnet
-pub at_subnet : (w : ℕ) (p s : Network) (m : Interests) (before now : List Interest) → AreProper w m → Appends w p (get m) (IsBetween (first_of s) (last_of s)) before now → Appends w p (get m) (λ k. k.subnet ≡ s) before now
+pub at_subnet : (w : ℕ) (p s : AddressPrefix) (m : Interests) (before now : List Interest) → AreProper w m → Appends w p (get m) (IsBetween (first_of s) (last_of s)) before now → Appends w p (get m) (λ k. k.subnet ≡ s) before now
 at_subnet w p s m before now proper is =
     choose w p m (IsBetween (first_of s) (last_of s)) (λ k. k.subnet ≡ s) before now proper
     (λ k _ h. let b = between_subnets s s k h in both_from s k.subnet b.0 b.1)
     (λ k ok e. subnets_between s s k ok.1 (inl (sym e)) (inl e)) is
 
 -- the last prefix that p covers, of all bits
-last_covered : (w : ℕ) (p : Network) (a : ℕ) (q : Network) → IsMasked w p → a + 1 ≡ behind w p → q ≡ block w a w → Covers w p q × (q.address ≡ a) × (q.length ≡ w)
+last_covered : (w : ℕ) (p : AddressPrefix) (a : ℕ) (q : AddressPrefix) → IsMasked w p → a + 1 ≡ behind w p → q ≡ block w a w → Covers w p q × (q.address ≡ a) × (q.length ≡ w)
 last_covered w p a q mp a_is q_is =
     let here : Holds w p a = record { from = omega (arith, size_pos w p.length); to = omega arith } in
     let c : Covers w p (block w a w) = nested w a p (block w a w) mp (block_masked w a w (omega arith)) mp.0 here (block_holds w a w) in
@@ -246,21 +246,21 @@ last_covered w p a q mp a_is q_is =
     let t : a < (block w a w).address + 2 ^ (w - w) = h.to in
     let u : a < (block w a w).address + 2 ^ 0 = subst (λ (n : ℕ). a < (block w a w).address + 2 ^ n) one t in
     let e : (block w a w).address ≡ a = omega arith in
-    (subst (λ (x : Network). Covers w p x) (sym q_is) c, ap (λ (x : Network). x.address) q_is ∙ e, ap (λ (x : Network). x.length) q_is)
+    (subst (λ (x : AddressPrefix). Covers w p x) (sym q_is) c, ap (λ (x : AddressPrefix). x.address) q_is ∙ e, ap (λ (x : AddressPrefix). x.length) q_is)
 
-covered_from : (w : ℕ) (p q : Network) → IsMasked w p → IsMasked w q → Covers w p q → IsFrom p q
+covered_from : (w : ℕ) (p q : AddressPrefix) → IsMasked w p → IsMasked w q → Covers w p q → IsFrom p q
 covered_from w p q mp mq c = inside w p.address p q mp mq c
 
 -- those in subnets that p covers
-pub within_subnets : (w : ℕ) (p q : Network) (a : ℕ) (m : Interests) (before now : List Interest) → IsMasked w p → a + 1 ≡ behind w p → q ≡ block w a w → AreProper w m
+pub within_subnets : (w : ℕ) (p q : AddressPrefix) (a : ℕ) (m : Interests) (before now : List Interest) → IsMasked w p → a + 1 ≡ behind w p → q ≡ block w a w → AreProper w m
     → Appends w p (get m) (IsBetween (first_of p) (last_of q)) before now → Appends w p (get m) (λ k. Covers w p k.subnet) before now
 within_subnets w p q a m before now mp a_is q_is proper is =
     let last = last_covered w p a q mp a_is q_is in
     choose w p m (IsBetween (first_of p) (last_of q)) (λ k. Covers w p k.subnet) before now proper
     (λ k ok h. let b = between_subnets p q k h in elim b.0 [
-      | inl same ↦ subst (λ (x : Network). Covers w p x) same (record { from = omega arith; to = omega arith })
+      | inl same ↦ subst (λ (x : AddressPrefix). Covers w p x) same (record { from = omega arith; to = omega arith })
       | inr after ↦ elim b.1 [
-        | inl end ↦ subst (λ (x : Network). Covers w p x) (sym end) last.0
+        | inl end ↦ subst (λ (x : AddressPrefix). Covers w p x) (sym end) last.0
         | inr before_last ↦ between w p k.subnet q mp ok.0 last.0 after before_last
       ]
     ])
@@ -282,27 +282,27 @@ within_subnets w p q a m before now mp a_is q_is proper is =
     ])) is
 
 -- the range is no empty one
-pub within_forward : (w : ℕ) (p q : Network) (a : ℕ) → IsMasked w p → a + 1 ≡ behind w p → q ≡ block w a w → IsLeBy interest_cmp (first_of p) (last_of q)
+pub within_forward : (w : ℕ) (p q : AddressPrefix) (a : ℕ) → IsMasked w p → a + 1 ≡ behind w p → q ≡ block w a w → IsLeBy interest_cmp (first_of p) (last_of q)
 within_forward w p q a mp a_is q_is =
     let last = last_covered w p a q mp a_is q_is in
-    order_from (first_of p) (last_of q) (omega arith) (covered_from w p q mp (subst (λ (x : Network). IsMasked w x) (sym q_is) (block_masked w a w (omega arith))) last.0)
+    order_from (first_of p) (last_of q) (omega arith) (covered_from w p q mp (subst (λ (x : AddressPrefix). IsMasked w x) (sym q_is) (block_masked w a w (omega arith))) last.0)
 
-pub at_forward : (s : Network) → IsLeBy interest_cmp (first_of s) (last_of s)
+pub at_forward : (s : AddressPrefix) → IsLeBy interest_cmp (first_of s) (last_of s)
 at_forward s = order_from (first_of s) (last_of s) (omega arith) (inl refl)
 
 -- ---- all that a change reaches
 
 -- in a subnet that covers p, with less than so many bits
-abbrev pub IsAbove : ℕ → Network → ℕ → Interest → Type 0
+abbrev pub IsAbove : ℕ → AddressPrefix → ℕ → Interest → Type 0
 IsAbove w p n k = Covers w k.subnet p × (k.subnet.length < n)
 
-own_address : (w : ℕ) (p : Network) → Holds w p p.address
+own_address : (w : ℕ) (p : AddressPrefix) → Holds w p p.address
 own_address w p = record { from = omega arith; to = omega (arith, size_pos w p.length) }
 
-block_covers : (w n : ℕ) (p : Network) → IsMasked w p → n ≤ p.length → Covers w (block w p.address n) p
+block_covers : (w n : ℕ) (p : AddressPrefix) → IsMasked w p → n ≤ p.length → Covers w (block w p.address n) p
 block_covers w n p mp le = let top = mp.0 in nested w p.address (block w p.address n) p (block_masked w p.address n (omega arith)) mp le (block_holds w p.address n) (own_address w p)
 
-earlier : (w : ℕ) (p q s : Network) → IsMasked w q → IsMasked w s → Covers w q p → Covers w s p → q.length < s.length → ComesBefore q s
+earlier : (w : ℕ) (p q s : AddressPrefix) → IsMasked w q → IsMasked w s → Covers w q p → Covers w s p → q.length < s.length → ComesBefore q s
 earlier w p q s mq ms cq cs lt =
     let around = nested w p.address q s mq ms (omega arith) (covers_holds w q p cq) (covers_holds w s p cs) in
     let f = around.from in
@@ -311,11 +311,11 @@ earlier w p q s mq ms cq cs lt =
       | inr le ↦ let e : q.address ≡ s.address = omega arith in before_by_length q s e lt
     ]
 
-pub above_first : (w : ℕ) (p : Network) (m : Interests) → Appends w p (get m) (IsAbove w p 0) [] []
+pub above_first : (w : ℕ) (p : AddressPrefix) (m : Interests) → Appends w p (get m) (IsAbove w p 0) [] []
 unfolding IsStrictlySortedBy
 above_first w p m = record { hits = []; is = refl; sorted = tt; only = λ k h. absurd (omega (arith, h.1)); all = λ k f e hit a. let lt = a.1 in absurd (omega arith) }
 
-pub above_more : (w n : ℕ) (p : Network) (m : Interests) (out now : List Interest) → IsMasked w p → n < p.length → AreProper w m
+pub above_more : (w n : ℕ) (p : AddressPrefix) (m : Interests) (out now : List Interest) → IsMasked w p → n < p.length → AreProper w m
     → Appends w p (get m) (IsAbove w p n) [] out → Appends w p (get m) (λ k. k.subnet ≡ block w p.address n) out now → Appends w p (get m) (IsAbove w p (n + 1)) [] now
 above_more w n p m out now mp lt proper a b =
     let s = block w p.address n in
@@ -328,10 +328,10 @@ above_more w n p m out now mp lt proper a b =
       sorted = sorted_append interest_cmp a.hits b.hits a.sorted b.sorted (λ x y hx hy.
           let ox = a.only x hx in
           let oy = b.only y hy in
-          order_before x y (subst (λ (z : Network). ComesBefore x.subnet z) (sym oy.3) (earlier w p x.subnet s (proper x ox.0 ox.1).0 ms ox.3.0 cs ox.3.1)));
+          order_before x y (subst (λ (z : AddressPrefix). ComesBefore x.subnet z) (sym oy.3) (earlier w p x.subnet s (proper x ox.0 ox.1).0 ms ox.3.0 cs ox.3.1)));
       only = λ k c. elim (Contains-append_cases a.hits b.hits k c) [
         | inl old ↦ let o = a.only k old in let short = o.3.1 in (o.0, o.1, o.2, (o.3.0, omega arith))
-        | inr new ↦ let o = b.only k new in (o.0, o.1, o.2, (subst (λ (z : Network). Covers w z p) (sym o.3) cs, let l : k.subnet.length ≡ n = ap (λ (z : Network). z.length) o.3 in omega arith))
+        | inr new ↦ let o = b.only k new in (o.0, o.1, o.2, (subst (λ (z : AddressPrefix). Covers w z p) (sym o.3) cs, let l : k.subnet.length ≡ n = ap (λ (z : AddressPrefix). z.length) o.3 in omega arith))
       ];
       all = λ k f e hit chosen. let short = chosen.1 in elim (cases_eq k.subnet.length n) [
         | inl l ↦ Contains-append_right a.hits b.hits k (b.all k f e hit (block_is w p.address k.subnet (proper k f e).0 (covers_holds w k.subnet p chosen.0) ∙ ap (block w p.address) l))
@@ -339,7 +339,7 @@ above_more w n p m out now mp lt proper a b =
       ];
     }
 
-pub above_all : (w n : ℕ) (p : Network) (m : Interests) (out now : List Interest) → IsMasked w p → n ≡ p.length → AreProper w m
+pub above_all : (w n : ℕ) (p : AddressPrefix) (m : Interests) (out now : List Interest) → IsMasked w p → n ≡ p.length → AreProper w m
     → Appends w p (get m) (IsAbove w p n) [] out → Appends w p (get m) (λ k. Covers w p k.subnet) out now → AreReached w p (get m) now
 above_all w n p m out now mp n_is proper a b =
     let now_is : now ≡ a.hits ++ b.hits = b.is ∙ ap (λ l. l ++ b.hits) a.is in
@@ -357,7 +357,7 @@ above_all w n p m out now mp n_is proper a b =
                   let le = covers_length w k.subnet p ok around in
                   let l : k.subnet.length ≡ p.length = omega arith in
                   let same = same_from_covers w k.subnet p around l in
-                  Contains-append_right a.hits b.hits k (b.all k f e hit (subst (λ (x : Network). Covers w p x) (sym same) (record { from = omega arith; to = omega arith })))
+                  Contains-append_right a.hits b.hits k (b.all k f e hit (subst (λ (x : AddressPrefix). Covers w p x) (sym same) (record { from = omega arith; to = omega arith })))
             ]
             | inr c ↦ Contains-append_right a.hits b.hits k (b.all k f e hit c)
           ]);

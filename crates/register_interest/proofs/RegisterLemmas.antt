@@ -1,7 +1,7 @@
 -- What a register keeps.
 use Rattle.std.proofs.Common.{◌≡◌, ℕ, ◌<◌, cond, List, [], ◌∷◌, sym, ap, ◌∙◌, subst, Option, Some, None}
 use Rattle.std.specs.FinMap.{FinMap, empty, get, insert, remove, get-insert, get-remove, get-empty}
-use Rattle.addr4.specs.Prefixes.{Network, prefix_cmp, IsMasked}
+use Rattle.addr4.specs.Prefixes.{AddressPrefix, prefix_cmp, IsMasked}
 use Rattle.link_change.specs.Rows.{Rows, with_row}
 use Rattle.link_change.proofs.RowLemmas.{rows_inserted, rows_removed}
 use Rattle.link_change.proofs.MapLemmas.{by_key}
@@ -13,22 +13,22 @@ use Rattle.register_interest.specs.Registers.{AllStand, KeepsAnswers, put_row}
 use Rattle.register_interest.proofs.CoverLemmas.{cover_stands, not_hit, still_stands}
 use Rattle.register_interest.proofs.InterestLemmas.{interests_total, exact_interests, without_listed}
 
-removed_some : (m : Interests) (k q : Interest) (f : Option Network) → get (remove m k) q ≡ Some f → get m q ≡ Some f
+removed_some : (m : Interests) (k q : Interest) (f : Option AddressPrefix) → get (remove m k) q ≡ Some f → get m q ≡ Some f
 removed_some m k q f e =
     by_key interests_total exact_interests q k (λ b. cond b None (get m q) ≡ Some f → get m q ≡ Some f)
     (λ _ n. let clash : None ≡ Some f = n in cc) (λ _ n. n) (sym (get-remove interests_total m k q) ∙ e)
 
 -- what is left was there
-without_some : (m : Interests) (ks : List Interest) (q : Interest) (f : Option Network) → get (without m ks) q ≡ Some f → get m q ≡ Some f
+without_some : (m : Interests) (ks : List Interest) (q : Interest) (f : Option AddressPrefix) → get (without m ks) q ≡ Some f → get m q ≡ Some f
 without_some m [] q f e = e
 without_some m (k ∷ ks) q f e = removed_some m k q f (without_some (remove m k) ks q f e)
 
 -- an interest that is left wasn't reached
-left_out : (p : Network) (m : Interests) (out : List Interest) (k : Interest) (f : Option Network) → AreReached width p (get m) out → get (without m out) k ≡ Some f → IsHit width p k.subnet f → ⊥
+left_out : (p : AddressPrefix) (m : Interests) (out : List Interest) (k : Interest) (f : Option AddressPrefix) → AreReached width p (get m) out → get (without m out) k ≡ Some f → IsHit width p k.subnet f → ⊥
 left_out p m out k f is e hit = let clash : None ≡ Some f = sym (without_listed m out k (is.all k f (without_some m out k f e) hit)) ∙ e in cc
 
 module _ {R : Type 0} where
-  rows_put : (m : FinMap prefix_cmp R) (p : Network) (new : Option R) → get (put_row m p new) ≡ with_row (get m) p new
+  rows_put : (m : FinMap prefix_cmp R) (p : AddressPrefix) (new : Option R) → get (put_row m p new) ≡ with_row (get m) p new
   rows_put m p None = rows_removed m p
   rows_put m p (Some v) = rows_inserted m p v
 
@@ -38,23 +38,23 @@ module _ {R : Type 0} where
   pub removed_stands : (rows : FinMap prefix_cmp R) (m : Interests) (k : Interest) → AllStand (record { rows = rows; interests = m }) → AllStand (record { rows = rows; interests = remove m k })
   removed_stands rows m k all = λ q f e. all q f (removed_some m k q f e)
 
-  pub added_stands : (rows : FinMap prefix_cmp R) (m : Interests) (k : Interest) (a : ℕ) (r : Option (Network × R)) → k.client < 256 → AllStand (record { rows = rows; interests = m }) → IsCover width (get rows) a r k.subnet → AllStand (record { rows = rows; interests = insert m k (matched r) })
+  pub added_stands : (rows : FinMap prefix_cmp R) (m : Interests) (k : Interest) (a : ℕ) (r : Option (AddressPrefix × R)) → k.client < 256 → AllStand (record { rows = rows; interests = m }) → IsCover width (get rows) a r k.subnet → AllStand (record { rows = rows; interests = insert m k (matched r) })
   added_stands rows m k a r octet all is = λ q f e.
       by_key interests_total exact_interests q k (λ b. cond b (Some (matched r)) (get m q) ≡ Some f → IsProper width q × Stands width (get rows) q.subnet f)
       (λ same here.
       let f_is : matched r ≡ f = cc in
       let stands : Stands width (get rows) k.subnet (matched r) = cover_stands width (get rows) a r k.subnet is in
-      (subst (λ (x : Interest). IsProper width x) (sym same) (is.subnet.masked, octet), subst (λ (x : Interest). Stands width (get rows) x.subnet f) (sym same) (subst (λ (x : Option Network). Stands width (get rows) k.subnet x) f_is stands)))
+      (subst (λ (x : Interest). IsProper width x) (sym same) (is.subnet.masked, octet), subst (λ (x : Interest). Stands width (get rows) x.subnet f) (sym same) (subst (λ (x : Option AddressPrefix). Stands width (get rows) k.subnet x) f_is stands)))
       (λ _ old. all q f old)
       (sym (get-insert interests_total m k (matched r) q) ∙ e)
 
-  pub changed_keeps : (rows : FinMap prefix_cmp R) (m : Interests) (p : Network) (new : Option R) (out : List Interest) → IsMasked width p → AllStand (record { rows = rows; interests = m }) → AreReached width p (get m) out → KeepsAnswers (record { rows = rows; interests = m }) (record { rows = put_row rows p new; interests = without m out })
+  pub changed_keeps : (rows : FinMap prefix_cmp R) (m : Interests) (p : AddressPrefix) (new : Option R) (out : List Interest) → IsMasked width p → AllStand (record { rows = rows; interests = m }) → AreReached width p (get m) out → KeepsAnswers (record { rows = rows; interests = m }) (record { rows = put_row rows p new; interests = without m out })
   changed_keeps rows m p new out mp all is = λ k f e.
       let was = without_some m out k f e in
       let stood = all k f was in
       (was, λ a ha. ap (λ (r : Rows R). longest width r a) (rows_put rows p new) ∙ not_hit width (get rows) p new k.subnet f mp stood.0.0 stood.1 (left_out p m out k f is e) a ha)
 
-  pub changed_stands : (rows : FinMap prefix_cmp R) (m : Interests) (p : Network) (new : Option R) (out : List Interest) → IsMasked width p → AllStand (record { rows = rows; interests = m }) → AreReached width p (get m) out → AllStand (record { rows = put_row rows p new; interests = without m out })
+  pub changed_stands : (rows : FinMap prefix_cmp R) (m : Interests) (p : AddressPrefix) (new : Option R) (out : List Interest) → IsMasked width p → AllStand (record { rows = rows; interests = m }) → AreReached width p (get m) out → AllStand (record { rows = put_row rows p new; interests = without m out })
   changed_stands rows m p new out mp all is = λ k f e.
       let stood = all k f (without_some m out k f e) in
       (stood.0, subst (λ (r : Rows R). Stands width r k.subnet f) (sym (rows_put rows p new)) (still_stands width (get rows) p new k.subnet f mp stood.0.0 stood.1 (left_out p m out k f is e)))

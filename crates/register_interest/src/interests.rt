@@ -31,12 +31,12 @@ pub(crate) struct Interests {
 impl Model for Interests {
     ghost use Rattle.std.specs.FinMap as map;
     ghost use Rattle.std.specs.Coded.{coded_option};
-    ghost use Rattle.addr4.specs.Prefixes.{network_code};
+    ghost use Rattle.addr4.specs.Prefixes.{address_prefix_code};
     ghost use Rattle.register_interest.specs.Interests.{Interests, interest_code};
 
     ghost Value = { Interests };
 
-    ghost coded = { map.code interest_code (coded_option network_code) };
+    ghost coded = { map.code interest_code (coded_option address_prefix_code) };
 
     ghost view = { λ a. map.from_entries a.kept.entries };
 }

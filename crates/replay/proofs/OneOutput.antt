@@ -1,7 +1,7 @@
 -- For each text exactly one output is allowed.
 use Rattle.std.proofs.Common.{◌≡◌, ℕ, ◌+◌, ◌-◌, sym, ap, subst, ◌∙◌, List, [], ◌∷◌, ◌++◌, take, length, Option, Some, None, Result, Ok}
 use Rattle.std.proofs.lemmas.Option.{some_pair_parts}
-use Rattle.addr4.specs.Prefixes.{Network}
+use Rattle.addr4.specs.Prefixes.{AddressPrefix}
 use Rattle.link_change.specs.Rows.{Rows}
 use Rattle.journal_check.specs.Laws.{OneAnswer}
 use Rattle.journal_text.specs.declared.line.Code.{Code}
@@ -77,7 +77,7 @@ module _ (block : BlockIsOne) (stands : FirstStands) where
   module _ (listing : ListingIsOne) where
     total_is_one : (link : Link) (rows : Option (Rows Value)) (one other : List ℕ) → IsTotal link rows one → IsTotal link rows other → one ≡ other
     total_is_one link None one other f g = f ∙ sym g
-    total_is_one link (Some rows) one other f g = f.3 ∙ ap (λ (l : List (Network × Value)). rows_line link (length l)) (listing rows f.0 g.0 f.1 g.1) ∙ sym g.3
+    total_is_one link (Some rows) one other f g = f.3 ∙ ap (λ (l : List (AddressPrefix × Value)). rows_line link (length l)) (listing rows f.0 g.0 f.1 g.1) ∙ sym g.3
 
     links_are_one : (m : Moment) (links : List Link) (one other : List ℕ) → AreTotalsOf m links one → AreTotalsOf m links other → one ≡ other
     links_are_one m [] one other f g = f ∙ sym g

@@ -3,7 +3,7 @@ use Rattle.std.proofs.Common.{◌≡◌, ℕ, ◌+◌, not, Bool, List, [], ◌�
 use Rattle.std.proofs.lemmas.List.{append-nil}
 use Rattle.std.specs.FinMap as tables
 use Rattle.std.specs.FinMap.{get-empty}
-use Rattle.addr4.specs.Prefixes.{Network, prefix_cmp}
+use Rattle.addr4.specs.Prefixes.{AddressPrefix, prefix_cmp}
 use Rattle.bgp_attr.specs.declared.attrs.Attrs.{Attrs}
 use Rattle.bgp_attr.specs.declared.speaker.Neighbour.{Neighbour}
 use Rattle.bgp_attr.specs.declared.speaker.Profile.{Profile}
@@ -49,7 +49,7 @@ exit_of (Some me) policies j None p c there is = absurd is
 exit_of (Some me) policies j (Some q) p c there is = let same : q ≡ p = (let both : Some q ≡ Some p = there in cc) in subst (λ (x : DeclaredPeer). IsExitOfPeer x c) same (record { session = is.session; words = is.words })
 
 -- the exit of a peer that has a route
-with_row : (o : Option OutChained) (p : Network) (attrs : Attrs) → tables.get (sent_by o) p ≡ Some attrs → (c : OutChained) × (o ≡ Some c)
+with_row : (o : Option OutChained) (p : AddressPrefix) (attrs : Attrs) → tables.get (sent_by o) p ≡ Some attrs → (c : OutChained) × (o ≡ Some c)
 with_row None p attrs is = absurd (let none : tables.get (sent_by None) p ≡ None = get-empty prefix_cmp p in let clash : Some attrs ≡ None = sym is ∙ none in cc)
 with_row (Some c) p attrs is = (c, refl)
 

@@ -1,7 +1,7 @@
 -- What peers of a route reflector are told (RFC 4456).
 use Rattle.std.specs.Prelude.{◌≡◌, ℕ, true, List, Some}
 use Rattle.std.specs.FinMap as tables
-use Rattle.addr4.specs.Prefixes.{Network}
+use Rattle.addr4.specs.Prefixes.{AddressPrefix}
 use Rattle.bgp_attr.specs.declared.attrs.Attrs.{Attrs}
 use Rattle.bgp_attr.specs.declared.speaker.Speaker.{Speaker}
 use Rattle.journal_text.specs.declared.line.Line.{Line}
@@ -22,4 +22,4 @@ ReflectedRoutesAreMarked =
     (lines : List (List ℕ)) (out : List Line) (m : Moment) → Run 1 first_moment lines out m
     → (n : ℕ) (line : List ℕ) (said : List Line) (next : Moment) → (step : Step n m line said next) → step.event ≡ Idle
     → (me : Speaker) (j : ℕ) (to : DeclaredPeer) → next.declared.speaker ≡ Some me → peer_at j next.declared.peers ≡ Some to → to.up ≡ true
-    → (p : Network) (sent : Attrs) → tables.get (views_of next.exits j) p ≡ Some sent → IsBestAsSent (live_state next) me to.words p sent
+    → (p : AddressPrefix) (sent : Attrs) → tables.get (views_of next.exits j) p ≡ Some sent → IsBestAsSent (live_state next) me to.words p sent

@@ -1,7 +1,7 @@
 -- What a peer is told that asks for all routes again (RFC 2918).
 use Rattle.std.specs.Prelude.{◌≡◌, ℕ, ◌+◌, not, false, List, Some}
 use Rattle.std.specs.FinMap as tables
-use Rattle.addr4.specs.Prefixes.{Network}
+use Rattle.addr4.specs.Prefixes.{AddressPrefix}
 use Rattle.bgp_attr.specs.declared.attrs.Attrs.{Attrs}
 use Rattle.journal_text.specs.declared.line.Line.{Line}
 use Rattle.journal_text.specs.declared.link.Task.TheVariants.{Ref}
@@ -36,7 +36,7 @@ pub record SinceRefresh (k : ℕ) (out : List Line) (end : Moment) : Type 0 wher
 abbrev pub RefreshesAreServed : Type 0
 RefreshesAreServed =
     (k : ℕ) (out : List Line) (end : Moment) → (since : SinceRefresh k out end) → has_work (Ref k) end ≡ false
-    → (p : Network) (attrs : Attrs) → tables.get (views_of end.exits k) p ≡ Some attrs
+    → (p : AddressPrefix) (attrs : Attrs) → tables.get (views_of end.exits k) p ≡ Some attrs
     → IsAnnounced end.declared.profile (not since.peer.words.internal) k out p attrs
 
 -- After an idle it has none.

@@ -1,7 +1,7 @@
 -- What `gen` writes behind its run: how many turns its events took, and how many rows some links then have.
 use Rattle.std.specs.Prelude.{◌≡◌, ℕ, ◌^◌, ◌<◌, Bool, true, false, List, [], ◌∷◌, ◌++◌, length, Option, Some, None, codes, ◌⊎◌}
 use Rattle.std.specs.Fmt.{decimal}
-use Rattle.addr4.specs.Prefixes.{Network}
+use Rattle.addr4.specs.Prefixes.{AddressPrefix}
 use Rattle.link_change.specs.Rows.{Rows}
 use Rattle.journal_text.specs.declared.link.Link.{Link}
 use Rattle.journal_text.specs.declared.link.Link.TheVariants.{In, Best, Fib, Adv}
@@ -29,7 +29,7 @@ Adds P before now = (more : List ℕ) × P more × (now ≡ before ++ more)
 -- the line of a link, where it is live
 abbrev pub IsTotal : Link → Option (Rows Value) → List ℕ → Type 0
 IsTotal link None bytes = bytes ≡ []
-IsTotal link (Some rows) bytes = (listed : List (Network × Value)) × AreRows rows listed × (length listed < 2 ^ 128) × (bytes ≡ rows_line link (length listed))
+IsTotal link (Some rows) bytes = (listed : List (AddressPrefix × Value)) × AreRows rows listed × (length listed < 2 ^ 128) × (bytes ≡ rows_line link (length listed))
 
 -- the lines of links, those of them that are live
 abbrev pub AreTotalsOf : Moment → List Link → List ℕ → Type 0

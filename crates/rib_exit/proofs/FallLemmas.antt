@@ -3,7 +3,7 @@ use Rattle.std.proofs.Common.{◌≡◌, ◌⊎◌, ℕ, List, [], ◌++◌, Opt
 use Rattle.std.specs.Option.{option_or}
 use Rattle.std.specs.FinMap as map
 use Rattle.std.specs.FinMap.{FinMap}
-use Rattle.addr4.specs.Prefixes.{Network, prefix_cmp}
+use Rattle.addr4.specs.Prefixes.{AddressPrefix, prefix_cmp}
 use Rattle.bgp_attr.specs.declared.route.Route.{Route}
 use Rattle.link_change.specs.Rows.{Rows}
 use Rattle.link_change.specs.Changes.{IsSent}
@@ -52,7 +52,7 @@ else_none None = refl
 else_none (Some x) = refl
 
 -- the row of the other link, as it is looked up
-pub row_lent : (s : Splitter) (link side : BgpLink) (m : FinMap prefix_cmp External) (p : Network) (row : Option External) → row ≡ map.get m p → m ≡ table_of s side → side ≡ other link
+pub row_lent : (s : Splitter) (link side : BgpLink) (m : FinMap prefix_cmp External) (p : AddressPrefix) (row : Option External) → row ≡ map.get m p → m ≡ table_of s side → side ≡ other link
     → row ≡ kept_rows s (other link) p
 row_lent s link side m p row at is on = at ∙ ap (λ (t : FinMap prefix_cmp External). map.get t p) (is ∙ ap (table_of s) on)
 
@@ -61,7 +61,7 @@ keeps_same : (was : Registry Interior) (s : Resolving Way) → Keeps (told_of wa
 keeps_same was s = record { client = refl; walk = refl; hops = λ a h at. inl at }
 
 -- the same, over the rows of the two links
-pub record FallsOver (p : Network) (int : Rows Interior) (split : Split) (first second : Caused) (was : Registry Interior) (hops hops' : Resolving Way) (entries : List (Entry Value)) (rows now : Parted) : Type 0 where
+pub record FallsOver (p : AddressPrefix) (int : Rows Interior) (split : Split) (first second : Caused) (was : Registry Interior) (hops hops' : Resolving Way) (entries : List (Entry Value)) (rows now : Parted) : Type 0 where
   pub causes : CausesOn p split first.ext second.ext rows now
   pub ext : IsSent (merged_links rows) (merged_links now) p (option_or first.ext second.ext)
   pub fib : IsSent (fib_table hops int (merged_links rows)) (fib_table hops' int (merged_links now)) p (option_or first.fib second.fib)
@@ -73,7 +73,7 @@ pub record FallsOver (p : Network) (int : Rows Interior) (split : Split) (first 
   pub counted : AreCounted (named_by external_hop (merged_links now)) hops'.counts
 
 -- ---- neither link changes
-pub falls_nowhere : (p : Network) (int : Rows Interior) (was : Registry Interior) (hops : Resolving Way) (rows now : Parted) → now ≡ rows → AreCounted (named_by external_hop (merged_links rows)) hops.counts
+pub falls_nowhere : (p : AddressPrefix) (int : Rows Interior) (was : Registry Interior) (hops : Resolving Way) (rows now : Parted) → now ≡ rows → AreCounted (named_by external_hop (merged_links rows)) hops.counts
     → FallsOver p int Neither nothing_caused nothing_caused was hops hops [] rows now
 falls_nowhere p int was hops rows now same counted = record {
   causes = (refl, refl);
@@ -88,7 +88,7 @@ falls_nowhere p int was hops rows now same counted = record {
 }
 
 -- ---- one does
-pub falls_one : (p : Network) (int : Rows Interior) (was : Registry Interior) (hops hops' : Resolving Way) (link : BgpLink) (change : Change External) (row : Option External)
+pub falls_one : (p : AddressPrefix) (int : Rows Interior) (was : Registry Interior) (hops hops' : Resolving Way) (link : BgpLink) (change : Change External) (row : Option External)
     (sent : Option (Change FibRow)) (entries : List (Entry Value)) (d : PassesDown link change row int was hops hops' sent entries) (rows now : Parted) → IsSentOn link rows now p change
     → rows (other link) change.prefix ≡ row → AreCounted (named_by external_hop (merged_links rows)) hops.counts
     → FallsOver p int (One link change) d.caused nothing_caused was hops hops' entries rows now
@@ -111,7 +111,7 @@ back_to : (link : BgpLink) → other (other link) ≡ link
 back_to sides.Ebgp = refl
 back_to sides.Ibgp = refl
 
-module _ (p : Network) (int : Rows Interior) (was : Registry Interior) (hops hops' : Resolving Way) (link : BgpLink) (add delete : Change External) (sent : Option (Change FibRow))
+module _ (p : AddressPrefix) (int : Rows Interior) (was : Registry Interior) (hops hops' : Resolving Way) (link : BgpLink) (add delete : Change External) (sent : Option (Change FibRow))
     (entries : List (Entry Value)) (d : PassesBoth link add delete int was hops hops' sent entries) (best now : Rows Route) (m : Moves link (split_rows best) (split_rows now) p add delete)
     (counted : AreCounted (named_by external_hop (merged_links (split_rows best))) hops.counts) where
   abbrev rows : Parted
@@ -222,7 +222,7 @@ module _ (int : Rows Interior) (was is : Registry Interior) (e : RibExit) (s' : 
     stands = stand;
   }
 
-  falls_on : (p : Network) (split : Split) (first second : Caused) (entries : List (Entry Value)) (best now : Rows Route) → Splits (split_rows best) (split_rows now) p split
+  falls_on : (p : AddressPrefix) (split : Split) (first second : Caused) (entries : List (Entry Value)) (best now : Rows Route) → Splits (split_rows best) (split_rows now) p split
       → kept_rows e.splitter ≡ split_rows best → kept_rows s' ≡ split_rows now → FallsOver p int split first second was e.forwarding hops' entries (split_rows best) (split_rows now)
       → FallsOn p int split first second was e e' entries best now
   falls_on p split first second entries best now splits had has over =

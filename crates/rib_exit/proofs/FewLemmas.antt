@@ -1,7 +1,7 @@
 -- The rows of `ebgp` and `ibgp` are no more than the routes of peers that were read, and the known next hops no more than the rows of
 -- `ext` that name them.
 use Rattle.std.proofs.Common.{◌≡◌, not, Bool, true, false, cond, Option, Some, None, is_some, IsSome, refl, sym, ap, ◌∙◌}
-use Rattle.addr4.specs.Prefixes.{Network}
+use Rattle.addr4.specs.Prefixes.{AddressPrefix}
 use Rattle.addr4.proofs.PrefixOrder.{prefixes_total, exact_prefixes}
 use Rattle.bgp_attr.specs.declared.route.Route.{Route}
 use Rattle.link_change.specs.Rows.{Rows}
@@ -30,7 +30,7 @@ of_row side None there = there
 of_row side (Some r) there = refl
 
 module _ (e : RibExit) (best : Rows Route) (stands : StandsOver best e) where
-  side_there : (side : BgpLink) (q : Network) → IsSome (kept_rows e.splitter side q) → IsSome (on_link side (external_row (best q)))
+  side_there : (side : BgpLink) (q : AddressPrefix) → IsSome (kept_rows e.splitter side q) → IsSome (on_link side (external_row (best q)))
   side_there side q there = ap (λ (rows : Parted). is_some (rows side q)) (sym stands.links) ∙ there
 
 pub rows_are_few : RowsAreFew

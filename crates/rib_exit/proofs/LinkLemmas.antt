@@ -1,6 +1,6 @@
 -- The four links beside others, set one after the other.
 use Rattle.std.proofs.Common.{◌≡◌, Option, Some, refl, sym, ap, subst}
-use Rattle.addr4.specs.Prefixes.{Network}
+use Rattle.addr4.specs.Prefixes.{AddressPrefix}
 use Rattle.link_change.specs.Rows.{Rows}
 use Rattle.link_change.specs.Changes.{IsSent}
 use Rattle.link_change.specs.declared.change.Change.{Change}
@@ -37,7 +37,7 @@ set_fib others rows hops hops' int int' = same_function _ _ each
     each other = refl
 
 -- what comes out on `fib` leads on
-pub fib_leads : (others : Links Value) (rows : Parted) (hops hops' : Resolving Way) (int int' : Rows Interior) (p : Network) (sent : Option (Change FibRow))
+pub fib_leads : (others : Links Value) (rows : Parted) (hops hops' : Resolving Way) (int int' : Rows Interior) (p : AddressPrefix) (sent : Option (Change FibRow))
     → IsSent (fib_table hops int (merged_links rows)) (fib_table hops' int' (merged_links rows)) p sent
     → Leads (beside others (links_of rows hops int)) (sent_entries fib_value Fib sent) (beside others (links_of rows hops' int'))
 fib_leads others rows hops hops' int int' p sent is =
@@ -88,7 +88,7 @@ module _ (others : Links Value) (rows now : Parted) (hops hops' : Resolving Way)
       each Fib = refl
       each other = refl
 
-  pub part_leads : (link : BgpLink) (p : Network) (change : Change External) (caused : Caused) → IsSentOn link rows now p change
+  pub part_leads : (link : BgpLink) (p : AddressPrefix) (change : Change External) (caused : Caused) → IsSentOn link rows now p change
       → IsSent (merged_links rows) (merged_links now) p caused.ext → IsSent (fib_table hops int (merged_links rows)) (fib_table hops' int (merged_links now)) p caused.fib
       → Leads first (part_entries link change caused) (beside others (links_of now hops' int))
   part_leads link p change caused is ext fib =

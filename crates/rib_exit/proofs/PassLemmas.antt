@@ -3,7 +3,7 @@ use Rattle.std.proofs.Common.{◌≡◌, List, ◌++◌, Option, Some, None, ref
 use Rattle.std.proofs.lemmas.List.{append-nil}
 use Rattle.std.specs.Option.{option_or}
 use Rattle.std.specs.FinMap as map
-use Rattle.addr4.specs.Prefixes.{Network}
+use Rattle.addr4.specs.Prefixes.{AddressPrefix}
 use Rattle.link_change.specs.Rows.{Rows}
 use Rattle.link_change.specs.Changes.{IsSent}
 use Rattle.link_change.specs.declared.change.Change.{Change}
@@ -39,13 +39,13 @@ use Rattle.rib_exit.specs.Steps.{LeadsExit}
 use Rattle.rib_exit.proofs.LinkLemmas.{part_leads}
 
 -- nothing is sent where the rows stay
-pub none_sent : {R : Type 0} (old new : Rows R) (p : Network) (sent : Option (Change R)) → new ≡ old → IsSent old new p sent → sent ≡ None
+pub none_sent : {R : Type 0} (old new : Rows R) (p : AddressPrefix) (sent : Option (Change R)) → new ≡ old → IsSent old new p sent → sent ≡ None
 none_sent old new p None same is = refl
 none_sent {R} old new p (Some change) same is =
     absurd (is.1.1 (sym (with_row_here old change.prefix change.after) ∙ ap (λ (r : Rows R). r change.prefix) (sym is.2) ∙ ap (λ (r : Rows R). r change.prefix) same ∙ is.1.0))
 
 -- the merge, where one link changes
-pub merged_by : (link : BgpLink) (old new : Parted) (p : Network) (change : Change External) (row : Option External) (result : Option (Change External))
+pub merged_by : (link : BgpLink) (old new : Parted) (p : AddressPrefix) (change : Change External) (row : Option External) (result : Option (Change External))
     → MergesOn external_distance (side_of link) change row result → IsSentOn link old new p change → old (other link) change.prefix ≡ row
     → IsSent (merged_links old) (merged_links new) p result
 merged_by sides.Ebgp old new p change row result merges is at =
@@ -57,7 +57,7 @@ merged_by sides.Ibgp old new p change row result merges is at =
 
 module _ (int : Rows Interior) (was : Registry Interior) (old new : Resolving Way) where
   -- what a change of `ext` makes, or that none comes
-  caused_over : (rows now : Rows External) (p : Network) (ext : Option (Change External)) (fib : Option (Change FibRow)) → AreCounted (named_by external_hop rows) old.counts
+  caused_over : (rows now : Rows External) (p : AddressPrefix) (ext : Option (Change External)) (fib : Option (Change FibRow)) → AreCounted (named_by external_hop rows) old.counts
       → IsSent rows now p ext → TakesCaused int was old new ext fib → TakesOver int old new rows now p fib
   caused_over rows now p None fib counted same kept = record {
     counted = subst (λ (r : Rows External). AreCounted (named_by external_hop r) new.counts) (sym same)
@@ -84,7 +84,7 @@ module _ (int : Rows Interior) (was : Registry Interior) (old new : Resolving Wa
   caused_same (Some change) fib takes none = absurd (let clash : Some change ≡ None = none in cc)
 
   module _ (link : BgpLink) (change : Change External) (row : Option External) (sent : Option (Change FibRow)) (entries : List (Entry Value))
-      (d : PassesDown link change row int was old new sent entries) (rows now : Parted) (p : Network) (is : IsSentOn link rows now p change)
+      (d : PassesDown link change row int was old new sent entries) (rows now : Parted) (p : AddressPrefix) (is : IsSentOn link rows now p change)
       (at : rows (other link) change.prefix ≡ row) (counted : AreCounted (named_by external_hop (merged_links rows)) old.counts) where
     pub passed_ext : IsSent (merged_links rows) (merged_links now) p d.caused.ext
     passed_ext = merged_by link rows now p change row d.caused.ext d.merges is at

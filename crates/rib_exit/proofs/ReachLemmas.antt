@@ -1,7 +1,7 @@
 -- Interests that the register gave up, and the answers that came with them.
 use Rattle.std.proofs.Common.{◌≡◌, ◌++◌, Bool, true, false, List, [], ◌∷◌, Some, MatchBool, nat_eq, refl, sym, ap, subst, ◌∙◌, arith}
 use Rattle.std.proofs.lemmas.Bool.Decides.{nat_tests}
-use Rattle.addr4.specs.Prefixes.{Network}
+use Rattle.addr4.specs.Prefixes.{AddressPrefix}
 use Rattle.link_change.specs.Rows.{Rows}
 use Rattle.link_change.proofs.RowLemmas.{same_function}
 use Rattle.rib_route.specs.declared.rows.Interior.{Interior}
@@ -54,7 +54,7 @@ module _ (out : List Interest) (e : RibExit) (hops' : Resolving Way) (r : IsReac
 own_told : (i : Interest) (old new : Resolving Way) → i.client ≡ 0 → Invalidates i.subnet old new → IsReachedBy i 0 old new
 own_told i old new own is = subst (λ (b : Bool). MatchBool b (Invalidates i.subnet old new) (new ≡ old)) (let e : nat_eq i.client 0 ≡ true = grind (arith, nat_tests, own) in sym e) is
 
-pub stales : (s : Network) (e : RibExit) (hops' : Resolving Way) → IsExit e → Invalidates s e.forwarding hops' → AreNamed hops'.counts hops'.known
+pub stales : (s : AddressPrefix) (e : RibExit) (hops' : Resolving Way) → IsExit e → Invalidates s e.forwarding hops' → AreNamed hops'.counts hops'.known
     → Stales s e (record { splitter = e.splitter; forwarding = hops' })
 stales s e hops' sound stale named =
     let i : Interest = record { subnet = s; client = 0 } in

@@ -2,7 +2,7 @@
 use Rattle.std.proofs.Common.{◌≡◌, Option, Some, None, refl, sym, ap, subst, ◌∙◌}
 use Rattle.std.specs.FinMap as map
 use Rattle.std.specs.FinMap.{FinMap}
-use Rattle.addr4.specs.Prefixes.{Network, prefix_cmp}
+use Rattle.addr4.specs.Prefixes.{AddressPrefix, prefix_cmp}
 use Rattle.link_change.specs.Rows.{Rows, Candidates, with_rows, together}
 use Rattle.link_change.specs.Changes.{IsSent}
 use Rattle.link_change.specs.Turns.{IsTurned, taken_turn}
@@ -106,7 +106,7 @@ module _ (int : Rows Interior) (was is : Registry Interior) (e : RibExit) (hops'
   taken_by sent (turns.Sent change) turn r follows taken = (Some change, r)
 
   turned_rows : (sent : Option (Change FibRow)) → IsTurned (fib_table e.forwarding int (ext_rows e)) (fib_table hops' int (ext_rows e)) (taken_turn sent)
-      → (p : Network) × IsSent (fib_table e.forwarding int (ext_rows e)) (fib_table hops' int (ext_rows e)) p sent
+      → (p : AddressPrefix) × IsSent (fib_table e.forwarding int (ext_rows e)) (fib_table hops' int (ext_rows e)) p sent
   turned_rows None led = (record { address = 0; length = 0 }, led)
   turned_rows (Some change) led = (change.prefix, led)
 

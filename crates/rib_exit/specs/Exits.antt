@@ -2,7 +2,7 @@
 -- name. What stands on `int`, with which `ext` comes together in `fib`, is told over any rows.
 use Rattle.std.specs.Prelude.{◌≡◌, ℕ, ◌+◌, Bool, true, false, cond, Option, Some, None, option_map}
 use Rattle.std.specs.FinMap as map
-use Rattle.addr4.specs.Prefixes.{Network}
+use Rattle.addr4.specs.Prefixes.{AddressPrefix}
 use Rattle.bgp_attr.specs.declared.route.Route.{Route}
 use Rattle.link_change.specs.Rows.{Rows, Candidates, with_rows, together}
 use Rattle.rib_route.specs.declared.rows.Interior.{Interior}
@@ -109,7 +109,7 @@ abbrev pub has_ext_work : RibExit → Bool
 has_ext_work e = is_busy same_way e.forwarding
 
 -- whether it holds up a prefix: the next hop of the row of `ext` there is stale, or its fresh answer isn't in force there
-abbrev pub ext_lags : RibExit → Network → Bool
+abbrev pub ext_lags : RibExit → AddressPrefix → Bool
 ext_lags e q = hop_lags same_way e.forwarding q (option_map external_hop (ext_rows e q))
 
 -- ---- counts
@@ -125,5 +125,5 @@ abbrev pub rows_in : RibExit → ℕ
 rows_in e = map.len e.splitter.ebgp + map.len e.splitter.ibgp
 
 -- how many turns the task takes, where these numbers count the candidates of `ext` beyond each place
-abbrev pub left_in : (Option Network → ℕ) → RibExit → ℕ
+abbrev pub left_in : (Option AddressPrefix → ℕ) → RibExit → ℕ
 left_in beyond e = turns_left same_way beyond e.forwarding

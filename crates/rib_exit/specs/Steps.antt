@@ -1,7 +1,7 @@
 -- What each call makes of the RIB's exit, and what it keeps.
 use Rattle.std.specs.Prelude.{◌≡◌, ◌⊎◌, ℕ, ◌+◌, ◌≤◌, false, List, [], ◌∷◌, Option, Some, None}
 use Rattle.std.specs.Option.{option_or}
-use Rattle.addr4.specs.Prefixes.{Network}
+use Rattle.addr4.specs.Prefixes.{AddressPrefix}
 use Rattle.bgp_attr.specs.declared.route.Route.{Route}
 use Rattle.link_change.specs.Rows.{Rows}
 use Rattle.link_change.specs.Changes.{IsSent}
@@ -59,7 +59,7 @@ pub record KeepsAgreed (was is : Registry Interior) (e' : RibExit) : Type 0 wher
 
 -- ---- what a change of the best routes makes
 -- What each part of it causes on `ext`: nothing, or the change of the merged rows, as the two links are before the part and after it.
-abbrev pub CausesOn : Network → Split → Option (Change External) → Option (Change External) → Parted → Parted → Type 0
+abbrev pub CausesOn : AddressPrefix → Split → Option (Change External) → Option (Change External) → Parted → Parted → Type 0
 CausesOn p Neither first second old new = (first ≡ None) × (second ≡ None)
 CausesOn p (One link change) first second old new = IsSent (merged_links old) (merged_links new) p first × (second ≡ None)
 CausesOn p (Moved link add delete) first second old new =
@@ -68,7 +68,7 @@ CausesOn p (Moved link add delete) first second old new =
 -- From these best routes to those, beside these rows of `int`: what the splitter sends leads from their rows on `ebgp` and
 -- `ibgp` to the new ones; each of the two parts causes what it does to `ext`, and only that a change of `fib`; both together
 -- change `ext` and `fib` once at most; and the lines lead on.
-pub record FallsOn (p : Network) (int : Rows Interior) (split : Split) (first second : Caused) (was : Registry Interior) (e e' : RibExit) (entries : List (Entry Value)) (best now : Rows Route) : Type 0 where
+pub record FallsOn (p : AddressPrefix) (int : Rows Interior) (split : Split) (first second : Caused) (was : Registry Interior) (e e' : RibExit) (entries : List (Entry Value)) (best now : Rows Route) : Type 0 where
   pub splits : Splits (split_rows best) (split_rows now) p split
   pub causes : CausesOn p split first.ext second.ext (split_rows best) (split_rows now)
   pub ext : IsSent (ext_rows e) (ext_rows e') p (option_or first.ext second.ext)
@@ -88,18 +88,18 @@ pub record TakesExternal (change : Change Route) (int : Rows Interior) (sent : O
   pub lines : entries ≡ fall_entries split first second
   pub comes : sent ≡ option_or first.fib second.fib
   pub agreed : KeepsAgreed was is e'
-  pub goes : (best now : Rows Route) (p : Network) → StandsOver best e → IsSent best now p (Some change) → FallsOn p int split first second was e e' entries best now
+  pub goes : (best now : Rows Route) (p : AddressPrefix) → StandsOver best e → IsSent best now p (Some change) → FallsOn p int split first second was e e' entries best now
 
 -- ---- what a change of the interior routes makes
 -- from these rows of `int` to those
-pub record FollowsOn (p : Network) (sent : Option (Change FibRow)) (e : RibExit) (entries : List (Entry Value)) (int now : Rows Interior) : Type 0 where
+pub record FollowsOn (p : AddressPrefix) (sent : Option (Change FibRow)) (e : RibExit) (entries : List (Entry Value)) (int now : Rows Interior) : Type 0 where
   pub fib : IsSent (fib_over e int) (fib_over e now) p sent
   pub leads : LeadsExit (exit_links e int) entries (exit_links e now)
 
 -- Nothing is kept of it: the rows of `fib` are those that the new rows of `int` make.
 pub record TakesInterior (change : Change Interior) (sent : Option (Change FibRow)) (e : RibExit) (entries : List (Entry Value)) : Type 0 where
   pub lines : entries ≡ fib_entries sent
-  pub goes : (int now : Rows Interior) (p : Network) → IsSent int now p (Some change) → FollowsOn p sent e entries int now
+  pub goes : (int now : Rows Interior) (p : AddressPrefix) → IsSent int now p (Some change) → FollowsOn p sent e entries int now
 
 -- ---- what a turn makes
 -- The task takes a turn: a walk goes to its next candidate or ends, else the least stale next hop is asked for, else a walk
@@ -110,11 +110,11 @@ pub record TurnsExit (int : Rows Interior) (sent : Option (Change FibRow)) (was 
   pub turned : Turned external_hop over (ext_candidates e) (ext_rows e) way_of was is e.forwarding e'.forwarding resolved
   pub rows : e'.splitter ≡ e.splitter
   pub lines : entries ≡ fib_entries sent
-  pub fib : (p : Network) × IsSent (fib_over e int) (fib_over e' int) p sent
+  pub fib : (p : AddressPrefix) × IsSent (fib_over e int) (fib_over e' int) p sent
   pub leads : LeadsExit (exit_links e int) entries (exit_links e' int)
   pub agreed : KeepsAgreed was is e'
   pub stands : (best : Rows Route) → StandsOver best e → StandsOver best e'
-  pub fewer : (beyond : Option Network → ℕ) → CountsBeyond (ext_candidates e) beyond → left_in beyond e' + 1 ≤ left_in beyond e
+  pub fewer : (beyond : Option AddressPrefix → ℕ) → CountsBeyond (ext_candidates e) beyond → left_in beyond e' + 1 ≤ left_in beyond e
   pub known : known_in e' ≡ known_in e
 
 -- what a turn came to
@@ -137,7 +137,7 @@ pub record StaysQuiet (e e' : RibExit) : Type 0 where
   pub known : known_in e' ≡ known_in e
 
 -- The answers that came with one subnet are stale.
-pub record Stales (subnet : Network) (e e' : RibExit) : Type 0 where
+pub record Stales (subnet : AddressPrefix) (e e' : RibExit) : Type 0 where
   pub stale : Invalidates subnet e.forwarding e'.forwarding
   pub sound : IsExit e'
   pub stays : StaysQuiet e e'

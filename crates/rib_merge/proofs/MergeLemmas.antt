@@ -1,6 +1,6 @@
 -- The merged rows before and after a change on one side.
 use Rattle.std.proofs.Common.{◌≡◌, ℕ, Option, sym, ap, ◌∙◌}
-use Rattle.addr4.specs.Prefixes.{Network}
+use Rattle.addr4.specs.Prefixes.{AddressPrefix}
 use Rattle.link_change.specs.Changes.{IsChangeOf}
 use Rattle.link_change.specs.declared.change.Change.{Change}
 use Rattle.link_change.proofs.ChangeLemmas.{computes_on}
@@ -13,6 +13,6 @@ pub merges_on :
     before ≡ row_on distance side change.before other → after ≡ row_on distance side change.after other →
     IsChangeOf change.prefix before after result → MergesOn distance side change other result
 merges_on {R} distance side change other before after result b a is own now others p at =
-    let merged_at : Network → Option R → Option R = λ q row. row_on distance side row (others q) in
+    let merged_at : AddressPrefix → Option R → Option R = λ q row. row_on distance side row (others q) in
     computes_on merged_at change before after result
     (b ∙ ap (row_on distance side change.before) (sym at)) (a ∙ ap (row_on distance side change.after) (sym at)) is own now p

@@ -1,6 +1,6 @@
 -- Interior rows as what packets are forwarded by.
 use Rattle.std.specs.Prelude.{Option, Some, option_map}
-use Rattle.addr4.specs.Prefixes.{Network}
+use Rattle.addr4.specs.Prefixes.{AddressPrefix}
 use Rattle.rib_route.specs.declared.rows.Interior.{Interior}
 use Rattle.rib_route.specs.declared.rows.FibRow.{FibRow}
 use Rattle.rib_route.specs.Forwarding.{fib_row}
@@ -15,4 +15,4 @@ forwarded rows q = option_map fib_row (rows q)
 -- new ones there; nothing goes out where they stay the same
 abbrev pub ForwardsOn : Change Interior → Option (Change FibRow) → Type 0
 ForwardsOn change result =
-    (old new : Rows Interior) (p : Network) → IsSent old new p (Some change) → IsSent (forwarded old) (forwarded new) p result
+    (old new : Rows Interior) (p : AddressPrefix) → IsSent old new p (Some change) → IsSent (forwarded old) (forwarded new) p result

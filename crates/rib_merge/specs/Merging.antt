@@ -1,6 +1,6 @@
 -- Merged rows, and what a merge makes of changes (NSDI 2005, section 5.2).
 use Rattle.std.specs.Prelude.{◌≡◌, ℕ, nat_lt, if◌then◌else◌, Option, Some, None}
-use Rattle.addr4.specs.Prefixes.{Network}
+use Rattle.addr4.specs.Prefixes.{AddressPrefix}
 use Rattle.link_change.specs.Rows.{Rows}
 use Rattle.link_change.specs.Changes.{IsSent}
 use Rattle.link_change.specs.declared.change.Change.{Change}
@@ -30,5 +30,5 @@ module _ {R : Type 0} (distance : R → ℕ) where
   -- new ones, over any rows of the other side that are this row at its prefix
   abbrev pub MergesOn : Side → Change R → Option R → Option (Change R) → Type 0
   MergesOn side change other result =
-      (own now others : Rows R) (p : Network) → others change.prefix ≡ other → IsSent own now p (Some change)
+      (own now others : Rows R) (p : AddressPrefix) → others change.prefix ≡ other → IsSent own now p (Some change)
       → IsSent (merged_on side own others) (merged_on side now others) p result

@@ -1,6 +1,6 @@
 -- A route that moves between the links changes the merged rows once.
 use Rattle.std.proofs.Common.{◌≡◌, ◌⊎◌, inl, inr, Bool, true, false, cond, not, nat_lt, Option, Some, None, refl, sym, ap, ◌∙◌}
-use Rattle.addr4.specs.Prefixes.{Network}
+use Rattle.addr4.specs.Prefixes.{AddressPrefix}
 use Rattle.addr4.proofs.PrefixOrder.{by_prefix}
 use Rattle.bgp_attr.specs.declared.route.Route.{Route}
 use Rattle.rib_route.specs.declared.rows.External.{External}
@@ -35,7 +35,7 @@ ebgp_stands (Some a) None some = alone (on_link Ebgp (Some a))
 ebgp_stands (Some a) (Some c) some = beside a.internal c.internal a c refl refl some
 
 -- a change leaves the row at every other prefix
-elsewhere : (old new : Rows External) (p : Network) (change : Change External) → IsSent old new p (Some change) → (q : Network) → (q ≡ p) ⊎ (new q ≡ old q)
+elsewhere : (old new : Rows External) (p : AddressPrefix) (change : Change External) → IsSent old new p (Some change) → (q : AddressPrefix) → (q ≡ p) ⊎ (new q ≡ old q)
 elsewhere old new p change is q = by (by_prefix q change.prefix (λ b. (q ≡ change.prefix) ⊎ (cond b change.after (old q) ≡ old q)) (λ e. inl e) (λ _. inr refl))
   where
     by : (q ≡ change.prefix) ⊎ (with_row old change.prefix change.after q ≡ old q) → (q ≡ p) ⊎ (new q ≡ old q)
@@ -43,16 +43,16 @@ elsewhere old new p change is q = by (by_prefix q change.prefix (λ b. (q ≡ ch
     by (inr same) = inr (ap (λ (r : Rows External). r q) is.2 ∙ same)
 
 -- the row before it, and the row after it
-row_before_it : (old new : Rows External) (p : Network) (change : Change External) → IsSent old new p (Some change) → old p ≡ change.before
+row_before_it : (old new : Rows External) (p : AddressPrefix) (change : Change External) → IsSent old new p (Some change) → old p ≡ change.before
 row_before_it old new p change is = ap old (sym is.0) ∙ is.1.0
 
-row_after_it : (old new : Rows External) (p : Network) (change : Change External) → IsSent old new p (Some change) → new p ≡ change.after
+row_after_it : (old new : Rows External) (p : AddressPrefix) (change : Change External) → IsSent old new p (Some change) → new p ≡ change.after
 row_after_it old new p change is =
     ap new (sym is.0) ∙ ap (λ (r : Rows External). r change.prefix) is.2 ∙ with_row_here old change.prefix change.after
 
-module _ (upper now : Rows Route) (p : Network) where
+module _ (upper now : Rows Route) (p : AddressPrefix) where
   -- the rows of `ebgp` at p of these routes hide those of `ibgp`, whichever those are
-  hides : (rows : Rows Route) → (split_rows rows Ebgp p ≡ None → ⊥) → (q : Network) → (q ≡ p) ⊎ (split_rows now Ibgp q ≡ split_rows upper Ibgp q)
+  hides : (rows : Rows Route) → (split_rows rows Ebgp p ≡ None → ⊥) → (q : AddressPrefix) → (q ≡ p) ⊎ (split_rows now Ibgp q ≡ split_rows upper Ibgp q)
       → row_of_both (λ r. distance (external_proto r)) (split_rows rows Ebgp q) (split_rows now Ibgp q)
       ≡ row_of_both (λ r. distance (external_proto r)) (split_rows rows Ebgp q) (split_rows upper Ibgp q)
   hides rows some q (inr same) = ap (row_of_both (λ r. distance (external_proto r)) (split_rows rows Ebgp q)) same

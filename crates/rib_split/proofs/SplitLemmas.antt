@@ -1,6 +1,6 @@
 -- What a change of the best routes comes to on the two links.
 use Rattle.std.proofs.Common.{◌≡◌, Option, Some, None, refl, ap}
-use Rattle.addr4.specs.Prefixes.{Network}
+use Rattle.addr4.specs.Prefixes.{AddressPrefix}
 use Rattle.bgp_attr.specs.declared.route.Route.{Route}
 use Rattle.rib_route.specs.declared.rows.External.{External}
 use Rattle.link_change.specs.Rows.{Rows}
@@ -14,17 +14,17 @@ use Rattle.rib_split.specs.declared.split.Split.{Split}
 use Rattle.rib_split.specs.declared.split.Split.TheVariants.{Neither, One, Moved}
 use Rattle.rib_split.specs.Splitting.{external_row, other, on_link, Parted, split_rows, Moves, Splits, IsChangeOn, IsSplitOf}
 
-moves_by : (link : BgpLink) (old new : Parted) (p : Network) (add delete : Change External) → add.before ≡ None → delete.after ≡ None
+moves_by : (link : BgpLink) (old new : Parted) (p : AddressPrefix) (add delete : Change External) → add.before ≡ None → delete.after ≡ None
     → IsSent (old link) (new link) p (Some add) → IsSent (old (other link)) (new (other link)) p (Some delete) → Moves link old new p add delete
 moves_by Ebgp old new p add delete a d here there = record { adds = a; deletes = d; first = (here, refl); second = (there, refl) }
 moves_by Ibgp old new p add delete a d here there = record { adds = a; deletes = d; first = (here, refl); second = (there, refl) }
 
-module _ (change : Change Route) (upper now : Rows Route) (p : Network) (sent : IsSent upper now p (Some change)) where
+module _ (change : Change Route) (upper now : Rows Route) (p : AddressPrefix) (sent : IsSent upper now p (Some change)) where
   -- each link has its change
   on_each : (link : BgpLink) (below : Option (Change External)) → IsChangeOn link change.prefix (external_row change.before) (external_row change.after) below
       → IsSent (split_rows upper link) (split_rows now link) p below
   on_each link below is =
-      let made : Network → Option Route → Option External = λ q row. on_link link (external_row row) in
+      let made : AddressPrefix → Option Route → Option External = λ q row. on_link link (external_row row) in
       computes_on made change (on_link link (external_row change.before)) (on_link link (external_row change.after)) below refl refl is upper now p sent
 
   pub splits_on : (split : Split) → IsSplitOf change.prefix (external_row change.before) (external_row change.after) split

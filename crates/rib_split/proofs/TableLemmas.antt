@@ -2,7 +2,7 @@
 use Rattle.std.proofs.Common.{◌≡◌, Option, Some, None, sym, ap, ◌∙◌}
 use Rattle.std.specs.FinMap as map
 use Rattle.std.specs.FinMap.{FinMap}
-use Rattle.addr4.specs.Prefixes.{Network, prefix_cmp}
+use Rattle.addr4.specs.Prefixes.{AddressPrefix, prefix_cmp}
 use Rattle.bgp_attr.specs.declared.route.Route.{Route}
 use Rattle.rib_route.specs.declared.rows.External.{External}
 use Rattle.link_change.specs.Rows.{Rows, with_row}
@@ -19,7 +19,7 @@ use Rattle.rib_split.specs.Tables.{kept_rows, kept_on, kept_all, SplitsOn}
 use Rattle.rib_split.specs.Laws.{TablesBeginEmpty}
 use Rattle.rib_split.proofs.SplitLemmas.{splits_on}
 
-rows_kept : (m : FinMap prefix_cmp External) (p : Network) (after : Option External) → map.get (kept_after m p after) ≡ with_row (map.get m) p after
+rows_kept : (m : FinMap prefix_cmp External) (p : AddressPrefix) (after : Option External) → map.get (kept_after m p after) ≡ with_row (map.get m) p after
 rows_kept m p None = rows_removed m p
 rows_kept m p (Some row) = rows_inserted m p row
 
@@ -29,7 +29,7 @@ kept_there : (m : FinMap prefix_cmp External) (old new : Rows External) (change 
 kept_there m old new change has is =
     rows_kept m change.prefix change.after ∙ ap (λ (rows : Rows External). with_row rows change.prefix change.after) has ∙ sym is
 
-keeps_on : (s : Splitter) (link : BgpLink) (old new : Parted) (p : Network) (change : Change External) → kept_rows s ≡ old → IsSentOn link old new p change
+keeps_on : (s : Splitter) (link : BgpLink) (old new : Parted) (p : AddressPrefix) (change : Change External) → kept_rows s ≡ old → IsSentOn link old new p change
     → kept_rows (kept_on s link change) ≡ new
 keeps_on s Ebgp old new p change has is = same_function _ _ each
   where
@@ -42,7 +42,7 @@ keeps_on s Ibgp old new p change has is = same_function _ _ each
     each Ebgp = ap (λ (r : Parted). r Ebgp) has ∙ sym is.1
     each Ibgp = kept_there s.ibgp (old Ibgp) (new Ibgp) change (ap (λ (r : Parted). r Ibgp) has) is.0.2
 
-keeps_all : (s : Splitter) (old new : Parted) (p : Network) (split : Split) → kept_rows s ≡ old → Splits old new p split → kept_rows (kept_all s split) ≡ new
+keeps_all : (s : Splitter) (old new : Parted) (p : AddressPrefix) (split : Split) → kept_rows s ≡ old → Splits old new p split → kept_rows (kept_all s split) ≡ new
 keeps_all s old new p Neither has is = has ∙ sym is
 keeps_all s old new p (One link change) has is = keeps_on s link old new p change has is
 keeps_all s old new p (Moved link add delete) has is =

@@ -1,7 +1,7 @@
 -- Laws of the splitter, for the crates above.
 use Rattle.std.specs.Prelude.{◌≡◌, ◌⊎◌}
 use Rattle.std.specs.FinMap as map
-use Rattle.addr4.specs.Prefixes.{Network}
+use Rattle.addr4.specs.Prefixes.{AddressPrefix}
 use Rattle.bgp_attr.specs.declared.route.Route.{Route}
 use Rattle.rib_route.specs.declared.rows.External.{External}
 use Rattle.rib_route.specs.Distances.{distance, external_proto}
@@ -24,6 +24,6 @@ merged_links rows = merged (λ r. distance (external_proto r)) (rows Ebgp) (rows
 -- Where a route moves from one link to the other, one of the two changes leaves the merged rows as they are.
 abbrev pub MovedChangesOnce : Type 0
 MovedChangesOnce =
-    (upper now : Rows Route) (link : BgpLink) (p : Network) (add delete : Change External) → Moves link (split_rows upper) (split_rows now) p add delete
+    (upper now : Rows Route) (link : BgpLink) (p : AddressPrefix) (add delete : Change External) → Moves link (split_rows upper) (split_rows now) p add delete
     → (merged_links (first_on link (split_rows upper) (split_rows now)) ≡ merged_links (split_rows upper))
     ⊎ (merged_links (split_rows now) ≡ merged_links (first_on link (split_rows upper) (split_rows now)))

@@ -1,6 +1,6 @@
 -- BGP's best routes on the two links above the RIB (NSDI 2005, section 5.2).
 use Rattle.std.specs.Prelude.{◌≡◌, ℕ, Bool, not, if◌then◌else◌, Option, Some, None}
-use Rattle.addr4.specs.Prefixes.{Network}
+use Rattle.addr4.specs.Prefixes.{AddressPrefix}
 use Rattle.bgp_attr.specs.declared.route.Route.{Route}
 use Rattle.bgp_attr.specs.declared.speaker.Neighbour.{Neighbour}
 use Rattle.rib_route.specs.declared.rows.External.{External}
@@ -55,35 +55,35 @@ first_on Ibgp old new Ebgp = old Ebgp
 first_on Ibgp old new Ibgp = new Ibgp
 
 -- the change leads on this link from the old rows to the new ones, and the other link stays
-abbrev pub IsSentOn : BgpLink → Parted → Parted → Network → Change External → Type 0
+abbrev pub IsSentOn : BgpLink → Parted → Parted → AddressPrefix → Change External → Type 0
 IsSentOn link old new p change = IsSent (old link) (new link) p (Some change) × (new (other link) ≡ old (other link))
 
 -- a route moves to this link from the other one: an add on this link goes first, and then a delete on the other
-pub record Moves (link : BgpLink) (old new : Parted) (p : Network) (add delete : Change External) : Type 0 where
+pub record Moves (link : BgpLink) (old new : Parted) (p : AddressPrefix) (add delete : Change External) : Type 0 where
   pub adds : add.before ≡ None
   pub deletes : delete.after ≡ None
   pub first : IsSentOn link old (first_on link old new) p add
   pub second : IsSentOn (other link) (first_on link old new) new p delete
 
 -- what goes on leads, in its order, from the old rows of the two links to the new ones; nothing goes on where they stay
-abbrev pub Splits : Parted → Parted → Network → Split → Type 0
+abbrev pub Splits : Parted → Parted → AddressPrefix → Split → Type 0
 Splits old new p Neither = new ≡ old
 Splits old new p (One link change) = IsSentOn link old new p change
 Splits old new p (Moved link add delete) = Moves link old new p add delete
 
 -- ---- at one prefix
-abbrev pub adding : Network → External → Change External
+abbrev pub adding : AddressPrefix → External → Change External
 adding p row = record { prefix = p; before = None; after = Some row }
 
-abbrev pub deleting : Network → External → Change External
+abbrev pub deleting : AddressPrefix → External → Change External
 deleting p row = record { prefix = p; before = Some row; after = None }
 
 -- the change of the row that stands on a link, where this row stood and that one stands
-abbrev pub IsChangeOn : BgpLink → Network → Option External → Option External → Option (Change External) → Type 0
+abbrev pub IsChangeOn : BgpLink → AddressPrefix → Option External → Option External → Option (Change External) → Type 0
 IsChangeOn link p before after sent = IsChangeOf p (on_link link before) (on_link link after) sent
 
 -- what goes on where this row stood and that one stands
-abbrev pub IsSplitOf : Network → Option External → Option External → Split → Type 0
+abbrev pub IsSplitOf : AddressPrefix → Option External → Option External → Split → Type 0
 IsSplitOf p before after Neither = after ≡ before
 IsSplitOf p before after (One link change) = IsChangeOn link p before after (Some change) × IsChangeOn (other link) p before after None
 IsSplitOf p before after (Moved link add delete) =

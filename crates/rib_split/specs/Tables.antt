@@ -2,7 +2,7 @@
 use Rattle.std.specs.Prelude.{◌≡◌, Some}
 use Rattle.std.specs.FinMap as map
 use Rattle.std.specs.FinMap.{FinMap}
-use Rattle.addr4.specs.Prefixes.{Network, prefix_cmp}
+use Rattle.addr4.specs.Prefixes.{AddressPrefix, prefix_cmp}
 use Rattle.bgp_attr.specs.declared.route.Route.{Route}
 use Rattle.rib_route.specs.declared.rows.External.{External}
 use Rattle.link_change.specs.Rows.{Rows}
@@ -39,5 +39,5 @@ kept_all s (Moved link add delete) = kept_on (kept_on s link add) (other link) d
 -- leads from these rows to the new ones, in its order, and the tables have the new ones
 abbrev pub SplitsOn : Splitter → Splitter → Change Route → Split → Type 0
 SplitsOn old new change split =
-    (upper now : Rows Route) (p : Network) → IsSent upper now p (Some change) → kept_rows old ≡ split_rows upper
+    (upper now : Rows Route) (p : AddressPrefix) → IsSent upper now p (Some change) → kept_rows old ≡ split_rows upper
     → Splits (split_rows upper) (split_rows now) p split × (kept_rows new ≡ split_rows now)

@@ -8,7 +8,7 @@ use Rattle.std.proofs.lemmas.Bool.Decides.{nat_tests}
 use Rattle.std.proofs.lemmas.List.{at_drop_more}
 use Rattle.std.proofs.lemmas.List.Folds.{find-append}
 use Rattle.std.proofs.lemmas.List.Elements.{Contains-append_left, Contains-append_right}
-use Rattle.addr4.specs.Prefixes.{Network, prefix_cmp, block}
+use Rattle.addr4.specs.Prefixes.{AddressPrefix, prefix_cmp, block}
 use Rattle.addr4.proofs.RankLemmas.{is_before}
 use Rattle.journal_text.specs.declared.link.Task.{Task}
 use Rattle.journal_text.specs.declared.link.Task.TheVariants.{Rdel}
@@ -60,12 +60,12 @@ no_more : (a x : ℕ) → a - x ≤ a
 no_more a x = omega arith
 
 -- where no prefix up to an address has a row, none has that holds it
-none_within : (t : FinMap prefix_cmp Interior) (a n : ℕ) → ((q : Network) → q.address ≤ a → is_some (tables.get t q) ≡ false) → has_within (Some t) a n ≡ false
+none_within : (t : FinMap prefix_cmp Interior) (a n : ℕ) → ((q : AddressPrefix) → q.address ≤ a → is_some (tables.get t q) ≡ false) → has_within (Some t) a n ≡ false
 none_within t a zero none = none (block 32 a 0) (no_more a _)
 none_within t a (suc n) none = ap (λ (b : Bool). b || has_within (Some t) a n) (none (block 32 a (suc n)) (no_more a _)) ∙ none_within t a n none
 
 -- a table without rows
-pub none_at_all : (t : FinMap prefix_cmp Interior) (p : Network) (addresses : List ℕ) → IsNextCandidate (with_rows (tables.get t)) None None → table_holds_up (Some t) p addresses ≡ false
+pub none_at_all : (t : FinMap prefix_cmp Interior) (p : AddressPrefix) (addresses : List ℕ) → IsNextCandidate (with_rows (tables.get t)) None None → table_holds_up (Some t) p addresses ≡ false
 none_at_all t p addresses next = ap (λ (b : Bool). b || list_any (has_over (Some t)) addresses) (next p tt) ∙ none_any addresses
   where
     none_any : (xs : List ℕ) → list_any (has_over (Some t)) xs ≡ false
@@ -73,13 +73,13 @@ none_at_all t p addresses next = ap (λ (b : Bool). b || list_any (has_over (Som
     none_any (a ∷ xs) = ap (λ (b : Bool). b || list_any (has_over (Some t)) xs) (none_within t a 32 (λ q _. next q tt)) ∙ none_any xs
 
 -- one whose least prefix begins behind an address
-module _ (t : FinMap prefix_cmp Interior) (a : ℕ) (p : Network) (before : Bool) (next : IsNextCandidate (with_rows (tables.get t)) None (Some p)) (told : before ≡ nat_lt a p.address) (so : before ≡ true) where
-  none_upto : (q : Network) → q.address ≤ a → is_some (tables.get t q) ≡ false
+module _ (t : FinMap prefix_cmp Interior) (a : ℕ) (p : AddressPrefix) (before : Bool) (next : IsNextCandidate (with_rows (tables.get t)) None (Some p)) (told : before ≡ nat_lt a p.address) (so : before ≡ true) where
+  none_upto : (q : AddressPrefix) → q.address ≤ a → is_some (tables.get t q) ≡ false
   none_upto q upto =
       let less : a < p.address = (let lt : nat_lt a p.address ≡ true = sym told ∙ so in grind (arith, nat_tests)) in
       next.2 q tt (is_before q p (inl (omega (arith, upto, less))))
 
-  pub none_at : (q : Network) → q.address ≡ a → false ≡ has_row (Some t) q
+  pub none_at : (q : AddressPrefix) → q.address ≡ a → false ≡ has_row (Some t) q
   none_at q at = sym (none_upto q (omega (arith, at)))
 
 -- ---- one address after the other
@@ -113,7 +113,7 @@ found_made task f g (x ∷ xs) same = by_test (f x) (found_made task f g xs same
     by_test true rest = refl
     by_test false rest = rest
 
-module _ (t : Treed) (tree : IsTree t) (p : Network) (addresses : List ℕ) where
+module _ (t : Treed) (tree : IsTree t) (p : AddressPrefix) (addresses : List ℕ) where
   -- the first task of a protocol
   abbrev pub loss_in : Proto → Option Task
   loss_in proto = option_map (λ d. Rdel (branch_of proto t).proto d.number) (find (λ d. table_holds_up (Some d.rows) p addresses) (branch_of proto t).tables.deletions)

@@ -1,7 +1,7 @@
 -- The links of a tree beside those of others, when the links of one branch change, and then those below it.
 use Rattle.std.proofs.Common.{◌≡◌, ℕ, List, ◌++◌, Option, Some, None, refl, sym, ap, subst, ◌∙◌}
 use Rattle.std.specs.Option.{option_map}
-use Rattle.addr4.specs.Prefixes.{Network}
+use Rattle.addr4.specs.Prefixes.{AddressPrefix}
 use Rattle.rib_route.specs.declared.Proto.{Proto}
 use Rattle.rib_route.specs.declared.Proto.TheVariants.{Connected, Static, Ospf, Rip}
 use Rattle.rib_route.specs.declared.rows.Interior.{Interior}
@@ -90,7 +90,7 @@ last_is others Ospf b t x = refl
 last_is others Rip b t x = refl
 
 -- what both merges send
-merges_lead : (others : Links Value) (proto : Proto) (b : Branch) (t : Treed) (p : Network) (middle sent : Option (Change Interior))
+merges_lead : (others : Links Value) (proto : Proto) (b : Branch) (t : Treed) (p : AddressPrefix) (middle sent : Option (Change Interior))
     → IsSent (rows_into proto t) (rows_into proto (put_branch proto b t)) p middle → IsSent (int_rows t) (int_rows (put_branch proto b t)) p sent
     → Leads (rebranched others proto t b) (sent_entries (merge_below proto) middle ++ sent_entries Int sent) (beside_tree others (put_branch proto b t))
 merges_lead others proto b t p middle sent into is =
@@ -108,7 +108,7 @@ as_placed : (proto : Proto) (b : Branch) (t : Treed) (entries : List (Entry Valu
 as_placed proto b t entries placed leads = subst (λ (k : Proto). LeadsTables interior_value (Origin k) (branch_of proto t).tables entries b.tables) placed leads
 
 -- entries of the branch, and then what both merges send
-pub leads_all : (proto : Proto) (b : Branch) (t : Treed) (p : Network) (middle sent : Option (Change Interior)) (entries : List (Entry Value)) → (branch_of proto t).proto ≡ proto
+pub leads_all : (proto : Proto) (b : Branch) (t : Treed) (p : AddressPrefix) (middle sent : Option (Change Interior)) (entries : List (Entry Value)) → (branch_of proto t).proto ≡ proto
     → LeadsBranch (branch_of proto t) entries b → IsSent (rows_into proto t) (rows_into proto (put_branch proto b t)) p middle → IsSent (int_rows t) (int_rows (put_branch proto b t)) p sent
     → LeadsTree t (entries ++ (sent_entries (merge_below proto) middle ++ sent_entries Int sent)) (put_branch proto b t)
 leads_all proto b t p middle sent entries placed leads into is others =

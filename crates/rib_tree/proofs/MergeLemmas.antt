@@ -1,6 +1,6 @@
 -- What the two merges below a protocol's link make of a change on it.
 use Rattle.std.proofs.Common.{◌≡◌, [], ◌∷◌, ◌++◌, Option, Some, None, refl, sym, ap, subst, ◌∙◌}
-use Rattle.addr4.specs.Prefixes.{Network}
+use Rattle.addr4.specs.Prefixes.{AddressPrefix}
 use Rattle.rib_route.specs.declared.Proto.{Proto}
 use Rattle.rib_route.specs.declared.Proto.TheVariants.{Connected, Static, Ospf, Rip}
 use Rattle.rib_route.specs.declared.rows.Interior.{Interior}
@@ -56,7 +56,7 @@ beside_stays proto old new differ = ap (rows_beside proto) differ ∙ beside_put
 
 -- ---- one merge
 
-between : (a b c d : Rows Interior) (p : Network) (sent : Option (Change Interior)) → a ≡ c → b ≡ d → IsSent a b p sent → IsSent c d p sent
+between : (a b c d : Rows Interior) (p : AddressPrefix) (sent : Option (Change Interior)) → a ≡ c → b ≡ d → IsSent a b p sent → IsSent c d p sent
 between a b c d p sent first second is =
     let P : Rows Interior → Type 0 = λ r. IsSent r b p sent in
     let Q : Rows Interior → Type 0 = λ r. IsSent c r p sent in

@@ -7,7 +7,7 @@ use Rattle.std.proofs.lemmas.Bool.{cases_lt}
 use Rattle.std.proofs.lemmas.Bool.Decides.{nat_tests}
 use Rattle.std.proofs.lemmas.Nat.{div-add-mod', mod-mul-add}
 use Rattle.addr4.specs.Blocks.{size_of_length, masked_to}
-use Rattle.addr4.specs.Prefixes.{Network, IsMasked, ComesBefore, prefix_cmp, block}
+use Rattle.addr4.specs.Prefixes.{AddressPrefix, IsMasked, ComesBefore, prefix_cmp, block}
 use Rattle.addr4.proofs.BlockLemmas.{apart, from_masked, masked_at, size_pos}
 use Rattle.addr4.proofs.RankLemmas.{is_before}
 use Rattle.link_change.specs.Rows.{IsNextCandidate, with_rows}
@@ -53,7 +53,7 @@ module _ (t : FinMap prefix_cmp Interior) (a : ℕ) where
   NonePassed n = (k : ℕ) → k < n → has_row (Some t) (block 32 a k) ≡ false
 
   -- none that comes before a prefix has a row
-  abbrev pub NoneUpto : Network → Type 0
+  abbrev pub NoneUpto : AddressPrefix → Type 0
   NoneUpto p = (k : ℕ) → k ≤ 32 → ComesBefore (block 32 a k) p → has_row (Some t) (block 32 a k) ≡ false
 
   none_to : (n : ℕ) → NonePassed (suc n) → has_within (Some t) a n ≡ false
@@ -86,13 +86,13 @@ module _ (t : FinMap prefix_cmp Interior) (a : ℕ) where
   ]
 
   -- the next one begins behind the address
-  pub begins_behind : (p : Network) (before : Bool) → NoneUpto p → before ≡ nat_lt a p.address → before ≡ true → false ≡ has_over (Some t) a
+  pub begins_behind : (p : AddressPrefix) (before : Bool) → NoneUpto p → before ≡ nat_lt a p.address → before ≡ true → false ≡ has_over (Some t) a
   begins_behind p before none told so =
       let less : a < p.address = (let lt : nat_lt a p.address ≡ true = sym told ∙ so in grind (arith, nat_tests)) in
       all_passed (λ k lt. none k (omega (arith, lt)) (is_before (block 32 a k) p (inl (omega (arith, less)))))
 
   -- one of them was asked for
-  module _ (n : ℕ) (below : n < 33) (q : Network) (is : q ≡ block 32 a n) (held : Option (Bor Interior)) (there : Bool) (asked : option_copied held ≡ tables.get t q) (told : there ≡ is_some held) where
+  module _ (n : ℕ) (below : n < 33) (q : AddressPrefix) (is : q ≡ block 32 a n) (held : Option (Bor Interior)) (there : Bool) (asked : option_copied held ≡ tables.get t q) (told : there ≡ is_some held) where
     is_told : there ≡ has_row (Some t) (block 32 a n)
     is_told = told ∙ lent_or_not held ∙ ap (λ (o : Option Interior). is_some o) asked ∙ ap (has_row (Some t)) is
 
@@ -108,11 +108,11 @@ module _ (t : FinMap prefix_cmp Interior) (a : ℕ) where
       by_length : (k : ℕ) → k ≤ 32 → (ComesBefore q (block 32 a k) → has_row (Some t) (block 32 a k) ≡ false) → has_row (Some t) (block 32 a k) ≡ false
       by_length k le beyond = elim (cases_lt k (n + 1)) [
         | inl less ↦ one_passed k less
-        | inr more ↦ beyond (subst (λ (p : Network). ComesBefore p (block 32 a k)) (sym is) (ascends a n k (omega (arith, more)) le))
+        | inr more ↦ beyond (subst (λ (p : AddressPrefix). ComesBefore p (block 32 a k)) (sym is) (ascends a n k (omega (arith, more)) le))
       ]
 
       -- the next row beyond it
-      pub at_next : (p : Network) → IsNextCandidate (with_rows (tables.get t)) (Some q) (Some p) → NoneUpto p
+      pub at_next : (p : AddressPrefix) → IsNextCandidate (with_rows (tables.get t)) (Some q) (Some p) → NoneUpto p
       at_next p next k le before = by_length k le (λ beyond. next.2 (block 32 a k) beyond before)
 
       pub none_beyond : IsNextCandidate (with_rows (tables.get t)) (Some q) None → false ≡ has_over (Some t) a

@@ -2,7 +2,7 @@
 use Rattle.std.proofs.Common.{◌≡◌, ℕ, ◌≤◌, ◌+◌, ◌++◌, Bool, true, false, cond, not, List, [], ◌∷◌, Option, IfSome, sym, subst, arith}
 use Rattle.std.specs.List.{AllByRecursion}
 use Rattle.std.specs.FinMap as tables
-use Rattle.addr4.specs.Prefixes.{Network}
+use Rattle.addr4.specs.Prefixes.{AddressPrefix}
 use Rattle.rib_route.specs.declared.Proto.{Proto}
 use Rattle.rib_route.specs.declared.rows.Interior.{Interior}
 use Rattle.link_change.specs.Rows.{is_empty_map}
@@ -29,7 +29,7 @@ module _ (b : Branch) (is : IsBranch b) (t : Tables Interior) (chain : IsLossCha
   with_these : (losses : ℕ) (made : Tables Interior) → t ≡ made → Counted losses made → AllRows (IsOwn b.proto) made → IsBranch (record { proto = b.proto; losses = losses; tables = t })
   with_these losses made same counted own = record { chain = chain; counted = subst (Counted losses) (sym same) counted; own = subst (AllRows (IsOwn b.proto)) (sym same) own }
 
-  pub branch_fed : (p : Network) (row : Option Interior) → IfSome row (IsOwn b.proto) → t ≡ fed_tables b.tables p row → IsBranch (with_tables b t)
+  pub branch_fed : (p : AddressPrefix) (row : Option Interior) → IfSome row (IsOwn b.proto) → t ≡ fed_tables b.tables p row → IsBranch (with_tables b t)
   branch_fed p row own after =
       with_these b.losses (fed_tables b.tables p row) after (numbers_fed (λ n. n ≤ b.losses) b.tables.deletions p row is.counted) (all_fed (IsOwn b.proto) b.tables p row is.own own)
 
@@ -37,7 +37,7 @@ module _ (b : Branch) (is : IsBranch b) (t : Tables Interior) (chain : IsLossCha
   branch_welded after =
       with_these b.losses (welded_tables b.tables) after (all_filtered (λ d. d.number ≤ b.losses) (λ d. not (is_empty_map d.rows)) b.tables.deletions is.counted) (all_welded (IsOwn b.proto) b.tables is.own)
 
-  branch_swept : (loss : ℕ) (p : Network) → t ≡ swept_tables loss p b.tables → IsBranch (with_tables b t)
+  branch_swept : (loss : ℕ) (p : AddressPrefix) → t ≡ swept_tables loss p b.tables → IsBranch (with_tables b t)
   branch_swept loss p after =
       with_these b.losses (swept_tables loss p b.tables) after (numbers_swept (λ n. n ≤ b.losses) loss p b.tables.deletions is.counted) (all_swept (IsOwn b.proto) loss p b.tables is.own)
 

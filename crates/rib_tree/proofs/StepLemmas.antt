@@ -1,6 +1,6 @@
 -- What each call makes of the tree, from what it makes of a branch.
 use Rattle.std.proofs.Common.{◌≡◌, ℕ, List, [], ◌∷◌, ◌++◌, Option, Some, None, is_some, sym, ap, subst, ◌∙◌}
-use Rattle.addr4.specs.Prefixes.{Network}
+use Rattle.addr4.specs.Prefixes.{AddressPrefix}
 use Rattle.rib_route.specs.declared.Proto.{Proto}
 use Rattle.rib_route.specs.declared.rows.Interior.{Interior}
 use Rattle.link_change.specs.Turns.{taken_turn}
@@ -31,12 +31,12 @@ below proto = merge_below proto ∷ Int ∷ []
 
 -- ---- falls, in a tree with this branch
 
-quietly_put : (proto : Proto) (b : Branch) (t : Treed) (p : Network) (way : List Link) (before now : Journaled) → (branch_of proto t).proto ≡ proto → org_rows b ≡ org_rows (branch_of proto t)
+quietly_put : (proto : Proto) (b : Branch) (t : Treed) (p : AddressPrefix) (way : List Link) (before now : Journaled) → (branch_of proto t).proto ≡ proto → org_rows b ≡ org_rows (branch_of proto t)
     → Adds (FallsBranch (branch_of proto t) b p way None) before now → Adds (FallsTree t (put_branch proto b t) p (way ++ below proto) None) before now
 quietly_put proto b t p way before now placed rows (entries, now_is, fall) =
     (entries, now_is, record { leads = leads_kept proto b t entries placed fall.leads rows; down = cut_before p way (below proto) entries fall.down })
 
-on_put : (proto : Proto) (b : Branch) (t : Treed) (p : Network) (way : List Link) (change : Change Interior) (sent : Option (Change Interior)) (before mid now : Journaled) → (branch_of proto t).proto ≡ proto
+on_put : (proto : Proto) (b : Branch) (t : Treed) (p : AddressPrefix) (way : List Link) (change : Change Interior) (sent : Option (Change Interior)) (before mid now : Journaled) → (branch_of proto t).proto ≡ proto
     → Adds (FallsBranch (branch_of proto t) b p way (Some change)) before mid → Adds (PassesDown proto t (put_branch proto b t) p sent) mid now
     → Adds (FallsTree t (put_branch proto b t) p (way ++ below proto) sent) before now
 on_put proto b t p way change sent before mid now placed (entries, mid_is, fall) (last, now_is, pass) =
@@ -52,13 +52,13 @@ on_put proto b t p way change sent before mid now placed (entries, mid_is, fall)
 -- ---- the same of any tree that differs in the branch
 
 module _ (proto : Proto) (old new : Treed) (differ : DifferAt proto old new) (placed : (branch_of proto old).proto ≡ proto) where
-  falls_quietly : (p : Network) (way : List Link) (before now : Journaled) → org_rows (branch_of proto new) ≡ org_rows (branch_of proto old)
+  falls_quietly : (p : AddressPrefix) (way : List Link) (before now : Journaled) → org_rows (branch_of proto new) ≡ org_rows (branch_of proto old)
       → Adds (FallsBranch (branch_of proto old) (branch_of proto new) p way None) before now → Adds (FallsTree old new p (way ++ below proto) None) before now
   falls_quietly p way before now rows adds =
       let P : Treed → Type 0 = λ t. Adds (FallsTree old t p (way ++ below proto) None) before now in
       subst P (sym differ) (quietly_put proto (branch_of proto new) old p way before now placed rows adds)
 
-  falls_on : (p : Network) (way : List Link) (change : Change Interior) (sent : Option (Change Interior)) (before mid now : Journaled)
+  falls_on : (p : AddressPrefix) (way : List Link) (change : Change Interior) (sent : Option (Change Interior)) (before mid now : Journaled)
       → Adds (FallsBranch (branch_of proto old) (branch_of proto new) p way (Some change)) before mid → Adds (PassesDown proto old new p sent) mid now → Adds (FallsTree old new p (way ++ below proto) sent) before now
   falls_on p way change sent before mid now adds pass =
       let P : Treed → Type 0 = λ t. Adds (FallsTree old t p (way ++ below proto) sent) before now in
@@ -99,14 +99,14 @@ weld_placed proto t placed = ap (λ (k : Proto). chain_weld_entries (Origin k) (
 -- ---- feeds
 
 module _ (proto : Proto) (old new : Treed) (differ : DifferAt proto old new) (placed : (branch_of proto old).proto ≡ proto) where
-  pub fed_quietly : (p : Network) (before now : Journaled) → org_rows (branch_of proto new) ≡ org_rows (branch_of proto old)
+  pub fed_quietly : (p : AddressPrefix) (before now : Journaled) → org_rows (branch_of proto new) ≡ org_rows (branch_of proto old)
       → Adds (FallsBranch (branch_of proto old) (branch_of proto new) p (way_down (Origin (branch_of proto old).proto) (Org (branch_of proto old).proto) (branch_of proto old).tables.deletions) None) before now
       → Adds (FallsTree old new p (way_of_route proto old) None) before now
   fed_quietly p before now rows adds =
       let P : List Link → Type 0 = λ way. Adds (FallsTree old new p way None) before now in
       subst P (way_placed proto old placed) (falls_quietly proto old new differ placed p _ before now rows adds)
 
-  pub fed_on : (p : Network) (change : Change Interior) (sent : Option (Change Interior)) (before mid now : Journaled)
+  pub fed_on : (p : AddressPrefix) (change : Change Interior) (sent : Option (Change Interior)) (before mid now : Journaled)
       → Adds (FallsBranch (branch_of proto old) (branch_of proto new) p (way_down (Origin (branch_of proto old).proto) (Org (branch_of proto old).proto) (branch_of proto old).tables.deletions) (Some change)) before mid
       → Adds (PassesDown proto old new p sent) mid now → Adds (FallsTree old new p (way_of_route proto old) sent) before now
   fed_on p change sent before mid now adds pass =
@@ -120,7 +120,7 @@ taken proto n old new None before now adds = adds
 taken proto n old new (Some change) before now adds = adds
 
 module _ (proto : Proto) (n : ℕ) (old new : Treed) (differ : DifferAt proto old new) (placed : (branch_of proto old).proto ≡ proto) (kept : branch_of proto new ≡ with_tables (branch_of proto old) (branch_of proto new).tables) where
-  swept : (p : Network) → (branch_of proto new).tables ≡ swept_tables n p (branch_of proto old).tables → new ≡ swept_tree proto n p old
+  swept : (p : AddressPrefix) → (branch_of proto new).tables ≡ swept_tables n p (branch_of proto old).tables → new ≡ swept_tree proto n p old
   swept p after = differ ∙ ap (λ (b : Branch). put_branch proto b old) (kept ∙ ap (with_tables (branch_of proto old)) after)
 
   pub sweeps_nothing : (before now : Journaled) → IsTakenBranch (branch_of proto old) (branch_of proto new) n before now Nothing → IsTakenTree old new (Rdel proto n) before now Nothing

@@ -1,6 +1,6 @@
 -- A tree with another branch for one protocol.
 use Rattle.std.proofs.Common.{◌≡◌, cond, length, Option, None, Some, refl, ◌∙◌}
-use Rattle.addr4.specs.Prefixes.{Network}
+use Rattle.addr4.specs.Prefixes.{AddressPrefix}
 use Rattle.rib_route.specs.declared.Proto.{Proto}
 use Rattle.rib_route.specs.declared.Proto.TheVariants.{Connected, Static, Ospf, Rip}
 use Rattle.rib_route.specs.declared.rows.Interior.{Interior}
@@ -45,6 +45,6 @@ put_kept f proto b t same other = put_seen f proto other b t ∙ by proto other 
 
 -- ---- the stages of a branch
 -- as many after a change of a route
-pub few_fed : (b : Branch) (p : Network) (new : Option Interior) → length (fed_branch b p new).tables.deletions ≡ length b.tables.deletions
+pub few_fed : (b : Branch) (p : AddressPrefix) (new : Option Interior) → length (fed_branch b p new).tables.deletions ≡ length b.tables.deletions
 few_fed b p None = refl
 few_fed b p (Some row) = few_map (without p) b.tables.deletions

@@ -2,7 +2,7 @@
 use Rattle.std.specs.Prelude.{ℕ, ◌+◌, ◌||◌, Bool, cond, List, map, Option}
 use Rattle.std.specs.List.{list_any}
 use Rattle.std.specs.FinMap.{FinMap}
-use Rattle.addr4.specs.Prefixes.{Network, prefix_cmp}
+use Rattle.addr4.specs.Prefixes.{AddressPrefix, prefix_cmp}
 use Rattle.rib_route.specs.declared.Proto.{Proto}
 use Rattle.rib_route.specs.declared.rows.Interior.{Interior}
 use Rattle.link_change.specs.Rows.{is_empty_map}
@@ -27,7 +27,7 @@ new_branch proto = record { proto = proto; losses = 0; tables = no_tables }
 abbrev pub with_tables : Branch → Tables Interior → Branch
 with_tables b t = record b { tables = t }
 
-abbrev pub fed_branch : Branch → Network → Option Interior → Branch
+abbrev pub fed_branch : Branch → AddressPrefix → Option Interior → Branch
 fed_branch b p row = with_tables b (fed_tables b.tables p row)
 
 -- The protocol's routes are lost: they go to a stage of their own, which has the next number. Where no route is live, all stays
@@ -49,7 +49,7 @@ abbrev pub weld_entries : Branch → List (Entry Value)
 weld_entries b = chain_weld_entries (Origin b.proto) (Org b.proto) b.tables.deletions
 
 -- the row at a prefix leaves the table of a loss
-abbrev pub swept_branch : ℕ → Network → Branch → Branch
+abbrev pub swept_branch : ℕ → AddressPrefix → Branch → Branch
 swept_branch loss p b = with_tables b (swept_tables loss p b.tables)
 
 -- what a turn of the stage of a loss came to; where no such stage stands, nothing
@@ -61,7 +61,7 @@ abbrev pub overdue_of : Branch → Option Task
 overdue_of b = chain_overdue (Origin b.proto) b.tables
 
 -- whether a table, if there is one, has a row at a prefix, or at one that holds one of these addresses
-abbrev pub table_holds_up : Option (FinMap prefix_cmp Interior) → Network → List ℕ → Bool
+abbrev pub table_holds_up : Option (FinMap prefix_cmp Interior) → AddressPrefix → List ℕ → Bool
 table_holds_up t p addresses = has_row t p || list_any (has_over t) addresses
 
 -- the tasks of the stages, that of the earliest loss first

@@ -6,7 +6,7 @@ use Rattle.std.specs.List.{AllByRecursion}
 use Rattle.std.specs.Coded.{Coded, code_by, coded×, coded_ℕ}
 use Rattle.std.specs.FinMap as map
 use Rattle.std.specs.FinMap.{FinMap}
-use Rattle.addr4.specs.Prefixes.{Network, prefix_cmp}
+use Rattle.addr4.specs.Prefixes.{AddressPrefix, prefix_cmp}
 use Rattle.rib_route.specs.declared.Proto.{Proto}
 use Rattle.rib_route.specs.declared.rows.Interior.{Interior}
 use Rattle.link_change.specs.Rows.{Rows, Candidates, with_rows}
@@ -61,5 +61,5 @@ abbrev pub LeadsBranch : Branch → List (Entry Value) → Branch → Type 0
 LeadsBranch old entries new = LeadsTables interior_value (Origin old.proto) old.tables entries new.tables
 
 -- a fall at a prefix down this way
-abbrev pub FallsBranch : Branch → Branch → Network → List Link → Option (Change Interior) → List (Entry Value) → Type 0
+abbrev pub FallsBranch : Branch → Branch → AddressPrefix → List Link → Option (Change Interior) → List (Entry Value) → Type 0
 FallsBranch old new p way sent entries = FallsTables interior_value (Origin old.proto) old.tables new.tables p way sent entries

@@ -1,6 +1,6 @@
 -- What one change of an interior route causes: messages at one prefix, down the links of the tree.
 use Rattle.std.specs.Prelude.{ℕ, List, [], ◌∷◌, ◌++◌, Option}
-use Rattle.addr4.specs.Prefixes.{Network}
+use Rattle.addr4.specs.Prefixes.{AddressPrefix}
 use Rattle.rib_route.specs.declared.Proto.{Proto}
 use Rattle.rib_route.specs.declared.Proto.TheVariants.{Connected, Static, Ospf, Rip}
 use Rattle.rib_route.specs.declared.rows.Interior.{Interior}
@@ -35,6 +35,6 @@ abbrev pub LeadsTree : Treed → List (Entry Value) → Treed → Type 0
 LeadsTree old entries new = (others : Links Value) → Leads (beside_tree others old) entries (beside_tree others new)
 
 -- a fall at a prefix down this way
-pub record FallsTree (old new : Treed) (p : Network) (way : List Link) (sent : Option (Change Interior)) (entries : List (Entry Value)) : Type 0 where
+pub record FallsTree (old new : Treed) (p : AddressPrefix) (way : List Link) (sent : Option (Change Interior)) (entries : List (Entry Value)) : Type 0 where
   pub leads : LeadsTree old entries new
   pub down : GoesDown p way sent entries

@@ -3,7 +3,7 @@ use Rattle.std.specs.Prelude.{◌≡◌, ℕ, ◌+◌, ◌≤◌, true, false, S
 use Rattle.std.specs.List.{Contains}
 use Rattle.std.specs.FinMap as map
 use Rattle.std.specs.FinMap.{FinMap}
-use Rattle.addr4.specs.Prefixes.{Network, prefix_cmp}
+use Rattle.addr4.specs.Prefixes.{AddressPrefix, prefix_cmp}
 use Rattle.rib_route.specs.declared.Proto.{Proto}
 use Rattle.rib_route.specs.declared.rows.Interior.{Interior}
 use Rattle.journal_text.specs.declared.link.Task.{Task}
@@ -20,18 +20,18 @@ ANewTreeStands = IsTree new_tree × IsFull new_tree
 -- A row of `int` is the row of its protocol, and no protocol has a row of lesser distance there.
 abbrev pub TheLeastDistanceStands : Type 0
 TheLeastDistanceStands =
-    (t : Treed) (p : Network) (row : Interior) → IsTree t → int_rows t p ≡ Some row
+    (t : Treed) (p : AddressPrefix) (row : Interior) → IsTree t → int_rows t p ≡ Some row
     → (org_rows (branch_of row.proto t) p ≡ Some row)
     × ((proto : Proto) (other : Interior) → org_rows (branch_of proto t) p ≡ Some other → interior_distance row ≤ interior_distance other)
 
 -- `int` has none only where no protocol has one.
 abbrev pub EachRowCounts : Type 0
-EachRowCounts = (t : Treed) (p : Network) → int_rows t p ≡ None → (proto : Proto) → org_rows (branch_of proto t) p ≡ None
+EachRowCounts = (t : Treed) (p : AddressPrefix) → int_rows t p ≡ None → (proto : Proto) → org_rows (branch_of proto t) p ≡ None
 
 -- A turn of a deletion stage takes one row.
 abbrev pub TurnsTakeRows : Type 0
 TurnsTakeRows =
-    (t : Treed) (proto : Proto) (n : ℕ) (p : Network) (table : FinMap prefix_cmp Interior) (row : Interior) → IsTree t
+    (t : Treed) (proto : Proto) (n : ℕ) (p : AddressPrefix) (table : FinMap prefix_cmp Interior) (row : Interior) → IsTree t
     → table_of n (branch_of proto t).tables.deletions ≡ Some table → map.get table p ≡ Some row
     → tree_count (swept_tree proto n p t) + 1 ≡ tree_count t
 
@@ -45,13 +45,13 @@ LossesKeepRows = (t : Treed) (proto : Proto) → tree_count (lost_tree proto t) 
 
 -- Each row of `org.PROTO` is one of the protocol.
 abbrev pub RowsAreOwn : Type 0
-RowsAreOwn = (b : Branch) (p : Network) (row : Interior) → IsBranch b → org_rows b p ≡ Some row → row.proto ≡ b.proto
+RowsAreOwn = (b : Branch) (p : AddressPrefix) (row : Interior) → IsBranch b → org_rows b p ≡ Some row → row.proto ≡ b.proto
 
 -- ---- which tasks hold up a prefix
 -- A task without work holds up none.
 abbrev pub NoneHeldUpWithoutWork : Type 0
 NoneHeldUpWithoutWork =
-    (t : Treed) (task : Task) (p : Network) (a : ℕ) → has_tree_turn t task ≡ false → (tree_lags t task p ≡ false) × (tree_over t task a ≡ false)
+    (t : Treed) (task : Task) (p : AddressPrefix) (a : ℕ) → has_tree_turn t task ≡ false → (tree_lags t task p ≡ false) × (tree_over t task a ≡ false)
 
 -- One with work is among the tree's tasks.
 abbrev pub WorkIsListed : Type 0
@@ -60,5 +60,5 @@ WorkIsListed = (t : Treed) → IsTree t → (task : Task) → has_tree_turn t ta
 -- Where no task of a protocol holds up a prefix, the row of `org.PROTO` is the live one.
 abbrev pub OrgWhereNoneIsLost : Type 0
 OrgWhereNoneIsLost =
-    (t : Treed) → IsTree t → (proto : Proto) (q : Network) → ((n : ℕ) → tree_lags t (Rdel proto n) q ≡ false)
+    (t : Treed) → IsTree t → (proto : Proto) (q : AddressPrefix) → ((n : ℕ) → tree_lags t (Rdel proto n) q ≡ false)
     → org_rows (branch_of proto t) q ≡ map.get (branch_of proto t).tables.live q

@@ -1,6 +1,6 @@
 -- What the two merges below a protocol's link make of a change on it.
 use Rattle.std.specs.Prelude.{◌≡◌, List, [], ◌∷◌, ◌++◌, Option, Some, None}
-use Rattle.addr4.specs.Prefixes.{Network}
+use Rattle.addr4.specs.Prefixes.{AddressPrefix}
 use Rattle.rib_route.specs.declared.Proto.{Proto}
 use Rattle.rib_route.specs.declared.Proto.TheVariants.{Connected, Static, Ospf, Rip}
 use Rattle.rib_route.specs.declared.rows.Interior.{Interior}
@@ -61,13 +61,13 @@ DifferAt proto old new = new ≡ put_branch proto (branch_of proto new) old
 -- merged link to its rows in this tree
 abbrev pub MergesInto : Proto → Treed → Change Interior → Option (Change Interior) → Type 0
 MergesInto proto new change sent =
-    (old : Treed) (p : Network) → DifferAt proto old new → IsSent (org_rows (branch_of proto old)) (org_rows (branch_of proto new)) p (Some change)
+    (old : Treed) (p : AddressPrefix) → DifferAt proto old new → IsSent (org_rows (branch_of proto old)) (org_rows (branch_of proto new)) p (Some change)
     → IsSent (rows_into proto old) (rows_into proto new) p sent
 
 -- the same of the merged link and `int`
 abbrev pub MergesBelow : Proto → Treed → Change Interior → Option (Change Interior) → Type 0
 MergesBelow proto new change sent =
-    (old : Treed) (p : Network) → DifferAt proto old new → IsSent (rows_into proto old) (rows_into proto new) p (Some change)
+    (old : Treed) (p : AddressPrefix) → DifferAt proto old new → IsSent (rows_into proto old) (rows_into proto new) p (Some change)
     → IsSent (int_rows old) (int_rows new) p sent
 
 -- the entry of what a merge sends
@@ -75,7 +75,7 @@ abbrev pub sent_entries : Link → Option (Change Interior) → List (Entry Valu
 sent_entries = entries_sent interior_value
 
 -- what both merges send, and its entries
-pub record PassesDown (proto : Proto) (old new : Treed) (p : Network) (sent : Option (Change Interior)) (entries : List (Entry Value)) : Type 0 where
+pub record PassesDown (proto : Proto) (old new : Treed) (p : AddressPrefix) (sent : Option (Change Interior)) (entries : List (Entry Value)) : Type 0 where
   pub middle : Option (Change Interior)
   pub into : IsSent (rows_into proto old) (rows_into proto new) p middle
   pub rows : IsSent (int_rows old) (int_rows new) p sent
@@ -84,5 +84,5 @@ pub record PassesDown (proto : Proto) (old new : Treed) (p : Network) (sent : Op
 
 abbrev pub IsPassedDown : Proto → Treed → Change Interior → Journaled → Journaled → Option (Change Interior) → Type 0
 IsPassedDown proto new change before now sent =
-    (old : Treed) (p : Network) → DifferAt proto old new → IsSent (org_rows (branch_of proto old)) (org_rows (branch_of proto new)) p (Some change)
+    (old : Treed) (p : AddressPrefix) → DifferAt proto old new → IsSent (org_rows (branch_of proto old)) (org_rows (branch_of proto new)) p (Some change)
     → Adds (PassesDown proto old new p sent) before now

@@ -2,7 +2,7 @@
 use Rattle.std.specs.Prelude.{◌≡◌, ℕ, Bool, false, is_some, List, Option, Some, None}
 use Rattle.std.specs.FinMap as map
 use Rattle.std.specs.FinMap.{FinMap}
-use Rattle.addr4.specs.Prefixes.{Network, prefix_cmp}
+use Rattle.addr4.specs.Prefixes.{AddressPrefix, prefix_cmp}
 use Rattle.rib_route.specs.declared.Proto.{Proto}
 use Rattle.rib_route.specs.declared.Proto.TheVariants.{Connected, Static, Ospf, Rip}
 use Rattle.rib_route.specs.declared.rows.Interior.{Interior}
@@ -29,7 +29,7 @@ abbrev pub new_tree : Treed
 new_tree = record { connected = new_branch Connected; statics = new_branch Static; ospf = new_branch Ospf; rip = new_branch Rip }
 
 -- a protocol's route at a prefix is this one, or gone
-abbrev pub fed_tree : Treed → Proto → Network → Option Interior → Treed
+abbrev pub fed_tree : Treed → Proto → AddressPrefix → Option Interior → Treed
 fed_tree t proto p row = put_branch proto (fed_branch (branch_of proto t) p row) t
 
 -- a protocol is lost: its routes go to a stage of their own, if there are any
@@ -47,7 +47,7 @@ abbrev pub tree_weld_entries : Proto → Treed → List (Entry Value)
 tree_weld_entries proto t = weld_entries (Origin proto) (Org proto) (branch_of proto t).tables.deletions
 
 -- the row at a prefix leaves the table of a loss
-abbrev pub swept_tree : Proto → ℕ → Network → Treed → Treed
+abbrev pub swept_tree : Proto → ℕ → AddressPrefix → Treed → Treed
 swept_tree proto n p t = put_branch proto (swept_branch n p (branch_of proto t)) t
 
 -- the stage that has to go before the protocol may be lost once more
@@ -56,7 +56,7 @@ tree_overdue proto t = overdue_of (branch_of proto t)
 
 -- A turn of the stage of a protocol's loss: its least row goes, and the messages of that go down.
 pub record SweepsTree (old new : Treed) (proto : Proto) (n : ℕ) (sent : Option (Change Interior)) (entries : List (Entry Value)) : Type 0 where
-  pub prefix : Network
+  pub prefix : AddressPrefix
   pub row : Interior
   pub table : FinMap prefix_cmp Interior
   pub stands : table_of n (branch_of proto old).tables.deletions ≡ Some table
@@ -78,7 +78,7 @@ has_tree_turn t (Out k) = false
 has_tree_turn t (Ref k) = false
 
 -- whether the lost table of a task still has a prefix, and one that holds an address
-abbrev pub tree_lags : Treed → Task → Network → Bool
+abbrev pub tree_lags : Treed → Task → AddressPrefix → Bool
 tree_lags t (Rdel proto n) p = has_row (table_of n (branch_of proto t).tables.deletions) p
 tree_lags t other p = false
 
@@ -87,7 +87,7 @@ tree_over t (Rdel proto n) a = has_over (table_of n (branch_of proto t).tables.d
 tree_over t other a = false
 
 -- whether it still has a prefix, or one that holds one of these addresses
-abbrev pub tree_holds_up : Treed → Network → List ℕ → Task → Bool
+abbrev pub tree_holds_up : Treed → AddressPrefix → List ℕ → Task → Bool
 tree_holds_up t p addresses (Rdel proto n) = table_holds_up (table_of n (branch_of proto t).tables.deletions) p addresses
 tree_holds_up t p addresses other = false
 

@@ -1,5 +1,5 @@
 -- What each event of the interior routes comes to.
-use Rattle.router_moments.proofs.Common.{sym, subst, ◌≡◌, ℕ, refl, true, false, Bool, Network, RouteAdd, RouteDel, Journaled, flushed, with_lines, no_table, Proto, Interior, branch_of, DropsRouteIf, live_state, Moment, Gives, Stands, Pushes, HasStepped}
+use Rattle.router_moments.proofs.Common.{sym, subst, ◌≡◌, ℕ, refl, true, false, Bool, AddressPrefix, RouteAdd, RouteDel, Journaled, flushed, with_lines, no_table, Proto, Interior, branch_of, DropsRouteIf, live_state, Moment, Gives, Stands, Pushes, HasStepped}
 use Rattle.std.proofs.Common.{[], ◌∷◌, Some, None, Result, is_some}
 use Rattle.std.specs.Result.{IfOk}
 use Rattle.std.specs.FinMap as tables
@@ -13,7 +13,7 @@ use Rattle.router_moments.proofs.RouteLemmas.{routed}
 use Rattle.std.specs.Prelude.{IsSome}
 
 -- ---- `route add` and `route del`
-pub route_added : (p : Network) (row : Interior) (m m' : Moment) (before j now : Journaled) → Stands m → IsSome m.declared.speaker → Pushes (λ said. SetsRoute m row.proto p (Some row) said m') before j
+pub route_added : (p : AddressPrefix) (row : Interior) (m m' : Moment) (before j now : Journaled) → Stands m → IsSome m.declared.speaker → Pushes (λ said. SetsRoute m row.proto p (Some row) said m') before j
     → now ≡ flushed j → Gives (HasStepped m (RouteAdd p row) 0 m') before now
 route_added p row m m' before j now stands since u is = gives_pushed (λ said. SetsRoute m row.proto p (Some row) said m') (HasStepped m (RouteAdd p row) 0 m') (λ xs f. record {
   block = (refl, f);
@@ -22,7 +22,7 @@ route_added p row m m' before j now stands since u is = gives_pushed (λ said. S
   keeps = routed m row.proto p (Some row) xs m' stands since f;
 }) before j now u is
 
-pub route_dropped : (proto : Proto) (p : Network) (m m' : Moment) (before j now : Journaled) → Stands m → IsSome m.declared.speaker → is_some (tables.get (branch_of proto m.tree).tables.live p) ≡ true → Pushes (λ said. SetsRoute m proto p None said m') before j
+pub route_dropped : (proto : Proto) (p : AddressPrefix) (m m' : Moment) (before j now : Journaled) → Stands m → IsSome m.declared.speaker → is_some (tables.get (branch_of proto m.tree).tables.live p) ≡ true → Pushes (λ said. SetsRoute m proto p None said m') before j
     → now ≡ flushed j → Gives (HasStepped m (RouteDel proto p) 0 m') before now
 route_dropped proto p m m' before j now stands since has u is = gives_pushed (λ said. SetsRoute m proto p None said m') (HasStepped m (RouteDel proto p) 0 m') (λ xs f. record {
   block = subst (λ (b : Bool). DropsRouteIf b proto p m xs 0 m') (sym has) (refl, f);
@@ -31,7 +31,7 @@ route_dropped proto p m m' before j now stands since has u is = gives_pushed (λ
   keeps = routed m proto p None xs m' stands since f;
 }) before j now u is
 
-pub nothing_dropped : {X : Type 0} (result : Result ℕ X) (proto : Proto) (p : Network) (m : Moment) (before now : Journaled) → Stands m → is_some (tables.get (branch_of proto m.tree).tables.live p) ≡ false
+pub nothing_dropped : {X : Type 0} (result : Result ℕ X) (proto : Proto) (p : AddressPrefix) (m : Moment) (before now : Journaled) → Stands m → is_some (tables.get (branch_of proto m.tree).tables.live p) ≡ false
     → IfOk result (λ turns. (turns ≡ 0) × (now ≡ flushed (with_lines before (lines.Ignored ∷ [])))) → IfOk result (λ turns. Gives (HasStepped m (RouteDel proto p) turns m) before now)
 nothing_dropped result proto p m before now stands has told = ignores result m (RouteDel proto p) before now stands
     (subst (λ (b : Bool). DropsRouteIf b proto p m (lines.Ignored ∷ []) 0 m) (sym has) (refl, refl, refl))

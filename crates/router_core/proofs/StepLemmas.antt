@@ -1,5 +1,5 @@
 -- What each event comes to.
-use Rattle.router_moments.proofs.Common.{sym, subst, ◌∙◌, ap, ◌≡◌, ℕ, refl, List, true, false, Bool, ◌++◌, cond, ◌<◌, Network, Attrs, Message, Update, peer_at, DeclaredPeer, Event, Down, Bgp, Cover, Settled, Work, Journaled, flushed, with_lines, Line, Task, Rows, LiveState, changes_of, Says, width, Interior, ByPeer, EndsIf, HearsIf, first_held, FirstHeldTells, live_state, Moment, Gives, bound_of, all_phases, Tells, Stands, AllHaveExits, Pushes, HasStepped, Keeps, HaveFed}
+use Rattle.router_moments.proofs.Common.{sym, subst, ◌∙◌, ap, ◌≡◌, ℕ, refl, List, true, false, Bool, ◌++◌, cond, ◌<◌, AddressPrefix, Attrs, Message, Update, peer_at, DeclaredPeer, Event, Down, Bgp, Cover, Settled, Work, Journaled, flushed, with_lines, Line, Task, Rows, LiveState, changes_of, Says, width, Interior, ByPeer, EndsIf, HearsIf, first_held, FirstHeldTells, live_state, Moment, Gives, bound_of, all_phases, Tells, Stands, AllHaveExits, Pushes, HasStepped, Keeps, HaveFed}
 use Rattle.std.proofs.Common.{◌^◌, [], ◌∷◌, Option, Some, Result}
 use Rattle.std.specs.Result.{IfOk}
 use Rattle.bgp_wire.specs.declared.notice.Notice.{Notice}
@@ -72,14 +72,14 @@ worked m m' task most turns before j j2 now stands g last is =
         })
 
 -- ---- `cover`
-pub covered : (m : Moment) (addr : ℕ) (found : Option (Network × Interior)) (subnet : Network) (prefix : Option Network) (before j now : Journaled) → Stands m → IsCover width (tables.get m.registry.rows) addr found subnet
+pub covered : (m : Moment) (addr : ℕ) (found : Option (AddressPrefix × Interior)) (subnet : AddressPrefix) (prefix : Option AddressPrefix) (before j now : Journaled) → Stands m → IsCover width (tables.get m.registry.rows) addr found subnet
     → prefix ≡ matched found → j ≡ with_lines before (lines.Cover addr prefix subnet ∷ []) → now ≡ flushed j → Gives (HasStepped m (Cover addr) 0 m) before now
 covered m addr found subnet prefix before j now stands cover is pushed flush = steps_pushed m (Cover addr) (lines.Cover addr (matched found) subnet ∷ []) before j now stands
     (refl, refl, record { found = found; subnet = subnet; cover = subst (λ (rows : Rows Interior). IsCover width rows addr found subnet) stands.registered cover; line = refl }) refl (refl, (refl, tt))
-    (pushed ∙ ap (λ (p : Option Network). with_lines before (lines.Cover addr p subnet ∷ [])) is) flush
+    (pushed ∙ ap (λ (p : Option AddressPrefix). with_lines before (lines.Cover addr p subnet ∷ [])) is) flush
 
 -- ---- `settled`
-pub settled : (m : Moment) (p : Network) (answer : Option Task) (before j now : Journaled) → Stands m → AllHaveExits m → FirstHeldTells → answer ≡ first_held m p
+pub settled : (m : Moment) (p : AddressPrefix) (answer : Option Task) (before j now : Journaled) → Stands m → AllHaveExits m → FirstHeldTells → answer ≡ first_held m p
     → j ≡ with_lines before (lines.Settled p answer ∷ []) → now ≡ flushed j → Gives (HasStepped m (Settled p) 0 m) before now
 settled m p answer before j now stands all tells is = steps_pushed m (Settled p) (lines.Settled p answer ∷ []) before j now stands
     (refl, refl, record { answer = answer; tells = subst (Tells m p) (sym is) (tells m stands all p); line = refl }) refl (refl, (refl, tt))
@@ -97,11 +97,11 @@ refresh_heard k p m m' message r before now stands same is flush = subst (λ (x 
     (gives_none (HasHeard k p m (messages.Refresh r) m') before now (record { hears = (refl, is); keeps = subst (λ (n : Moment). Keeps (live_state m) m n []) (sym is) (refreshed_keeps k m stands r) }) flush)
 
 -- the prefixes of an UPDATE were announced and withdrawn
-pub update_heard : (k : ℕ) (p : DeclaredPeer) (m m' : Moment) (message : Message) (update : Update) (changes : List (Network × Option Attrs)) (before j now : Journaled) → message ≡ messages.Update update → changes ≡ changes_of update
+pub update_heard : (k : ℕ) (p : DeclaredPeer) (m m' : Moment) (message : Message) (update : Update) (changes : List (AddressPrefix × Option Attrs)) (before j now : Journaled) → message ≡ messages.Update update → changes ≡ changes_of update
     → Pushes (HaveFed k changes m m') before j → now ≡ flushed j → Gives (HasHeard k p m message m') before now
 update_heard k p m m' message update changes before j now same is fed flush = subst (λ (x : Message). Gives (HasHeard k p m x m') before now) (sym same)
     (gives_pushed (HaveFed k (changes_of update) m m') (HasHeard k p m (messages.Update update) m') (λ xs h. record { hears = h.feeds; keeps = h.keeps }) before j now
-    (subst (λ (c : List (Network × Option Attrs)). Pushes (HaveFed k c m m') before j) is fed) flush)
+    (subst (λ (c : List (AddressPrefix × Option Attrs)). Pushes (HaveFed k c m m') before j) is fed) flush)
 
 pub end_heard : (k : ℕ) (p : DeclaredPeer) (m m' : Moment) (message : Message) (before now : Journaled) → message ≡ messages.Notification → Gives (HasLost k p.session m m') before now
     → Gives (HasHeard k p m message m') before now

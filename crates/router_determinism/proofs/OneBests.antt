@@ -1,12 +1,12 @@
 -- What the decision makes of a change leaves no choice.
-use Rattle.router_moments.proofs.Common.{sym, subst, ◌∙◌, ap, ◌≡◌, ℕ, List, Network, Route, IsSent, Change, Entry, Value, PeerRows, ComesOn, Exited, best_rows, best_entries, Queues, Moment, Chains, Resolvers, Registry, Interior, with_exits, with_hops, with_chains}
+use Rattle.router_moments.proofs.Common.{sym, subst, ◌∙◌, ap, ◌≡◌, ℕ, List, AddressPrefix, Route, IsSent, Change, Entry, Value, PeerRows, ComesOn, Exited, best_rows, best_entries, Queues, Moment, Chains, Resolvers, Registry, Interior, with_exits, with_hops, with_chains}
 use Rattle.std.proofs.Common.{Option, Some, None}
 use Rattle.stage_determinism.proofs.OneLemmas.{sent_is_one}
 use Rattle.router_moments.specs.Bests.{DecidesOn}
 use Rattle.exit_determinism.specs.Laws.{PutIsOne}
 
 -- from rows of the branches that the change led to these, one change of the best route comes, or none
-pub decision_is_one : (k : ℕ) (sent other : Option (Change Route)) (before now is : PeerRows) (p : Network) (xs ys : List (Entry Value)) → sent ≡ other → now ≡ is → ComesOn k p sent before now
+pub decision_is_one : (k : ℕ) (sent other : Option (Change Route)) (before now is : PeerRows) (p : AddressPrefix) (xs ys : List (Entry Value)) → sent ≡ other → now ≡ is → ComesOn k p sent before now
     → (a : DecidesOn k sent now xs) (b : DecidesOn k other is ys) → (a.best ≡ b.best) × (xs ≡ ys)
 decision_is_one k sent other before now is p xs ys same rows comes a b = (best, a.lines ∙ ap best_entries best ∙ sym b.lines)
   where

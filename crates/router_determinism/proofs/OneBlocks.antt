@@ -1,5 +1,5 @@
 -- What an event does leaves no choice: a line for each kind of event.
-use Rattle.router_moments.proofs.Common.{with_queue, ◌+◌, int_rows, bound_of, sym, subst, ◌∙◌, ap, ◌≡◌, ℕ, refl, List, ◌++◌, Bool, true, false, not, Network, Speaker, Rule, Rows, Line, Value, Link, Task, AreOctets, Message, peer_at, DeclaredPeer, Event, IsWellFormed, Exited, Chains, Interior, Proto, Moment, Stands, rules_to, router_links, with_exits, with_chains, with_tree, journal_lines, IsBlock, ByPeer, BySpeaker, BeginsIf, EndsIf, HearsIf, Begins, Declares, DropsRouteIf, Shows, FallsRoute, Turns, fed_tree, way_of_route, branch_of, tree_overdue}
+use Rattle.router_moments.proofs.Common.{with_queue, ◌+◌, int_rows, bound_of, sym, subst, ◌∙◌, ap, ◌≡◌, ℕ, refl, List, ◌++◌, Bool, true, false, not, AddressPrefix, Speaker, Rule, Rows, Line, Value, Link, Task, AreOctets, Message, peer_at, DeclaredPeer, Event, IsWellFormed, Exited, Chains, Interior, Proto, Moment, Stands, rules_to, router_links, with_exits, with_chains, with_tree, journal_lines, IsBlock, ByPeer, BySpeaker, BeginsIf, EndsIf, HearsIf, Begins, Declares, DropsRouteIf, Shows, FallsRoute, Turns, fed_tree, way_of_route, branch_of, tree_overdue}
 use Rattle.std.proofs.Common.{[], ◌∷◌, length, map, Option, Some, None, is_some}
 use Rattle.std.specs.FinMap as tables
 use Rattle.journal_text.specs.declared.line.Line.TheVariants as lines
@@ -79,12 +79,12 @@ module _ (laws : PartsAreOne) (m : Moment) (said other : List Line) (turns more 
       (subst (λ (e : Exited). Just [] (record m { outgoing = tables.insert m.outgoing k rules; exits = e }) other more m2) (sym (laws.exits.edit k rules m.exits f.0 g.0 f.1 g.1)) g.2)
 
   -- ---- interior routes
-  routed_one : (proto : Proto) (p : Network) (row : Option Interior) → FallsRoute m (fed_tree m.tree proto p row) proto p (way_of_route proto m.tree) said m1 → FallsRoute m (fed_tree m.tree proto p row) proto p (way_of_route proto m.tree) other m2 → One said m1 other m2
+  routed_one : (proto : Proto) (p : AddressPrefix) (row : Option Interior) → FallsRoute m (fed_tree m.tree proto p row) proto p (way_of_route proto m.tree) said m1 → FallsRoute m (fed_tree m.tree proto p row) proto p (way_of_route proto m.tree) other m2 → One said m1 other m2
   routed_one proto p row f g =
       route_is_one laws.hops laws.reached laws.exits.put laws.interior m (fed_tree m.tree proto p row) proto p (way_of_route proto m.tree)
       (λ s v xs ys first sent second also. laws.route proto p m.tree (fed_tree m.tree proto p row) s v xs ys stands.interior.tree first sent second also) said other m1 m2 f g
 
-  dropped_one : (there : Bool) (proto : Proto) (p : Network) → DropsRouteIf there proto p m said turns m1 → DropsRouteIf there proto p m other more m2 → OneStep said turns m1 other more m2
+  dropped_one : (there : Bool) (proto : Proto) (p : AddressPrefix) → DropsRouteIf there proto p m said turns m1 → DropsRouteIf there proto p m other more m2 → OneStep said turns m1 other more m2
   dropped_one false proto p f g = just_one _ _ said other turns more m1 m2 f g
   dropped_one true proto p f g = no_turns said other turns more m1 m2 f.0 g.0 (routed_one proto p None f.1 g.1)
 
@@ -99,15 +99,15 @@ module _ (laws : PartsAreOne) (m : Moment) (said other : List Line) (turns more 
   covered_one : (addr : ℕ) → CoversAddress addr m said → CoversAddress addr m other → said ≡ other
   covered_one addr f g =
       let one = laws.hops.cover width (int_rows m.tree) addr f.found g.found f.subnet g.subnet f.cover g.cover in
-      f.line ∙ ap (λ (o : Option (Network × Interior)). lines.Cover addr (matched o) f.subnet ∷ []) one.0 ∙ ap (λ (s : Network). lines.Cover addr (matched g.found) s ∷ []) one.1 ∙ sym g.line
+      f.line ∙ ap (λ (o : Option (AddressPrefix × Interior)). lines.Cover addr (matched o) f.subnet ∷ []) one.0 ∙ ap (λ (s : AddressPrefix). lines.Cover addr (matched g.found) s ∷ []) one.1 ∙ sym g.line
 
-  told_one : (p : Network) → TellsSettled p m said → TellsSettled p m other → said ≡ other
+  told_one : (p : AddressPrefix) → TellsSettled p m said → TellsSettled p m other → said ≡ other
   told_one p f g = f.line ∙ ap (λ (o : Option Task). lines.Settled p o ∷ []) (f.tells.first ∙ sym g.tells.first) ∙ sym g.line
 
   shown_one : (link : Link) (rows : Option (Rows Value)) → Shows link rows said → Shows link rows other → said ≡ other
   shown_one link None f g = f ∙ sym g
   shown_one link (Some rows) f g =
-      f.2 ∙ ap (λ (l : List (Network × Value)). map (λ r. lines.Row link r.0 r.1) l ++ lines.Rows link (length l) ∷ []) (laws.listed rows f.0 g.0 f.1.order f.1.each f.1.all g.1.order g.1.each g.1.all) ∙ sym g.2
+      f.2 ∙ ap (λ (l : List (AddressPrefix × Value)). map (λ r. lines.Row link r.0 r.1) l ++ lines.Rows link (length l) ∷ []) (laws.listed rows f.0 g.0 f.1.order f.1.each f.1.all g.1.order g.1.each g.1.all) ∙ sym g.2
 
   -- ---- work
   idled_one : Idles m said turns m1 → Idles m other more m2 → OneStep said turns m1 other more m2

@@ -1,5 +1,5 @@
 -- A fall in the chain of a peer, and all that follows it, leaves no choice; nor does a turn of a peer's next hops.
-use Rattle.router_moments.proofs.Common.{same_Some, sym, subst, ◌∙◌, ap, ◌≡◌, ℕ, refl, List, ◌++◌, Network, Attrs, Route, Change, Entry, Line, Value, Task, Chained, Chains, chain_at, filt_at, filt_rows, filt_candidates, Resolvers, ComesOn, GoesOn, all_at, Moment, own_of, Stands, journal_lines, FallsPeer, IsPeerTurn}
+use Rattle.router_moments.proofs.Common.{same_Some, sym, subst, ◌∙◌, ap, ◌≡◌, ℕ, refl, List, ◌++◌, AddressPrefix, Attrs, Route, Change, Entry, Line, Value, Task, Chained, Chains, chain_at, filt_at, filt_rows, filt_candidates, Resolvers, ComesOn, GoesOn, all_at, Moment, own_of, Stands, journal_lines, FallsPeer, IsPeerTurn}
 use Rattle.std.proofs.Common.{is_some, IsSome, Option}
 use Rattle.hop_side.specs.Steps.{TurnsBelow}
 use Rattle.peer_side.specs.Peers.{peer_of}
@@ -26,7 +26,7 @@ same_lines a b r s c d w v first second third fourth =
 module _ (hops : HopsAreOne) (weld : chains.WeldIsOne) (puts : PutIsOne)
     (k : ℕ) (sent : Option (Change Route)) (P : Chains → List (Entry Value) → Type 0) (one : (a b : Chains) (xs ys : List (Entry Value)) → P a xs → P b ys → (a ≡ b) × (xs ≡ ys))
     (m : Moment) (said other : List Line) (m1 m2 : Moment) (stands : Stands m) (there : IsSome (chain_at k m.chains)) (f : FallsPeer k sent P m said m1) (g : FallsPeer k sent P m other m2)
-    (p : Network) (changes : Changes k p sent m.chains f.fallen) where
+    (p : AddressPrefix) (changes : Changes k p sent m.chains f.fallen) where
   part : (f.fallen ≡ g.fallen) × (f.entries ≡ g.entries)
   part = one f.fallen g.fallen f.entries g.entries f.part g.part
 
@@ -57,7 +57,7 @@ module _ (hops : HopsAreOne) (weld : chains.WeldIsOne) (puts : PutIsOne)
 
 module _ (hops : HopsAreOne) (weld : chains.WeldIsOne) (puts : PutIsOne) where
   -- a prefix that a peer announces or withdraws
-  pub feed_is_one : chains.FeedIsOne → (k : ℕ) (change : Network × Option Attrs) (m : Moment) (said other : List Line) (m1 m2 : Moment) → Stands m → Feeds k change m said m1 → Feeds k change m other m2 → (said ≡ other) × (m1 ≡ m2)
+  pub feed_is_one : chains.FeedIsOne → (k : ℕ) (change : AddressPrefix × Option Attrs) (m : Moment) (said other : List Line) (m1 m2 : Moment) → Stands m → Feeds k change m said m1 → Feeds k change m other m2 → (said ≡ other) × (m1 ≡ m2)
   feed_is_one law k change m said other m1 m2 stands t u =
       fall_is_one hops weld puts k t.0 (FeedsInward k change.0 change.1 t.0 m.chains) one m said other m1 m2 stands (ap is_some t.1.part.feeds.at) t.1
       (subst (λ (s : Option (Change Route)). FallsPeer k s (FeedsInward k change.0 change.1 s m.chains) m other m2) (sym sent) u.1) change.0 t.1.part.changes
@@ -91,7 +91,7 @@ module _ (hops : HopsAreOne) (weld : chains.WeldIsOne) (puts : PutIsOne) where
       turned = hops.turns k (filt_candidates t.chain) (filt_rows t.chain) m.registry m1.registry m2.registry m.hops m1.hops m2.hops t.sent u.sent t.entries u.entries t.turn
           (subst (λ (c : Chained). TurnsBelow k (filt_candidates c) (filt_rows c) u.sent m.registry m2.registry m.hops m2.hops u.entries) (same_Some u.chain t.chain (sym u.at ∙ t.at)) u.turn)
 
-      goes : (p : Network) × GoesOn k p t.sent m.hops m1.hops t.entries (filt_at m.chains) (filt_at m.chains)
+      goes : (p : AddressPrefix) × GoesOn k p t.sent m.hops m1.hops t.entries (filt_at m.chains) (filt_at m.chains)
       goes = hop_goes k m said m1 stands t
 
       decided : (t.decided.best ≡ u.decided.best) × (t.best ≡ u.best)

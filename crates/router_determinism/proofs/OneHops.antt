@@ -1,5 +1,5 @@
 -- What follows a change that goes through a resolver, and what a change of `int` makes of the register and its clients, leave no choice.
-use Rattle.router_moments.proofs.Common.{sym, subst, ◌∙◌, ap, ◌≡◌, ℕ, List, Network, Route, Change, Entry, Value, Resolvers, PeerRows, ComesOn, AllCounted, Registry, Interior, RibExit}
+use Rattle.router_moments.proofs.Common.{sym, subst, ◌∙◌, ap, ◌≡◌, ℕ, List, AddressPrefix, Route, Change, Entry, Value, Resolvers, PeerRows, ComesOn, AllCounted, Registry, Interior, RibExit}
 use Rattle.std.proofs.Common.{Option, Some, None}
 use Rattle.hop_side.specs.Steps.{res_entries, ReachesBelow}
 use Rattle.register_interest.specs.declared.interests.Interest.{Interest}
@@ -10,7 +10,7 @@ use Rattle.router_determinism.specs.Parts.{HopsAreOne}
 use Rattle.router_moments.specs.Turns.{ResolvesOn, Invalidates}
 
 -- what goes on below a resolver, over rows which the change led on
-pub resolving_is_one : hops.TakesHopIsOne → (k : ℕ) (sent : Option (Change Route)) (uppers now : PeerRows) (p : Network) (r r1 r2 : Registry Interior) (h h1 h2 : Resolvers) (s t : Option (Change Route)) (xs ys : List (Entry Value))
+pub resolving_is_one : hops.TakesHopIsOne → (k : ℕ) (sent : Option (Change Route)) (uppers now : PeerRows) (p : AddressPrefix) (r r1 r2 : Registry Interior) (h h1 h2 : Resolvers) (s t : Option (Change Route)) (xs ys : List (Entry Value))
     → AllCounted uppers h → ComesOn k p sent uppers now → ResolvesOn k sent s r r1 h h1 xs → ResolvesOn k sent t r r2 h h2 ys
     → (s ≡ t) × (r1 ≡ r2) × (h1 ≡ h2) × (xs ≡ ys)
 resolving_is_one law k None uppers now p r r1 r2 h h1 h2 s t xs ys counted comes f g =

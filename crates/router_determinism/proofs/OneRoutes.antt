@@ -1,5 +1,5 @@
 -- A change of an interior route, and all that follows it, leaves no choice; nor do turns of redistribution, and of what goes to `fib`.
-use Rattle.router_moments.proofs.Common.{same_Some, sym, subst, ◌∙◌, ap, ◌≡◌, ℕ, refl, List, ◌++◌, Network, Route, Rows, IsSent, Change, Entry, Line, Value, Resolvers, filt_at, Registry, Interior, Exited, Queued, Takes, Treed, int_rows, int_candidates, welded_tree, branch_of, RibExit, Proto, Link, Speaker, Passed, Protos, redistributed, passed_rows, own_entries, all_at, Moment, own_of, best_of, with_exits, with_tree, read_rows, read_rows_by, StandsOver, Stands, journal_lines, FallsRoute, BelowInt, sent_entries, route_value, with_queue}
+use Rattle.router_moments.proofs.Common.{same_Some, sym, subst, ◌∙◌, ap, ◌≡◌, ℕ, refl, List, ◌++◌, AddressPrefix, Route, Rows, IsSent, Change, Entry, Line, Value, Resolvers, filt_at, Registry, Interior, Exited, Queued, Takes, Treed, int_rows, int_candidates, welded_tree, branch_of, RibExit, Proto, Link, Speaker, Passed, Protos, redistributed, passed_rows, own_entries, all_at, Moment, own_of, best_of, with_exits, with_tree, read_rows, read_rows_by, StandsOver, Stands, journal_lines, FallsRoute, BelowInt, sent_entries, route_value, with_queue}
 use Rattle.std.proofs.Common.{Option, Some, None}
 use Rattle.rib_tree.specs.Falls.{FallsTree, way_of_sweep}
 use Rattle.rib_tree.specs.Steps.{swept_tree, tree_weld_entries}
@@ -29,7 +29,7 @@ same_below m r s h i e f x y registry hops exits rib =
     ∙ ap (λ (u : RibExit). record m { registry = s; hops = i; exits = f; rib = u }) rib
 
 -- ---- what follows a change of `int`
-module _ (hops : HopsAreOne) (reached : forward.ReachedIsOne) (puts : PutIsOne) (interior : forward.InteriorIsOne) (m : Moment) (t : Treed) (p : Network) (change : Change Interior) (m1 m2 : Moment) (xs ys : List (Entry Value))
+module _ (hops : HopsAreOne) (reached : forward.ReachedIsOne) (puts : PutIsOne) (interior : forward.InteriorIsOne) (m : Moment) (t : Treed) (p : AddressPrefix) (change : Change Interior) (m1 m2 : Moment) (xs ys : List (Entry Value))
     (sent : IsSent (int_rows m.tree) (int_rows t) p (Some change)) (f : FollowsInt change (int_rows t) (with_tree m t) m1 xs) (g : FollowsInt change (int_rows t) (with_tree m t) m2 ys) where
   me : g.me ≡ f.me
   me = same_Some g.me f.me (sym g.local ∙ f.local)
@@ -66,7 +66,7 @@ module _ (hops : HopsAreOne) (reached : forward.ReachedIsOne) (puts : PutIsOne) 
 
 module _ (hops : HopsAreOne) (reached : forward.ReachedIsOne) (puts : PutIsOne) (interior : forward.InteriorIsOne) where
   -- what follows a change of `int`, if one came
-  below_is_one : (m : Moment) (t : Treed) (p : Network) (sent : Option (Change Interior)) (m1 m2 : Moment) (xs ys : List (Entry Value)) → IsSent (int_rows m.tree) (int_rows t) p sent
+  below_is_one : (m : Moment) (t : Treed) (p : AddressPrefix) (sent : Option (Change Interior)) (m1 m2 : Moment) (xs ys : List (Entry Value)) → IsSent (int_rows m.tree) (int_rows t) p sent
       → BelowInt sent (int_rows t) (with_tree m t) m1 xs → BelowInt sent (int_rows t) (with_tree m t) m2 ys → (m1 ≡ m2) × (xs ≡ ys)
   below_is_one m t p None m1 m2 xs ys sent first second = (first.0 ∙ sym second.0, first.1 ∙ sym second.1)
   below_is_one m t p (Some change) m1 m2 xs ys sent first second =
@@ -77,7 +77,7 @@ module _ (hops : HopsAreOne) (reached : forward.ReachedIsOne) (puts : PutIsOne) 
 
   -- ---- a change of a route
   -- Where what goes down the tree this way is one, all that a change of a route does is.
-  pub route_is_one : (m : Moment) (new : Treed) (proto : Proto) (p : Network) (way : List Link)
+  pub route_is_one : (m : Moment) (new : Treed) (proto : Proto) (p : AddressPrefix) (way : List Link)
       → ((s t : Option (Change Interior)) (xs ys : List (Entry Value)) → FallsTree m.tree new p way s xs → IsSent (int_rows m.tree) (int_rows new) p s → FallsTree m.tree new p way t ys → IsSent (int_rows m.tree) (int_rows new) p t → (s ≡ t) × (xs ≡ ys))
       → (said other : List Line) (m1 m2 : Moment) → FallsRoute m new proto p way said m1 → FallsRoute m new proto p way other m2 → (said ≡ other) × (m1 ≡ m2)
   route_is_one m new proto p way falls said other m1 m2 f g = (
@@ -99,7 +99,7 @@ module _ (hops : HopsAreOne) (reached : forward.ReachedIsOne) (puts : PutIsOne) 
   route_turn_is_one row law proto n m said other m1 m2 stands t u =
       route_is_one m (swept_tree proto n t.prefix m.tree) proto t.prefix (way_of_sweep proto n m.tree)
       (λ s v xs ys first sent second also. law proto n t.prefix m.tree (swept_tree proto n t.prefix m.tree) s v xs ys stands.interior.tree first sent second also)
-      said other m1 m2 t.falls (subst (λ (q : Network). FallsRoute m (swept_tree proto n q m.tree) proto q (way_of_sweep proto n m.tree) other m2) (sym at) u.falls)
+      said other m1 m2 t.falls (subst (λ (q : AddressPrefix). FallsRoute m (swept_tree proto n q m.tree) proto q (way_of_sweep proto n m.tree) other m2) (sym at) u.falls)
     where
       at : t.prefix ≡ u.prefix
       at = (row n (branch_of proto m.tree).tables.deletions t.table u.table t.prefix u.prefix t.row u.row t.stands u.stands t.least u.least).1
@@ -122,7 +122,7 @@ module _ (hops : HopsAreOne) (reached : forward.ReachedIsOne) (puts : PutIsOne) 
       mine : (n : Moment) → n ≡ with_exits (with_redist m n.redist) n.exits → own_of n ≡ own_of (with_redist m n.redist)
       mine n is = ap own_of is
 
-      moved : (p : Network) × IsSent (own_of m) (own_of (with_redist m m1.redist)) p t.own
+      moved : (p : AddressPrefix) × IsSent (own_of m) (own_of (with_redist m m1.redist)) p t.own
       moved = own_sent m t.me m1.redist t.own t.local t.walks
 
       decided : (t.decided.best ≡ u.decided.best) × (t.best ≡ u.best)

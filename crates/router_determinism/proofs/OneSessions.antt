@@ -1,5 +1,5 @@
 -- What a message of a peer does, and the loss of a session, leave no choice.
-use Rattle.router_moments.proofs.Common.{sym, subst, ◌∙◌, ap, ◌≡◌, ℕ, List, ◌++◌, Bool, inl, inr, Network, Attrs, Profile, Entry, Line, Value, Message, peer_at, DeclaredPeer, Declaration, LiveState, Exited, overdue_at, Moment, Stands, with_exits, with_chains, journal_lines, FeedsAll, RunsFirst, AreHeard, IsHeardMessage, changes_of}
+use Rattle.router_moments.proofs.Common.{sym, subst, ◌∙◌, ap, ◌≡◌, ℕ, List, ◌++◌, Bool, inl, inr, AddressPrefix, Attrs, Profile, Entry, Line, Value, Message, peer_at, DeclaredPeer, Declaration, LiveState, Exited, overdue_at, Moment, Stands, with_exits, with_chains, journal_lines, FeedsAll, RunsFirst, AreHeard, IsHeardMessage, changes_of}
 use Rattle.std.proofs.Common.{[], ◌∷◌, Option, Some, None}
 use Rattle.bgp_wire.specs.Grammar.{Answers, EachHasOne, Reads}
 use Rattle.bgp_wire.specs.Updates.{fault}
@@ -38,7 +38,7 @@ module _ (p : Profile) (external : Bool) (octets : List ℕ) where
 
 module _ (laws : PartsAreOne) where
   -- ---- an UPDATE
-  feeds_are_one : (k : ℕ) (cs : List (Network × Option Attrs)) (m : Moment) (said other : List Line) (m1 m2 : Moment) → Stands m → IsUpAt k m → AreHeard m.declared.profile cs → FeedsAll k cs m said m1 → FeedsAll k cs m other m2 → One said m1 other m2
+  feeds_are_one : (k : ℕ) (cs : List (AddressPrefix × Option Attrs)) (m : Moment) (said other : List Line) (m1 m2 : Moment) → Stands m → IsUpAt k m → AreHeard m.declared.profile cs → FeedsAll k cs m said m1 → FeedsAll k cs m other m2 → One said m1 other m2
   feeds_are_one k [] m said other m1 m2 stands up heard f g = (f.0 ∙ sym g.0, f.1 ∙ sym g.1)
   feeds_are_one k (c ∷ cs) m said other m1 m2 stands up heard f g =
       let first = feed_is_one laws.hops laws.weld laws.exits.put laws.feed k c m f.0 g.0 f.2 g.2 stands f.3 g.3 in

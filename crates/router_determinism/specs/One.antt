@@ -1,6 +1,6 @@
 -- What turns and blocks do leaves no choice: given the moment before, what is said, how many turns are taken, and the moment after are one.
 use Rattle.std.specs.Prelude.{◌≡◌, ℕ, true, List}
-use Rattle.addr4.specs.Prefixes.{Network}
+use Rattle.addr4.specs.Prefixes.{AddressPrefix}
 use Rattle.link_change.specs.Rows.{Rows}
 use Rattle.journal_text.specs.declared.line.Line.{Line}
 use Rattle.journal_text.specs.declared.link.Task.{Task}
@@ -47,4 +47,4 @@ BlockIsOne =
 
 -- The rows of a link, by prefix, are one list.
 abbrev pub ListingIsOne : Type 0
-ListingIsOne = (rows : Rows Value) (one other : List (Network × Value)) → AreRows rows one → AreRows rows other → one ≡ other
+ListingIsOne = (rows : Rows Value) (one other : List (AddressPrefix × Value)) → AreRows rows one → AreRows rows other → one ≡ other

@@ -1,5 +1,5 @@
 -- What follows a change of `res.K`: what is decided, and what its entries lead to.
-use Rattle.router_moments.proofs.Common.{sym, subst, ◌∙◌, ap, ◌≡◌, ℕ, refl, List, true, arith, ◌≤◌, cond, ◌<◌, suc, zero, nat_eq, nat_lt, nat_tests, itself, Network, Route, Speaker, best_is_a_branchs, best_rows, Declaration, Exited, resolver_at, Resolvers, rows_by, PeerRows, ComesOn, leads_sent, Journaled, Adds, with_entries, route_value, route_rows, Leads, Links, with_link, Entry, Link, Best, Value, IsSent, Rows, no_rows, Change, joined, with_side, LeadsIn, Decided, same_by, Passed, chain_at, Chains, filt_at, filt_by, Protos, int_rows, Treed, int_candidates, own_rows, all_at, best_at, best_links, best_entries, Queues, lent_rows, resolved_at, Moment, best_of, own_of, with_exits, candidates_of, Decides}
+use Rattle.router_moments.proofs.Common.{sym, subst, ◌∙◌, ap, ◌≡◌, ℕ, refl, List, true, arith, ◌≤◌, cond, ◌<◌, suc, zero, nat_eq, nat_lt, nat_tests, itself, AddressPrefix, Route, Speaker, best_is_a_branchs, best_rows, Declaration, Exited, resolver_at, Resolvers, rows_by, PeerRows, ComesOn, leads_sent, Journaled, Adds, with_entries, route_value, route_rows, Leads, Links, with_link, Entry, Link, Best, Value, IsSent, Rows, no_rows, Change, joined, with_side, LeadsIn, Decided, same_by, Passed, chain_at, Chains, filt_at, filt_by, Protos, int_rows, Treed, int_candidates, own_rows, all_at, best_at, best_links, best_entries, Queues, lent_rows, resolved_at, Moment, best_of, own_of, with_exits, candidates_of, Decides}
 use Rattle.std.proofs.Common.{[], Option, Some, None}
 use Rattle.journal_text.proofs.JournalLemmas.{with_entries_none}
 use Rattle.link_region.proofs.RegionLemmas.{by_bool}
@@ -63,7 +63,7 @@ best_none rows none i p = by_row (best_rows rows p) refl i
 
 -- ---- what is decided
 -- the same rows, where nothing came
-pub comes_none : (k : ℕ) (p : Network) (before now : PeerRows) → ComesOn k p None before now → now ≡ before
+pub comes_none : (k : ℕ) (p : AddressPrefix) (before now : PeerRows) → ComesOn k p None before now → now ≡ before
 comes_none k p before now comes i j = each j i
   where
     each : (j : ℕ) → now j ≡ before j
@@ -95,7 +95,7 @@ decides_none k sent m j is = (
 )
 
 -- over the rows that are lent, what leads leads for those of all branches
-leads_by : (k : ℕ) (own : Rows Route) (a : Chains) (h : Resolvers) (change : Change Route) (best : Option (Change Route)) → k ≤ 64 → DecidesOver k (lent_rows own a h) change best → (was : PeerRows) (p : Network) → ComesOn k p (Some change) was (all_at own a h)
+leads_by : (k : ℕ) (own : Rows Route) (a : Chains) (h : Resolvers) (change : Change Route) (best : Option (Change Route)) → k ≤ 64 → DecidesOver k (lent_rows own a h) change best → (was : PeerRows) (p : AddressPrefix) → ComesOn k p (Some change) was (all_at own a h)
     → IsSent (best_rows was) (best_rows (all_at own a h)) p best
 leads_by k own a h change best small decides was p comes =
     subst (λ (r : Rows Route). IsSent r (best_rows (all_at own a h)) p best) (same_best former was former_is)
@@ -128,10 +128,10 @@ decides_some k sent change best m m' d t s a h before now small is declared tree
 )
   where
     LeadsTo : Option (Change Route) → PeerRows → Type 0
-    LeadsTo o now = (was : PeerRows) (p : Network) → ComesOn k p o was now → IsSent (best_rows was) (best_rows now) p best
+    LeadsTo o now = (was : PeerRows) (p : AddressPrefix) → ComesOn k p o was now → IsSent (best_rows was) (best_rows now) p best
 
 -- ---- the region of `best`
-pub best_leads : (s : Option Speaker) (me : Speaker) (old new : Rows Route) (p : Network) (best : Option (Change Route)) → s ≡ Some me → IsSent old new p best → LeadsIn Decided (best_links s old) (best_entries best) (best_links s new)
+pub best_leads : (s : Option Speaker) (me : Speaker) (old new : Rows Route) (p : AddressPrefix) (best : Option (Change Route)) → s ≡ Some me → IsSent old new p best → LeadsIn Decided (best_links s old) (best_entries best) (best_links s new)
 best_leads s me old new p best since sent sides is =
     subst (λ (l : Links Value). Leads (joined sides) (best_entries best) l) (λ i link. each link i)
     (leads_sent route_value (λ a b e. cc) (joined sides) Best old new p best (ap (λ (l : Links Value). l Best) is ∙ ap (λ (x : Option Speaker). best_links x old Best) since) sent)
@@ -144,7 +144,7 @@ best_leads s me old new p best since sent sides is =
 pub best_of_none : (k : ℕ) (passed : Option (Change Route)) (now : PeerRows) (entries : List (Entry Value)) (d : DecidesOn k passed now entries) → passed ≡ None → d.best ≡ None
 best_of_none k passed now entries d none = by_best d.best refl
   where
-    nowhere : Network
+    nowhere : AddressPrefix
     nowhere = record { address = 0; length = 0 }
 
     sent : IsSent (best_rows now) (best_rows now) nowhere d.best

@@ -4,7 +4,7 @@ use Rattle.std.specs.List.{Contains}
 use Rattle.std.specs.FinMap as tables
 use Rattle.std.specs.FinMap.{FinMap, get, remove, contains_key, get-remove, len-remove, get-empty, len-empty, same_map}
 use Rattle.std.specs.Ordering.{eq_by_cmp}
-use Rattle.addr4.specs.Prefixes.{Network, prefix_cmp}
+use Rattle.addr4.specs.Prefixes.{AddressPrefix, prefix_cmp}
 use Rattle.addr4.specs.Places.{IsBeyond}
 use Rattle.addr4.proofs.PrefixOrder.{prefixes_total, exact_prefixes, itself}
 use Rattle.link_change.specs.Rows.{Rows, with_rows}
@@ -31,11 +31,11 @@ either : (a b : Option Interior) → is_some (row_of_both interior_distance a b)
 either None b is = is
 either (Some x) b is = refl
 
-merged_listed : {ps qs : List Network} {m n : ℕ} {a b : Option Network → ℕ} (left right : Rows Interior) → Lists ps m a (with_rows left) → Lists qs n b (with_rows right)
+merged_listed : {ps qs : List AddressPrefix} {m n : ℕ} {a b : Option AddressPrefix → ℕ} (left right : Rows Interior) → Lists ps m a (with_rows left) → Lists qs n b (with_rows right)
     → Lists (ps ++ qs) (m + n) (λ place. a place + b place) (with_rows (merged interior_distance left right))
 merged_listed left right x y = like (joined x y) refl (λ place. refl) (λ q. either (left q) (right q))
 
-pub tree_listed : (t : Treed) → (prefixes : List Network) × Lists prefixes (tree_count t) (tree_beyond t) (int_candidates t)
+pub tree_listed : (t : Treed) → (prefixes : List AddressPrefix) × Lists prefixes (tree_count t) (tree_beyond t) (int_candidates t)
 tree_listed t =
     let c = tables_listed t.connected.tables in
     let s = tables_listed t.statics.tables in
@@ -43,25 +43,25 @@ tree_listed t =
     let r = tables_listed t.rip.tables in
     ((c.0 ++ s.0) ++ (o.0 ++ r.0), like (merged_listed (low_rows t) (dyn_rows t) (merged_listed (org_rows t.connected) (org_rows t.statics) c.1 s.1) (merged_listed (org_rows t.ospf) (org_rows t.rip) o.1 r.1)) (omega arith) (λ place. omega arith) (λ q is. is))
 
-abbrev pub tree_keys : Treed → List Network
+abbrev pub tree_keys : Treed → List AddressPrefix
 tree_keys t = (tree_listed t).0
 
 pub tree_length : (t : Treed) → length (tree_keys t) ≡ tree_count t
 tree_length t = (tree_listed t).1.all
 
-pub has_tree_key : (t : Treed) (p : Network) → int_candidates t p ≡ true → Contains (tree_keys t) p
+pub has_tree_key : (t : Treed) (p : AddressPrefix) → int_candidates t p ≡ true → Contains (tree_keys t) p
 has_tree_key t p is = (tree_listed t).1.stands p is
 
-pub tree_most : (t : Treed) (place : Option Network) → tree_beyond t place ≤ tree_beyond t None
+pub tree_most : (t : Treed) (place : Option AddressPrefix) → tree_beyond t place ≤ tree_beyond t None
 tree_most t place = listed_most (tree_listed t).1 place
 
-pub tree_within : (t : Treed) (place : Option Network) → tree_beyond t place ≤ tree_count t
+pub tree_within : (t : Treed) (place : Option AddressPrefix) → tree_beyond t place ≤ tree_count t
 tree_within t place = listed_within (tree_listed t).1 place
 
-pub tree_further : (t : Treed) (place : Option Network) (p : Network) → IsBeyond place p → tree_beyond t (Some p) ≤ tree_beyond t place
+pub tree_further : (t : Treed) (place : Option AddressPrefix) (p : AddressPrefix) → IsBeyond place p → tree_beyond t (Some p) ≤ tree_beyond t place
 tree_further t place p h = listed_further (tree_listed t).1 place p h
 
-pub tree_fewer : (t : Treed) (place : Option Network) (p : Network) → IsBeyond place p → int_candidates t p ≡ true → tree_beyond t (Some p) < tree_beyond t place
+pub tree_fewer : (t : Treed) (place : Option AddressPrefix) (p : AddressPrefix) → IsBeyond place p → int_candidates t p ≡ true → tree_beyond t (Some p) < tree_beyond t place
 tree_fewer t place p h is = listed_fewer (tree_listed t).1 place p h is
 
 -- the candidates of `int` are counted
@@ -69,13 +69,13 @@ pub tree_counted : (t : Treed) → CountsBeyond (int_candidates t) (tree_beyond 
 tree_counted t = listed_counts (tree_listed t).1
 
 -- a turn of a stage leaves no more
-put_beyond : (place : Option Network) (proto : Proto) (b : Branch) (t : Treed) → tables_beyond place b.tables ≤ tables_beyond place (branch_of proto t).tables → tree_beyond (put_branch proto b t) place ≤ tree_beyond t place
+put_beyond : (place : Option AddressPrefix) (proto : Proto) (b : Branch) (t : Treed) → tables_beyond place b.tables ≤ tables_beyond place (branch_of proto t).tables → tree_beyond (put_branch proto b t) place ≤ tree_beyond t place
 put_beyond place Connected b t less = omega (arith, less)
 put_beyond place Static b t less = omega (arith, less)
 put_beyond place Ospf b t less = omega (arith, less)
 put_beyond place Rip b t less = omega (arith, less)
 
-pub sweep_beyond : (place : Option Network) (proto : Proto) (n : ℕ) (p : Network) (t : Treed) → tree_beyond (welded_tree proto (swept_tree proto n p t)) place ≤ tree_beyond t place
+pub sweep_beyond : (place : Option AddressPrefix) (proto : Proto) (n : ℕ) (p : AddressPrefix) (t : Treed) → tree_beyond (welded_tree proto (swept_tree proto n p t)) place ≤ tree_beyond t place
 sweep_beyond place proto n p t =
     let swept = swept_tree proto n p t in
     let first = put_beyond place proto (swept_branch n p (branch_of proto t)) t (swept_beyond place n p (branch_of proto t).tables) in
@@ -87,7 +87,7 @@ none_of : {A : Type 0} (o : Option A) → (is_some o ≡ true → ⊥) → o ≡
 none_of None never = refl
 none_of (Some x) never = absurd (never refl)
 
-later : (x q : Network) (rest : List Network) → Contains (x ∷ rest) q → (x ≡ q → ⊥) → Contains rest q
+later : (x q : AddressPrefix) (rest : List AddressPrefix) → Contains (x ∷ rest) q → (x ≡ q → ⊥) → Contains rest q
 later x q rest (zero, lt, is) ne = absurd (ne is)
 later x q rest (suc i, lt, is) ne = (i, omega (arith, lt), is)
 
@@ -98,22 +98,22 @@ both_less false true n k n' k' most apart a b le = omega (arith, a, b, le)
 both_less false false n k n' k' most apart a b le = omega (arith, a, b, le)
 
 module _ {V : Type 0} where
-  abbrev AreIn : List Network → FinMap prefix_cmp V → Type 0
-  AreIn ps t = (q : Network) → contains_key t q ≡ true → Contains ps q
+  abbrev AreIn : List AddressPrefix → FinMap prefix_cmp V → Type 0
+  AreIn ps t = (q : AddressPrefix) → contains_key t q ≡ true → Contains ps q
 
   no_key : (t : FinMap prefix_cmp V) → AreIn [] t → tables.len t ≡ 0
   no_key t each = ap (λ (m : FinMap prefix_cmp V). tables.len m) (same_map prefixes_total exact_prefixes t tables.empty (λ q. none_of (get t q) (λ has. let w = each q has in omega (arith, w.1)) ∙ sym (get-empty prefix_cmp q))) ∙ len-empty prefix_cmp V
 
-  still : (t : FinMap prefix_cmp V) (p q : Network) → contains_key (remove t p) q ≡ true → (contains_key t q ≡ true) × (p ≡ q → ⊥)
+  still : (t : FinMap prefix_cmp V) (p q : AddressPrefix) → contains_key (remove t p) q ≡ true → (contains_key t q ≡ true) × (p ≡ q → ⊥)
   still t p q has = by_bool (eq_by_cmp prefix_cmp q p) (λ b. eq_by_cmp prefix_cmp q p ≡ b → is_some (cond b None (get t q)) ≡ true → (contains_key t q ≡ true) × (p ≡ q → ⊥))
       (λ _ _ clash. absurd (cc))
       (λ _ apart there. (there, λ same. let met : eq_by_cmp prefix_cmp q p ≡ true = ap (eq_by_cmp prefix_cmp q) same ∙ itself q in absurd (cc)))
       refl (ap is_some (sym (get-remove prefixes_total t p q)) ∙ has)
 
-  rest_in : (p : Network) (ps : List Network) (t : FinMap prefix_cmp V) → AreIn (p ∷ ps) t → AreIn ps (remove t p)
+  rest_in : (p : AddressPrefix) (ps : List AddressPrefix) (t : FinMap prefix_cmp V) → AreIn (p ∷ ps) t → AreIn ps (remove t p)
   rest_in p ps t each q has = let w = still t p q has in later p q ps (each q w.0) w.1
 
-  pub few_both : (ps : List Network) (a b : FinMap prefix_cmp V) → ((q : Network) → contains_key a q ≡ true → contains_key b q ≡ true → ⊥) → AreIn ps a → AreIn ps b → tables.len a + tables.len b ≤ length ps
+  pub few_both : (ps : List AddressPrefix) (a b : FinMap prefix_cmp V) → ((q : AddressPrefix) → contains_key a q ≡ true → contains_key b q ≡ true → ⊥) → AreIn ps a → AreIn ps b → tables.len a + tables.len b ≤ length ps
   few_both [] a b apart ina inb = let x = no_key a ina in let y = no_key b inb in omega (arith, x, y)
   few_both (p ∷ ps) a b apart ina inb =
       both_less (contains_key a p) (contains_key b p) (tables.len a) (tables.len b) (tables.len (remove a p)) (tables.len (remove b p)) (length ps) (apart p) (len-remove prefixes_total a p) (len-remove prefixes_total b p)

@@ -11,7 +11,7 @@ pub use Rattle.std.specs.Option.{ForSome, option_or, option_copied}
 pub use Rattle.std.specs.Ordering.{nat_cmp, eq_by_cmp}
 pub use Rattle.addr4.proofs.PrefixOrder.{itself}
 pub use Rattle.addr4.specs.Places.{key_of}
-pub use Rattle.addr4.specs.Prefixes.{Network, prefix_cmp}
+pub use Rattle.addr4.specs.Prefixes.{AddressPrefix, prefix_cmp}
 pub use Rattle.bgp_attr.specs.Hosts.{is_host_prefix}
 pub use Rattle.bgp_attr.specs.declared.attrs.Attrs.{Attrs}
 pub use Rattle.bgp_attr.specs.declared.route.Route.{Route}

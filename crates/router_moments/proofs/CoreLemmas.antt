@@ -1,5 +1,5 @@
 -- What holds of a core after each of its calls.
-use Rattle.router_moments.proofs.Common.{sym, subst, ◌∙◌, ap, ◌≡◌, ℕ, refl, List, true, arith, false, ◌+◌, Bool, ◌≤◌, ◌<◌, get-empty, nat_cmp, Network, Route, Profile, peer_at, Declaration, IsWellFormed, DeclaredPeer, Event, ArePrintableExits, Chained, neighbours, AreTablesOf, IsInteriorRow, IsPrintableChain, Journaled, Line, Task, Change, declared_after, LiveState, Hop, Resolving, Metric, OutChained, chain_at, Proto, Interior, of_new, branch_of, first_held, FirstHeldTells, RowsAtRestAreExact, live_state, Moment, best_of, Gives, all_phases, ArePrinted, IsPrintableMoment, Tells, Stands, ExitsAt, AllHaveExits, StandsAt, HaveReaders, HasStepped, Keeps, TakesTurn, RunsOut, HaveSameExits, Done, Taken, Phase}
+use Rattle.router_moments.proofs.Common.{sym, subst, ◌∙◌, ap, ◌≡◌, ℕ, refl, List, true, arith, false, ◌+◌, Bool, ◌≤◌, ◌<◌, get-empty, nat_cmp, AddressPrefix, Route, Profile, peer_at, Declaration, IsWellFormed, DeclaredPeer, Event, ArePrintableExits, Chained, neighbours, AreTablesOf, IsInteriorRow, IsPrintableChain, Journaled, Line, Task, Change, declared_after, LiveState, Hop, Resolving, Metric, OutChained, chain_at, Proto, Interior, of_new, branch_of, first_held, FirstHeldTells, RowsAtRestAreExact, live_state, Moment, best_of, Gives, all_phases, ArePrinted, IsPrintableMoment, Tells, Stands, ExitsAt, AllHaveExits, StandsAt, HaveReaders, HasStepped, Keeps, TakesTurn, RunsOut, HaveSameExits, Done, Taken, Phase}
 use Rattle.std.proofs.Common.{length, Option, Some, None, is_some}
 use Rattle.std.specs.FinMap.{len-empty}
 use Rattle.event_text.specs.Declarations.{plain, refusal}
@@ -77,7 +77,7 @@ pub exact_after : RowsAtRestAreExact → (m' : Moment) (k : ℕ) → CoreStands 
 exact_after law m' k after = law m' after.stands after.exits
 
 -- what the first task that holds up a prefix tells, of a core by its parts
-pub core_tells : (c : Cored) (m : Moment) (n : ℕ) (failed : Bool) (p : Network) (answer : Option Task) → record { moment = m; events = n; failed = failed } ≡ c → CoreStands c → FirstHeldTells → answer ≡ first_held m p → Tells c.moment p answer
+pub core_tells : (c : Cored) (m : Moment) (n : ℕ) (failed : Bool) (p : AddressPrefix) (answer : Option Task) → record { moment = m; events = n; failed = failed } ≡ c → CoreStands c → FirstHeldTells → answer ≡ first_held m p → Tells c.moment p answer
 core_tells c m n failed p answer view stands tells is =
     let own = subst CoreStands (sym view) stands in
     subst (λ (x : Cored). Tells x.moment p answer) view (subst (Tells m p) (sym is) (tells m own.stands own.exits p))
@@ -170,8 +170,8 @@ first_moment_stands law = record {
     same = λ k. ap is_some (get-empty {X = Resolving Metric} nat_cmp k) ∙ sym (ap is_some (get-empty {X = Chained} nat_cmp k));
     agree = λ k s at. absurd (let none = get-empty {X = Resolving Metric} nat_cmp k in cc);
     counted = λ k s at. absurd (let none = get-empty {X = Resolving Metric} nat_cmp k in cc);
-    strangers = λ k peer none s. ap is_some (get-empty {X = Option Network} interest_cmp (record { subnet = s; client = k }));
-    matches = λ i found at. absurd (let none = get-empty {X = Option Network} interest_cmp i in cc);
+    strangers = λ k peer none s. ap is_some (get-empty {X = Option AddressPrefix} interest_cmp (record { subnet = s; client = k }));
+    matches = λ i found at. absurd (let none = get-empty {X = Option AddressPrefix} interest_cmp i in cc);
   };
   exits = record {
     rows = λ k c at. absurd (let none = get-empty {X = Chained} nat_cmp k in cc);
@@ -186,7 +186,7 @@ first_moment_stands law = record {
   };
   external = record {
     sound = external_at_first.sound;
-    agree = external_at_first.agree first_moment.registry (λ s. ap is_some (get-empty {X = Option Network} interest_cmp (record { subnet = s; client = 0 })));
+    agree = external_at_first.agree first_moment.registry (λ s. ap is_some (get-empty {X = Option AddressPrefix} interest_cmp (record { subnet = s; client = 0 })));
   };
   waits = record { own = λ before. refl; external = λ before. refl };
 }

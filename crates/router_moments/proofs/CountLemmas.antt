@@ -1,5 +1,5 @@
 -- How many turns are left, by the table of phases: what a turn makes of it, and what is over.
-use Rattle.router_moments.proofs.Common.{sym, ◌∙◌, ap, ◌≡◌, ℕ, refl, List, arith, false, ◌+◌, ◌≤◌, ◌*◌, nat_cmp_total, AllByRecursion, Network, Route, Exited, OutChains, OutChained, unread_or_none, Chained, Change, LiveState, no_table, Passed, Walked, Chains, rows_in, lost_in, Protos, Proto, Connected, Static, Ospf, Rip, Treed, branch_of, tree_count, int_candidates, Queues, live_state, Moment, best_of, candidates_of, most_unread, counts, all_phases, beyonds, unread_if, tree_beyond, external_beyond, fin_sends, best_beyond, own_sends, own_sends_by, own_waiting, Stands, Phase}
+use Rattle.router_moments.proofs.Common.{sym, ◌∙◌, ap, ◌≡◌, ℕ, refl, List, arith, false, ◌+◌, ◌≤◌, ◌*◌, nat_cmp_total, AllByRecursion, AddressPrefix, Route, Exited, OutChains, OutChained, unread_or_none, Chained, Change, LiveState, no_table, Passed, Walked, Chains, rows_in, lost_in, Protos, Proto, Connected, Static, Ospf, Rip, Treed, branch_of, tree_count, int_candidates, Queues, live_state, Moment, best_of, candidates_of, most_unread, counts, all_phases, beyonds, unread_if, tree_beyond, external_beyond, fin_sends, best_beyond, own_sends, own_sends_by, own_waiting, Stands, Phase}
 use Rattle.std.proofs.Common.{[], ◌∷◌, length, Option, None, Some, is_some}
 use Rattle.std.specs.FinMap as tables
 use Rattle.loss_chain.specs.Tables.{lost_count}
@@ -42,7 +42,7 @@ each_phase P all Ref = all.1.1.1.1.1.1.1.1.0
 
 -- ---- what a turn spends of the stage of a protocol's loss
 -- the walk of redistribution has no more candidates
-own_sends_less : (t t' : Treed) (walk : Option (Walked Protos)) → ((place : Option Network) → tree_beyond t' place ≤ tree_beyond t place) → own_sends_by t' walk ≤ own_sends_by t walk
+own_sends_less : (t t' : Treed) (walk : Option (Walked Protos)) → ((place : Option AddressPrefix) → tree_beyond t' place ≤ tree_beyond t place) → own_sends_by t' walk ≤ own_sends_by t walk
 own_sends_less t t' None less = omega arith
 own_sends_less t t' (Some w) less = let here = less w.place in let later = waiting_less w.waiting in omega (arith, here, later)
   where
@@ -51,7 +51,7 @@ own_sends_less t t' (Some w) less = let here = less w.place in let later = waiti
     waiting_less (Some on) = less None
 
 module _ (m m' : Moment) (best : Option (Change Route)) (chains : m'.chains ≡ m.chains) (redist : m'.redist ≡ m.redist) (queued : Queues best m.exits m'.exits) (live : live_state m' ≡ live_state m)
-    (fewer : tree_count m'.tree + 1 ≡ tree_count m.tree) (less : (place : Option Network) → tree_beyond m'.tree place ≤ tree_beyond m.tree place) where
+    (fewer : tree_count m'.tree + 1 ≡ tree_count m.tree) (less : (place : Option AddressPrefix) → tree_beyond m'.tree place ≤ tree_beyond m.tree place) where
   tree_same : (proto : Proto) → tables.len (branch_of proto m'.tree).tables.live ≡ tables.len (branch_of proto m.tree).tables.live
   tree_same proto = ap (λ (l : LiveState). tables.len (l.interior proto)) live
 

@@ -1,5 +1,5 @@
 -- Each peer that is up has an exit, after each event as before it.
-use Rattle.router_moments.proofs.Common.{sym, subst, ◌∙◌, ap, ◌≡◌, ℕ, refl, List, true, arith, false, ◌+◌, Bool, ◌++◌, cond, nat_eq, not, ◌≢◌, ◌&&◌, nat_tests, Network, Route, Speaker, Message, begun_words, peer_at, Declaration, with_session, without_session, begun_at, DeclaredPeer, Event, Down, Bgp, RouteAdd, RouteDel, Lose, Cover, Settled, Work, As4, Revised, Reflect, Up, Redist, Exited, with_exit, Queued, Line, as4_is_first, revised_is_first, reflect_is_first, declared_after, changes_of, OutChained, overdue_at, Rule, Proto, tree_overdue, ByPeer, IsBlock, BeginsIf, EndsIf, HearsIf, Declares, BySpeaker, Begins, DropsRouteIf, Moment, with_exits, rules_to, all_phases, Stands, AllHaveExits, HaveSameExits}
+use Rattle.router_moments.proofs.Common.{sym, subst, ◌∙◌, ap, ◌≡◌, ℕ, refl, List, true, arith, false, ◌+◌, Bool, ◌++◌, cond, nat_eq, not, ◌≢◌, ◌&&◌, nat_tests, AddressPrefix, Route, Speaker, Message, begun_words, peer_at, Declaration, with_session, without_session, begun_at, DeclaredPeer, Event, Down, Bgp, RouteAdd, RouteDel, Lose, Cover, Settled, Work, As4, Revised, Reflect, Up, Redist, Exited, with_exit, Queued, Line, as4_is_first, revised_is_first, reflect_is_first, declared_after, changes_of, OutChained, overdue_at, Rule, Proto, tree_overdue, ByPeer, IsBlock, BeginsIf, EndsIf, HearsIf, Declares, BySpeaker, Begins, DropsRouteIf, Moment, with_exits, rules_to, all_phases, Stands, AllHaveExits, HaveSameExits}
 use Rattle.std.proofs.Common.{[], ◌∷◌, map, Option, Some, None, is_some}
 use Rattle.std.specs.Prelude.{IsSome, option_map}
 use Rattle.std.specs.FinMap as tables
@@ -176,7 +176,7 @@ module _ (m m' : Moment) (stands : Stands m) (all : AllHaveExits m) where
   heard_if true k p octets said turns ups is = heard k p is.1.0 said ups is.1.2
   heard_if false k p octets said turns ups is = stays is.2
 
-  dropped_if : (has : Bool) (proto : Proto) (p : Network) (said : List Line) (turns : ℕ) → OnlyUp m.declared m'.declared → DropsRouteIf has proto p m said turns m' → AllHaveExits m'
+  dropped_if : (has : Bool) (proto : Proto) (p : AddressPrefix) (said : List Line) (turns : ℕ) → OnlyUp m.declared m'.declared → DropsRouteIf has proto p m said turns m' → AllHaveExits m'
   dropped_if true proto p said turns ups is = by_same m m' all ups (route_same m _ proto p _ said m' is.1)
   dropped_if false proto p said turns ups is = stays is.2
 

@@ -1,5 +1,5 @@
 -- The RIB's exit in the router: what its entries lead to, what stands then, and one turn of the external routes' next hops.
-use Rattle.router_moments.proofs.Common.{sym, subst, ◌∙◌, ap, ◌≡◌, ℕ, refl, List, true, arith, false, ◌+◌, Bool, ◌≤◌, ◌≢◌, Network, Speaker, peer_at, others_are_unheard, AreUnheard, Exited, AllStand, IsExits, AllLead, resolver_at, HasNoInterest, entries_of_entries, Journaled, flushed, Leads, Links, Entry, Line, Value, Change, Turn, joined, with_side, Sides, Region, Forward, no_table, way_of, over, external_hop, chain_at, Registry, StandsOver, ext_rows, AgreesWith, RibExit, FibRow, Interior, int_rows, Moment, best_of, router_links, with_exits, read_rows_by, read_of, parts, forward_by, with_rib, external_beyond, Stands, ExitsAt, ReadsOn, journal_lines, TakesTurn, IsWork, Taken}
+use Rattle.router_moments.proofs.Common.{sym, subst, ◌∙◌, ap, ◌≡◌, ℕ, refl, List, true, arith, false, ◌+◌, Bool, ◌≤◌, ◌≢◌, AddressPrefix, Speaker, peer_at, others_are_unheard, AreUnheard, Exited, AllStand, IsExits, AllLead, resolver_at, HasNoInterest, entries_of_entries, Journaled, flushed, Leads, Links, Entry, Line, Value, Change, Turn, joined, with_side, Sides, Region, Forward, no_table, way_of, over, external_hop, chain_at, Registry, StandsOver, ext_rows, AgreesWith, RibExit, FibRow, Interior, int_rows, Moment, best_of, router_links, with_exits, read_rows_by, read_of, parts, forward_by, with_rib, external_beyond, Stands, ExitsAt, ReadsOn, journal_lines, TakesTurn, IsWork, Taken}
 use Rattle.std.proofs.Common.{Option, Some, None, is_some}
 use Rattle.std.specs.Prelude.{MatchBool}
 use Rattle.std.specs.FinMap as tables
@@ -89,10 +89,10 @@ stands_forward m me e r x stands since agreed sound all stand profile sessions r
 module _ (m : Moment) (r : Registry Interior) (x : RibExit) (sent : Option (Change FibRow)) (entries : List (Entry Value)) (stands : Stands m) (t : TurnsExit (int_rows m.tree) sent m.registry r m.rib x entries) where
   -- as many candidates lie beyond each place
   beyond_same : external_beyond x ≡ external_beyond m.rib
-  beyond_same = ap (λ s. λ (place : Option Network). table_beyond place s.ebgp + table_beyond place s.ibgp) t.rows
+  beyond_same = ap (λ s. λ (place : Option AddressPrefix). table_beyond place s.ebgp + table_beyond place s.ibgp) t.rows
 
   fewer : left_in (external_beyond x) x + 1 ≤ left_in (external_beyond m.rib) m.rib
-  fewer = subst (λ (beyond : Option Network → ℕ). left_in beyond x + 1 ≤ left_in (external_beyond m.rib) m.rib) (sym beyond_same) (t.fewer (external_beyond m.rib) (external_counted m.rib))
+  fewer = subst (λ (beyond : Option AddressPrefix → ℕ). left_in beyond x + 1 ≤ left_in (external_beyond m.rib) m.rib) (sym beyond_same) (t.fewer (external_beyond m.rib) (external_counted m.rib))
 
   -- before `local` there is none
   local : (me : Speaker) × (m.declared.speaker ≡ Some me)

@@ -1,5 +1,5 @@
 -- This speaker's own routes, and the links of the forwarding side, are those that are decided from scratch.
-use Rattle.router_moments.proofs.Common.{◌∙◌, ap, ◌≡◌, ℕ, refl, true, not, Network, Route, Neighbour, Speaker, fib_distance, Rows, way_of, over, redistributed, has, Protos, ext_is_of_best, StandsOver, ext_rows, RibExit, row_of_both, FibRow, Interior, on_link, kept_rows}
+use Rattle.router_moments.proofs.Common.{◌∙◌, ap, ◌≡◌, ℕ, refl, true, not, AddressPrefix, Route, Neighbour, Speaker, fib_distance, Rows, way_of, over, redistributed, has, Protos, ext_is_of_best, StandsOver, ext_rows, RibExit, row_of_both, FibRow, Interior, on_link, kept_rows}
 use Rattle.std.proofs.Common.{Option, Some, None}
 use Rattle.std.specs.Prelude.{option_map}
 use Rattle.rib_route.specs.declared.rows.External.{External}
@@ -10,7 +10,7 @@ use Rattle.rib_split.specs.Splitting.{external_of, external_row as split_row}
 use Rattle.live_state.specs.Decided.{own_row, sent_by, external_row, external_rows, first_router, over_interior, lesser_of}
 
 -- ---- this speaker's own routes
-pub own_at : (me : Speaker) (on : Protos) (p : Network) (o : Option Interior) → redistributed me on p o ≡ own_row me (has on) o
+pub own_at : (me : Speaker) (on : Protos) (p : AddressPrefix) (o : Option Interior) → redistributed me on p o ≡ own_row me (has on) o
 own_at me on p None = refl
 own_at me on p (Some row) = refl
 
@@ -44,7 +44,7 @@ router_is : (gateway : Option ℕ) (hop : ℕ) → way_router gateway hop ≡ fi
 router_is None hop = refl
 router_is (Some gateway) hop = refl
 
-pub over_is : (r : External) (found : Option (Network × Interior)) → over r (way_of found) ≡ over_interior r (option_map (λ x. x.1) found)
+pub over_is : (r : External) (found : Option (AddressPrefix × Interior)) → over r (way_of found) ≡ over_interior r (option_map (λ x. x.1) found)
 over_is r None = refl
 over_is r (Some x) = ap (λ (n : ℕ). Some (record { proto = external_proto r; gateway = Some n; iface = x.1.iface })) (router_is x.1.gateway r.next_hop)
 

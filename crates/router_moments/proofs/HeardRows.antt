@@ -1,5 +1,5 @@
 -- Rows whose attributes may be heard: those of the chains, this speaker's own, and so those of `best`.
-use Rattle.router_moments.proofs.Common.{sym, subst, ◌≡◌, ◌<◌, ℕ, refl, List, true, false, Bool, suc, zero, inr, inl, ForSome, Network, is_host_prefix, Attrs, Route, Profile, Speaker, AreOctets, Message, Update, best_is_a_branchs, filtered, resolver_at, Resolvers, rows_by, Chained, filt_rows, welded, fed, Entry, Task, Value, Rows, Change, changes_of, announced_with, withdrawn_from, all_both, route_hop, with_metric, Resolving, in_force_by, fresh_by, walk_to, goes_on, Metric, RowsMayBeHeard, Passed, function_at, IsSender, MayBeHeard, put_each, chain_at, Chains, filt_at, filt_by, put_chain, Protos, Interior, int_rows, own_rows, all_at, best_at, Moment, best_of, own_of, Stands, MaySend, AreHeard, IsHeardMessage}
+use Rattle.router_moments.proofs.Common.{sym, subst, ◌≡◌, ◌<◌, ℕ, refl, List, true, false, Bool, suc, zero, inr, inl, ForSome, AddressPrefix, is_host_prefix, Attrs, Route, Profile, Speaker, AreOctets, Message, Update, best_is_a_branchs, filtered, resolver_at, Resolvers, rows_by, Chained, filt_rows, welded, fed, Entry, Task, Value, Rows, Change, changes_of, announced_with, withdrawn_from, all_both, route_hop, with_metric, Resolving, in_force_by, fresh_by, walk_to, goes_on, Metric, RowsMayBeHeard, Passed, function_at, IsSender, MayBeHeard, put_each, chain_at, Chains, filt_at, filt_by, put_chain, Protos, Interior, int_rows, own_rows, all_at, best_at, Moment, best_of, own_of, Stands, MaySend, AreHeard, IsHeardMessage}
 use Rattle.std.proofs.Common.{◌^◌, Option, Some, None}
 use Rattle.std.proofs.lemmas.List.Elements.{All-nil}
 use Rattle.std.specs.Prelude.{filter, map, [], ◌∷◌}
@@ -27,7 +27,7 @@ use Rattle.router_moments.specs.Stands.{RowsWereHeard}
 abbrev pub IsHeardChain : Profile → Chained → Type 0
 IsHeardChain profile c = AllRows (MayBeHeard profile) c.incoming.tables
 
-pub fed_heard : (profile : Profile) (c : Chained) (p : Network) (row : Option Attrs) → ForSome row (MayBeHeard profile) → IsHeardChain profile c → IsHeardChain profile (fed c p row)
+pub fed_heard : (profile : Profile) (c : Chained) (p : AddressPrefix) (row : Option Attrs) → ForSome row (MayBeHeard profile) → IsHeardChain profile c → IsHeardChain profile (fed c p row)
 fed_heard profile c p row new heard q r is = elim (feeds_bring_one_row c.incoming.tables p row q r is) as (λ _. MayBeHeard profile r) [
   | inl old ↦ heard q r old
   | inr own ↦ new r own.1
@@ -39,7 +39,7 @@ lost_heard profile s c heard q r is = heard q r (losses_bring_no_row s c.incomin
 pub weld_heard : (profile : Profile) (c : Chained) → IsHeardChain profile c → IsHeardChain profile (welded c)
 weld_heard profile c heard q r is = heard q r (welds_bring_no_row c.incoming.tables q r is)
 
-swept_heard : (profile : Profile) (s : ℕ) (p : Network) (c : Chained) → IsHeardChain profile c → IsHeardChain profile (swept s p c)
+swept_heard : (profile : Profile) (s : ℕ) (p : AddressPrefix) (c : Chained) → IsHeardChain profile c → IsHeardChain profile (swept s p c)
 swept_heard profile s p c heard q r is = heard q r (turns_bring_no_row s p c.incoming.tables q r is)
 
 pub turned_heard : (profile : Profile) (task : Task) (c less : Chained) (sent : Option (Change Route)) (fall : List (Entry Value)) → Turned c less task sent fall → IsHeardChain profile c → IsHeardChain profile less
@@ -115,11 +115,11 @@ pub heard_of : (m : Moment) → Stands m → RowsMayBeHeard m.declared.profile (
 heard_of m stands = heard_best m.declared.profile (own_of m) m.chains m.hops (heard_own m stands) stands.exits.rows
 
 -- ---- what an UPDATE announces
-announced_heard : (profile : Profile) (o : Option Attrs) → ForSome o (MayBeHeard profile) → (ns : List Network) → AreHeard profile (map (announced_with o) ns)
+announced_heard : (profile : Profile) (o : Option Attrs) → ForSome o (MayBeHeard profile) → (ns : List AddressPrefix) → AreHeard profile (map (announced_with o) ns)
 announced_heard profile o own [] = tt
 announced_heard profile o own (n ∷ ns) = (own, announced_heard profile o own ns)
 
-withdrawn_heard : (profile : Profile) (ns : List Network) → AreHeard profile (map withdrawn_from ns)
+withdrawn_heard : (profile : Profile) (ns : List AddressPrefix) → AreHeard profile (map withdrawn_from ns)
 withdrawn_heard profile [] = tt
 withdrawn_heard profile (n ∷ ns) = ((λ a is. absurd (cc)), withdrawn_heard profile ns)
 

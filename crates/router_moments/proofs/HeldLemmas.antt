@@ -1,5 +1,5 @@
 -- The first task that holds up a prefix, phase by phase; and the next hops of peers.
-use Rattle.router_moments.proofs.Common.{sym, ◌∙◌, ap, ◌≡◌, ℕ, refl, List, true, arith, false, ◌+◌, Bool, ◌≤◌, ◌<◌, suc, zero, take, ◌||◌, get_or, ◌-◌, list_any, range_with_len, option_or, Network, Chained, Task, route_hop, chain_at, Chains, filt_at, filt_by, first_held, next_hop_at, holds_up_at, held_in, Moment, all_phases, phase_tasks, Phase}
+use Rattle.router_moments.proofs.Common.{sym, ◌∙◌, ap, ◌≡◌, ℕ, refl, List, true, arith, false, ◌+◌, Bool, ◌≤◌, ◌<◌, suc, zero, take, ◌||◌, get_or, ◌-◌, list_any, range_with_len, option_or, AddressPrefix, Chained, Task, route_hop, chain_at, Chains, filt_at, filt_by, first_held, next_hop_at, holds_up_at, held_in, Moment, all_phases, phase_tasks, Phase}
 use Rattle.std.proofs.Common.{[], ◌∷◌, length, length-set, map, set, drop, Option, Some, None}
 use Rattle.std.specs.Prelude.{option_map}
 use Rattle.std.specs.List.{find, flat_map}
@@ -8,7 +8,7 @@ use Rattle.std.proofs.lemmas.List.Folds.{find-append, list_any-append}
 use Rattle.std.proofs.lemmas.List.FromFn.{map-range_with_len_more}
 use Rattle.router_moments.specs.Holding.{some_so}
 
-module _ (m : Moment) (p : Network) where
+module _ (m : Moment) (p : AddressPrefix) where
   abbrev held : List Task → Option Task
   held = find (λ task. holds_up_at task m p)
 

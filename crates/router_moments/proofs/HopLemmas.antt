@@ -1,5 +1,5 @@
 -- What follows a change on `filt.K`: what the resolvers' entries lead to, and what is claimed of them then.
-use Rattle.router_moments.proofs.Common.{sym, subst, ◌∙◌, ap, ◌≡◌, ℕ, refl, List, true, false, ◌++◌, suc, zero, nat_eq, ◌≢◌, Network, Route, Speaker, best_rows, Exited, resolver_at, Resolvers, PeerRows, hop_links, IsHops, res_at, AllAgree, AllCounted, ComesOn, LeadsRes, HasNoInterest, entries_of_entries, with_entries_append, leads_append, leads_nowhere, Journaled, Adds, with_entries, entries_of, Leads, Links, Entry, Link, Res, Value, IsSent, Rows, Change, joined, with_side, Sides, LeadsIn, Region, Decided, Inward, Resolved, Outward, Resolving, Metric, chain_at, Chains, filt_at, peer_links, Registry, Interior, all_at, best_at, best_links, best_entries, Queues, resolved_at, Moment, best_of, router_links, own_of, with_exits, with_chains, parts, with_hops, Stands, HopsStand, journal_lines, Decides, SettlesPeer}
+use Rattle.router_moments.proofs.Common.{sym, subst, ◌∙◌, ap, ◌≡◌, ℕ, refl, List, true, false, ◌++◌, suc, zero, nat_eq, ◌≢◌, AddressPrefix, Route, Speaker, best_rows, Exited, resolver_at, Resolvers, PeerRows, hop_links, IsHops, res_at, AllAgree, AllCounted, ComesOn, LeadsRes, HasNoInterest, entries_of_entries, with_entries_append, leads_append, leads_nowhere, Journaled, Adds, with_entries, entries_of, Leads, Links, Entry, Link, Res, Value, IsSent, Rows, Change, joined, with_side, Sides, LeadsIn, Region, Decided, Inward, Resolved, Outward, Resolving, Metric, chain_at, Chains, filt_at, peer_links, Registry, Interior, all_at, best_at, best_links, best_entries, Queues, resolved_at, Moment, best_of, router_links, own_of, with_exits, with_chains, parts, with_hops, Stands, HopsStand, journal_lines, Decides, SettlesPeer}
 use Rattle.std.proofs.Common.{[], Option, Some, None, is_some, IsSome}
 use Rattle.std.specs.FinMap as tables
 use Rattle.register_interest.specs.declared.interests.Interest.{Interest}
@@ -18,7 +18,7 @@ use Rattle.router_moments.proofs.BestLemmas.{best_leads, best_quiet, comes_none}
 use Rattle.router_moments.proofs.QueueLemmas.{queue_external, queue_links}
 
 -- A change on `res.K` of a peer comes among all branches, since this speaker's own rows stay; no peer's number is 0.
-pub all_comes : (own : Rows Route) (a a' : Chains) (h h' : Resolvers) (k : ℕ) (p : Network) (sent : Option (Change Route)) → k ≢ 0 → ComesOn k p sent (resolved_at a h) (resolved_at a' h') → ComesOn k p sent (all_at own a h) (all_at own a' h')
+pub all_comes : (own : Rows Route) (a a' : Chains) (h h' : Resolvers) (k : ℕ) (p : AddressPrefix) (sent : Option (Change Route)) → k ≢ 0 → ComesOn k p sent (resolved_at a h) (resolved_at a' h') → ComesOn k p sent (all_at own a h) (all_at own a' h')
 all_comes own a a' h h' zero p sent peer comes = absurd (peer refl)
 all_comes own a a' h h' (suc k) p sent peer comes = record { here = comes.here; others = others }
   where
@@ -43,7 +43,7 @@ res_leads old new entries leads sides is =
 abbrev gone_on : Moment → Resolvers → Sides
 gone_on m h = with_side (parts m) Resolved (hop_links h (filt_at m.chains))
 
-pub leads_resolved : (m : Moment) (me : Speaker) (r : Registry Interior) (h : Resolvers) (e : Exited) (p : Network) (entries : List (Entry Value)) (best : Option (Change Route)) → m.declared.speaker ≡ Some me → HasReader m
+pub leads_resolved : (m : Moment) (me : Speaker) (r : Registry Interior) (h : Resolvers) (e : Exited) (p : AddressPrefix) (entries : List (Entry Value)) (best : Option (Change Route)) → m.declared.speaker ≡ Some me → HasReader m
     → LeadsRes (hop_links m.hops (filt_at m.chains)) entries (hop_links h (filt_at m.chains)) → IsSent (best_of m) (best_at (own_of m) m.chains h) p best → Queues best m.exits e
     → Leads (router_links m) (entries_of (journal_lines (entries ++ best_entries best))) (router_links (with_exits (with_hops m r h) e))
 leads_resolved m me r h e p entries best since live leads sent queued =
@@ -82,7 +82,7 @@ chosen_side m fallen h = with_side (gone_side m fallen h) Decided (best_links m.
 abbrev welded_side : Moment → Chains → Resolvers → Chains → Sides
 welded_side m fallen h cs = with_side (chosen_side m fallen h) Inward (peer_links cs)
 
-pub falls_lead : (m : Moment) (me : Speaker) (fallen cs : Chains) (r : Registry Interior) (h : Resolvers) (e : Exited) (p : Network) (entries resolved weld : List (Entry Value)) (best : Option (Change Route)) → m.declared.speaker ≡ Some me → HasReader m
+pub falls_lead : (m : Moment) (me : Speaker) (fallen cs : Chains) (r : Registry Interior) (h : Resolvers) (e : Exited) (p : AddressPrefix) (entries resolved weld : List (Entry Value)) (best : Option (Change Route)) → m.declared.speaker ≡ Some me → HasReader m
     → LeadsIn Inward (peer_links m.chains) entries (peer_links fallen) → LeadsRes (hop_links m.hops (filt_at m.chains)) resolved (hop_links h (filt_at fallen)) → IsSent (best_of m) (best_at (own_of m) fallen h) p best
     → LeadsIn Inward (peer_links fallen) weld (peer_links cs) → filt_at cs ≡ filt_at fallen → Queues best m.exits e
     → Leads (router_links m) (entries_of (journal_lines (entries ++ (resolved ++ (best_entries best ++ weld))))) (router_links (with_exits (with_hops (with_chains m cs) r h) e))
@@ -164,7 +164,7 @@ hops_reached m reached r h stands given answers below = record {
       (was.0, λ a holds. ap matched (same.1 a holds) ∙ was.1 a holds);
 }
   where
-    kept : (i : Interest) (o : Option (Option Network)) → tables.get r.interests i ≡ o → is_some (tables.get m.registry.interests i) ≡ false → is_some o ≡ false
+    kept : (i : Interest) (o : Option (Option AddressPrefix)) → tables.get r.interests i ≡ o → is_some (tables.get m.registry.interests i) ≡ false → is_some o ≡ false
     kept i None is none = refl
     kept i (Some m0) is none = absurd (let was : is_some (tables.get m.registry.interests i) ≡ true = ap is_some (answers i m0 is).0 in let clash : true ≡ false = sym was ∙ none in cc)
 
@@ -234,7 +234,7 @@ settled_peer k sent passed m m1 m2 v cs before j l now view res after best welds
     same = ap (λ (x : Moment). x.chains) after
 
     LeadsBy : Moment → Type 0
-    LeadsBy x = (was : PeerRows) (p : Network) → ComesOn k p passed was (all_at (own_of x) x.chains m1.hops) → IsSent (best_rows was) (best_at (own_of x) x.chains m1.hops) p best.2.decided.best
+    LeadsBy x = (was : PeerRows) (p : AddressPrefix) → ComesOn k p passed was (all_at (own_of x) x.chains m1.hops) → IsSent (best_rows was) (best_at (own_of x) x.chains m1.hops) p best.2.decided.best
 
     w : Adds (WeldsInward k m.chains cs) l now
     w = subst (λ (a : Chains). Adds (WeldsInward k a cs) l now) (ap (λ (x : Moment). x.chains) view ∙ ap (λ (x : Moment). x.chains) best.2.after ∙ same) welds

@@ -1,5 +1,5 @@
 -- One turn of the next hops of a peer.
-use Rattle.router_moments.proofs.Common.{sym, subst, ◌∙◌, ap, ◌≡◌, ℕ, refl, List, arith, ◌++◌, ◌≤◌, Network, Route, Exited, IsExits, resolver_at, Resolvers, IsHops, AllAgree, GoesOn, candidates_are_counted, Chained, filt_rows, filt_candidates, Journaled, flushed, Adds, Entry, Line, Value, IsSent, Change, Turn, no_table, route_hop, with_metric, metric_of, CountsBeyond, adds_both, chain_at, filt_at, filt_by, Registry, AgreesWith, Interior, all_at, best_at, best_entries, live_state, Moment, best_of, own_of, with_exits, with_hops, beyonds, Stands, ExitsStand, HopsStand, journal_lines, sent_of, TakesTurn, IsWork, Decides, Taken}
+use Rattle.router_moments.proofs.Common.{sym, subst, ◌∙◌, ap, ◌≡◌, ℕ, refl, List, arith, ◌++◌, ◌≤◌, AddressPrefix, Route, Exited, IsExits, resolver_at, Resolvers, IsHops, AllAgree, GoesOn, candidates_are_counted, Chained, filt_rows, filt_candidates, Journaled, flushed, Adds, Entry, Line, Value, IsSent, Change, Turn, no_table, route_hop, with_metric, metric_of, CountsBeyond, adds_both, chain_at, filt_at, filt_by, Registry, AgreesWith, Interior, all_at, best_at, best_entries, live_state, Moment, best_of, own_of, with_exits, with_hops, beyonds, Stands, ExitsStand, HopsStand, journal_lines, sent_of, TakesTurn, IsWork, Decides, Taken}
 use Rattle.std.proofs.Common.{Option, Some, None, is_some}
 use Rattle.std.specs.FinMap as tables
 use Rattle.link_change.specs.declared.turn.Turn.TheVariants as turns
@@ -44,10 +44,10 @@ stands_resolved m r h e stands rows agrees hops exits = record {
 
 -- ---- what a turn does
 -- the change goes on, and what is decided is decided of the best routes then
-pub hop_goes : (k : ℕ) (m : Moment) (said : List Line) (m' : Moment) → Stands m → (t : IsHopTurn k m said m') → (p : Network) × GoesOn k p t.sent m.hops m'.hops t.entries (filt_at m.chains) (filt_at m.chains)
+pub hop_goes : (k : ℕ) (m : Moment) (said : List Line) (m' : Moment) → Stands m → (t : IsHopTurn k m said m') → (p : AddressPrefix) × GoesOn k p t.sent m.hops m'.hops t.entries (filt_at m.chains) (filt_at m.chains)
 hop_goes k m said m' stands t = t.turn.goes (filt_at m.chains) (ap filt_by t.at) stands.hops.counted
 
-pub hop_chosen : (k : ℕ) (m : Moment) (said : List Line) (m' : Moment) (stands : Stands m) (t : IsHopTurn k m said m') (p : Network) → GoesOn k p t.sent m.hops m'.hops t.entries (filt_at m.chains) (filt_at m.chains)
+pub hop_chosen : (k : ℕ) (m : Moment) (said : List Line) (m' : Moment) (stands : Stands m) (t : IsHopTurn k m said m') (p : AddressPrefix) → GoesOn k p t.sent m.hops m'.hops t.entries (filt_at m.chains) (filt_at m.chains)
     → IsSent (best_of m) (best_at (own_of m) m.chains m'.hops) p t.decided.best
 hop_chosen k m said m' stands t p goes =
     t.decided.decides (all_at (own_of m) m.chains m.hops) p (all_comes (own_of m) m.chains m.chains m.hops m'.hops k p t.sent (not_zero k (stands.peers.numbers k (ap is_some t.at)).0) goes.comes)
@@ -68,7 +68,7 @@ hop_works k m said m' stands t = one_turn phases.Nh m now m' said t.after (keeps
     best : Option (Change Route)
     best = t.decided.best
 
-    goes : (p : Network) × GoesOn k p t.sent m.hops m'.hops t.entries (filt_at m.chains) (filt_at m.chains)
+    goes : (p : AddressPrefix) × GoesOn k p t.sent m.hops m'.hops t.entries (filt_at m.chains) (filt_at m.chains)
     goes = hop_goes k m said m' stands t
 
     chosen : IsSent (best_of m) (best_at (own_of m) m.chains m'.hops) goes.0 t.decided.best

@@ -1,5 +1,5 @@
 -- A row that leaves a deletion stage leaves the link below without one: so no more next hops are known than before.
-use Rattle.router_moments.proofs.Common.{sym, subst, ◌∙◌, ap, ◌≡◌, ℕ, refl, List, true, arith, false, ◌+◌, Bool, ◌≤◌, cond, ◌<◌, suc, zero, nat_eq, nat_tests, nat_cmp_total, FinMap, get-entries, Contains, nat_cmp, eq_by_cmp, Network, prefix_cmp, Attrs, Route, filtered, resolver_at, Resolvers, known_in, PeerRows, IsHops, AllCounted, Chained, filt_rows, Entry, Value, sum_replaced, IsSent, Rows, with_row, Change, table_of, swept_one, route_hop, Resolving, Metric, function_at, Registry, Interior, Resolves}
+use Rattle.router_moments.proofs.Common.{sym, subst, ◌∙◌, ap, ◌≡◌, ℕ, refl, List, true, arith, false, ◌+◌, Bool, ◌≤◌, cond, ◌<◌, suc, zero, nat_eq, nat_tests, nat_cmp_total, FinMap, get-entries, Contains, nat_cmp, eq_by_cmp, AddressPrefix, prefix_cmp, Attrs, Route, filtered, resolver_at, Resolvers, known_in, PeerRows, IsHops, AllCounted, Chained, filt_rows, Entry, Value, sum_replaced, IsSent, Rows, with_row, Change, table_of, swept_one, route_hop, Resolving, Metric, function_at, Registry, Interior, Resolves}
 use Rattle.std.proofs.Common.{[], ◌∷◌, map, length, Option, Some, None, IsSome, is_some}
 use Rattle.std.specs.Option.{option_map}
 use Rattle.std.specs.FinMap as tables
@@ -21,11 +21,11 @@ use Rattle.in_chain.specs.Chains.{IsChain}
 use Rattle.in_chain.specs.Steps.{Sweeps}
 
 -- ---- a map has no more keys than one that has them all
-abbrev place_of : ℕ → Network
+abbrev place_of : ℕ → AddressPrefix
 place_of a = record { address = a; length = 0 }
 
 module _ {Y : Type 0} where
-  abbrev places : List (ℕ × Y) → List Network
+  abbrev places : List (ℕ × Y) → List AddressPrefix
   places [] = []
   places (e ∷ es) = place_of e.0 ∷ places es
 
@@ -42,7 +42,7 @@ module _ {Y : Type 0} where
 
   pub fewer_keys : {X : Type 0} (new : FinMap nat_cmp X) (old : FinMap nat_cmp Y) → ((a : ℕ) → contains_key new a ≡ true → contains_key old a ≡ true) → len new ≤ len old
   fewer_keys new old each =
-      let most = few (λ (q : Network). Some q.address) (places (entries old)) new (λ a has. (place_of a, refl, there a (tables.get old a) refl (each a has))) in
+      let most = few (λ (q : AddressPrefix). Some q.address) (places (entries old)) new (λ a has. (place_of a, refl, there a (tables.get old a) refl (each a has))) in
       let size = places_length (entries old) in
       let all = len-entries old in
       omega (arith, most, size, all)
@@ -52,7 +52,7 @@ module _ {Y : Type 0} where
       there a (Some y) at has = has_place a y (entries old) (sym (get-entries old a) ∙ at)
 
 -- ---- a row that leaves a lost table
-module _ {R : Type 0} (live : FinMap prefix_cmp R) (n : ℕ) (p : Network) (table : FinMap prefix_cmp R) (row : R) (at : tables.get table p ≡ Some row) where
+module _ {R : Type 0} (live : FinMap prefix_cmp R) (n : ℕ) (p : AddressPrefix) (table : FinMap prefix_cmp R) (row : R) (at : tables.get table p ≡ Some row) where
   over_some : (o u : Option R) → IsSome u → IsSome (row_over o u)
   over_some None u some = some
   over_some (Some r) u some = refl
@@ -101,18 +101,18 @@ module _ {R : Type 0} (live : FinMap prefix_cmp R) (n : ℕ) (p : Network) (tabl
               cc
 
 -- so nothing stands there on `filt.K`, and every row that does stood before
-pub not_filtered : (c : Chained) (p : Network) (o : Option Attrs) → o ≡ None → filtered c.me c.peer (function_at c.filter p) p o ≡ None
+pub not_filtered : (c : Chained) (p : AddressPrefix) (o : Option Attrs) → o ≡ None → filtered c.me c.peer (function_at c.filter p) p o ≡ None
 not_filtered c p None none = refl
 not_filtered c p (Some attrs) none = absurd (cc)
 
-row_stood : (old new : Rows Route) (p : Network) (sent : Option (Change Route)) → IsSent old new p sent → new p ≡ None → (q : Network) → IsSome (new q) → new q ≡ old q
+row_stood : (old new : Rows Route) (p : AddressPrefix) (sent : Option (Change Route)) → IsSent old new p sent → new p ≡ None → (q : AddressPrefix) → IsSome (new q) → new q ≡ old q
 row_stood old new p None is none q some = ap (λ (rows : Rows Route). rows q) is
 row_stood old new p (Some change) is none q some =
-    let here : change.after ≡ None = sym (ap (λ (rows : Rows Route). rows p) is.2 ∙ ap (λ (a : Network). with_row old a change.after p) is.0 ∙ with_row_here old p change.after) ∙ none in
+    let here : change.after ≡ None = sym (ap (λ (rows : Rows Route). rows p) is.2 ∙ ap (λ (a : AddressPrefix). with_row old a change.after p) is.0 ∙ with_row_here old p change.after) ∙ none in
     by_bool (eq_by_cmp prefix_cmp q change.prefix) (λ b. new q ≡ cond b change.after (old q) → new q ≡ old q)
     (λ _ set. absurd (let clash : false ≡ true = sym (ap is_some (set ∙ here)) ∙ some in cc)) (λ _ kept. kept) (ap (λ (rows : Rows Route). rows q) is.2)
 
-pub swept_stood : (old new : Chained) (s : ℕ) (sent : Option (Change Route)) (entries : List (Entry Value)) → IsChain old → Sweeps old new s sent entries → (q : Network) → IsSome (filt_rows new q) → filt_rows new q ≡ filt_rows old q
+pub swept_stood : (old new : Chained) (s : ℕ) (sent : Option (Change Route)) (entries : List (Entry Value)) → IsChain old → Sweeps old new s sent entries → (q : AddressPrefix) → IsSome (filt_rows new q) → filt_rows new q ≡ filt_rows old q
 swept_stood old new s sent entries chain t = row_stood (filt_rows old) (filt_rows new) t.prefix sent t.rows gone
   where
     gone : filt_rows new t.prefix ≡ None
@@ -124,7 +124,7 @@ some_row : (o : Option Route) (a : ℕ) → option_map route_hop o ≡ Some a �
 some_row None a e = absurd (cc)
 some_row (Some r) a e = refl
 
-module _ (k : ℕ) (uppers now : PeerRows) (stood : (q : Network) → IsSome (now k q) → now k q ≡ uppers k q) (h h' : Resolvers) (sound : IsHops h) (sound' : IsHops h') (counted : AllCounted uppers h) (counted' : AllCounted now h') where
+module _ (k : ℕ) (uppers now : PeerRows) (stood : (q : AddressPrefix) → IsSome (now k q) → now k q ≡ uppers k q) (h h' : Resolvers) (sound : IsHops h) (sound' : IsHops h') (counted : AllCounted uppers h) (counted' : AllCounted now h') where
   known_then : (s s' : Resolving Metric) → resolver_at k h ≡ Some s → resolver_at k h' ≡ Some s' → known_of s' ≤ known_of s
   known_then s s' at at' = fewer_keys s'.known s.known (λ a has.
       let w = counted_is_named (named_by route_hop (now k)) s'.counts a (counted' k s' at') (sym ((sound' k s' at').named a) ∙ has) in

@@ -1,5 +1,5 @@
 -- How many turns next hops take at most, whatever became stale.
-use Rattle.router_moments.proofs.Common.{sym, subst, ◌∙◌, ap, ◌≡◌, ℕ, refl, List, true, arith, false, ◌+◌, Bool, ◌++◌, ◌≤◌, cond, suc, zero, not, ◌*◌, length-append, nat_cmp_total, nat_cmp-IsAntisymmetric, get-entries, Contains, sum_by, nat_cmp, eq_by_cmp, Network, Route, Speaker, best_is_a_branchs, peer_at, DeclaredPeer, Queued, resolver_at, Resolvers, rows_by, known_in, Exited, candidates_are_counted, Chained, filt_rows, sum_replaced, rows_before, Rows, CoversRows, Change, is_stale_at, stale_count, route_hop, with_metric, Resolving, passes, Metric, OutChained, Passed, Walked, function_at, chain_at, Chains, filt_at, filt_by, put_chain, rows_in, lost_in, Rule, redistributed, Protos, ext_is_of_best, Interior, Parted, on_link, kept_rows, BgpLink, int_rows, int_candidates, tree_count, no_table, own_rows, all_at, Moment, best_of, own_of, candidates_of, read_rows_by, read_of, counts, beyonds, unread_if, tree_beyond, external_beyond, fin_sends, best_beyond, most_of, own_sends, own_sends_by, own_waiting, nh_sends, Stands, ExitsAt, StandsAt}
+use Rattle.router_moments.proofs.Common.{sym, subst, ◌∙◌, ap, ◌≡◌, ℕ, refl, List, true, arith, false, ◌+◌, Bool, ◌++◌, ◌≤◌, cond, suc, zero, not, ◌*◌, length-append, nat_cmp_total, nat_cmp-IsAntisymmetric, get-entries, Contains, sum_by, nat_cmp, eq_by_cmp, AddressPrefix, Route, Speaker, best_is_a_branchs, peer_at, DeclaredPeer, Queued, resolver_at, Resolvers, rows_by, known_in, Exited, candidates_are_counted, Chained, filt_rows, sum_replaced, rows_before, Rows, CoversRows, Change, is_stale_at, stale_count, route_hop, with_metric, Resolving, passes, Metric, OutChained, Passed, Walked, function_at, chain_at, Chains, filt_at, filt_by, put_chain, rows_in, lost_in, Rule, redistributed, Protos, ext_is_of_best, Interior, Parted, on_link, kept_rows, BgpLink, int_rows, int_candidates, tree_count, no_table, own_rows, all_at, Moment, best_of, own_of, candidates_of, read_rows_by, read_of, counts, beyonds, unread_if, tree_beyond, external_beyond, fin_sends, best_beyond, most_of, own_sends, own_sends_by, own_waiting, nh_sends, Stands, ExitsAt, StandsAt}
 use Rattle.std.proofs.Common.{[], ◌∷◌, map, length, if◌then◌else◌, Option, Some, None, is_some, IsSome}
 use Rattle.std.proofs.lemmas.List.Elements.{Contains-append_left, Contains-append_right}
 use Rattle.std.specs.FinMap as tables
@@ -91,7 +91,7 @@ module _ (m : Moment) (stands : Stands m) where
           let rows = sum_by-cons row_count c cs in
           omega (arith, rest, one, rows)
 
-  most_beyond : (k : ℕ) (place : Option Network) → beyonds m.chains k place ≤ beyonds m.chains k None
+  most_beyond : (k : ℕ) (place : Option AddressPrefix) → beyonds m.chains k place ≤ beyonds m.chains k None
   most_beyond k place = by_chain (chain_at k m.chains)
     where
       by_chain : (o : Option Chained) → beyond_by o place ≤ beyond_by o None
@@ -109,7 +109,7 @@ module _ (m : Moment) (stands : Stands m) where
       let all = rows_twice (tables.values m.chains) in
       omega (arith, each, all)
     where
-      place_within : (k : ℕ) (walk : Option (Option Network)) → place_candidates (beyonds m.chains k) walk ≤ beyonds m.chains k None
+      place_within : (k : ℕ) (walk : Option (Option AddressPrefix)) → place_candidates (beyonds m.chains k) walk ≤ beyonds m.chains k None
       place_within k None = omega arith
       place_within k (Some place) = most_beyond k place
 
@@ -130,7 +130,7 @@ module _ (m : Moment) (stands : Stands m) where
       let later = later_within s.client (is_needed (is_some s.walk) (stale_count s.known) (differing_count same_metric s.known)) in
       omega (arith, walk, later))
     where
-      walk_within : (k : ℕ) (walk : Option (Option Network)) → walk_turns (beyonds m.chains k) walk ≤ beyonds m.chains k None + 1
+      walk_within : (k : ℕ) (walk : Option (Option AddressPrefix)) → walk_turns (beyonds m.chains k) walk ≤ beyonds m.chains k None + 1
       walk_within k None = omega arith
       walk_within k (Some place) = let most = most_beyond k place in omega (arith, most)
 
@@ -212,10 +212,10 @@ own_sends_below m = by_walk m.redist.walk
 
 -- ---- the prefixes that rows of `best` may have
 -- where those of a peer stand
-abbrev chain_keys : Chained → List Network
+abbrev chain_keys : Chained → List AddressPrefix
 chain_keys c = (filtered_rows_are_few c).0
 
-abbrev entry_keys : List (ℕ × Chained) → List Network
+abbrev entry_keys : List (ℕ × Chained) → List AddressPrefix
 entry_keys [] = []
 entry_keys (e ∷ es) = chain_keys e.1 ++ entry_keys es
 
@@ -228,17 +228,17 @@ entries_length (e ∷ es) =
     let sum = sum_by-cons row_count e.1 (map (λ (x : ℕ × Chained). x.1) es) in
     omega (arith, all, few, rest, sum)
 
-has_entry_key : (k : ℕ) (c : Chained) (q : Network) (es : List (ℕ × Chained)) → find nat_cmp k es ≡ Some c → IsSome (filt_rows c q) → Contains (entry_keys es) q
+has_entry_key : (k : ℕ) (c : Chained) (q : AddressPrefix) (es : List (ℕ × Chained)) → find nat_cmp k es ≡ Some c → IsSome (filt_rows c q) → Contains (entry_keys es) q
 has_entry_key k c q [] at there = absurd (cc)
 has_entry_key k c q (e ∷ es) at there =
     by_bool (eq_by_cmp nat_cmp k e.0) (λ b. cond b (Some e.1) (find nat_cmp k es) ≡ Some c → Contains (chain_keys e.1 ++ entry_keys es) q)
     (λ _ here. let same : c ≡ e.1 = cc in Contains-append_left (chain_keys e.1) (entry_keys es) q ((filtered_rows_are_few e.1).2 q (subst (λ (d : Chained). IsSome (filt_rows d q)) same there)))
     (λ _ rest. Contains-append_right (chain_keys e.1) (entry_keys es) q (has_entry_key k c q es rest there)) at
 
-abbrev peer_keys : Moment → List Network
+abbrev peer_keys : Moment → List AddressPrefix
 peer_keys m = entry_keys (tables.entries m.chains)
 
-abbrev best_keys : Moment → List Network
+abbrev best_keys : Moment → List AddressPrefix
 best_keys m = peer_keys m ++ tree_keys m.tree
 
 keys_few : (m : Moment) → length (best_keys m) ≤ rows_in m.chains + tree_count m.tree
@@ -249,34 +249,34 @@ keys_few m =
     omega (arith, all, peers, own)
 
 -- a row below is made of one above
-row_there : (me : Speaker) (on : Protos) (q : Network) (o : Option Interior) (r : Route) → redistributed me on q o ≡ Some r → IsSome o
+row_there : (me : Speaker) (on : Protos) (q : AddressPrefix) (o : Option Interior) (r : Route) → redistributed me on q o ≡ Some r → IsSome o
 row_there me on q None r is = absurd (cc)
 row_there me on q (Some row) r is = refl
 
-own_there : (s : Option Speaker) (redist : Passed Protos) (int : Rows Interior) (q : Network) (r : Route) → own_rows s redist int q ≡ Some r → IsSome (int q)
+own_there : (s : Option Speaker) (redist : Passed Protos) (int : Rows Interior) (q : AddressPrefix) (r : Route) → own_rows s redist int q ≡ Some r → IsSome (int q)
 own_there None redist int q r is = absurd (cc)
 own_there (Some me) redist int q r is = row_there me (function_at redist q) q (int q) r is
 
-metric_there : (f : Answers Metric) (q : Network) (o : Option Route) (r : Route) → resolved route_hop with_metric f q o ≡ Some r → IsSome o
+metric_there : (f : Answers Metric) (q : AddressPrefix) (o : Option Route) (r : Route) → resolved route_hop with_metric f q o ≡ Some r → IsSome o
 metric_there f q None r is = absurd (cc)
 metric_there f q (Some row) r is = refl
 
-resolved_there : (o : Option (Resolving Metric)) (upper : Rows Route) (q : Network) (r : Route) → rows_by o upper q ≡ Some r → IsSome (upper q)
+resolved_there : (o : Option (Resolving Metric)) (upper : Rows Route) (q : AddressPrefix) (r : Route) → rows_by o upper q ≡ Some r → IsSome (upper q)
 resolved_there None upper q r is = absurd (cc)
 resolved_there (Some s) upper q r is = metric_there (function_at (passes s) q) q (upper q) r is
 
-filt_there : (m : Moment) (k : ℕ) (q : Network) → IsSome (filt_at m.chains k q) → Contains (peer_keys m) q
+filt_there : (m : Moment) (k : ℕ) (q : AddressPrefix) → IsSome (filt_at m.chains k q) → Contains (peer_keys m) q
 filt_there m k q there = by_chain (chain_at k m.chains) refl there
   where
     by_chain : (o : Option Chained) → chain_at k m.chains ≡ o → IsSome (filt_by o q) → Contains (peer_keys m) q
     by_chain None at some = absurd (let clash : false ≡ true = some in cc)
     by_chain (Some c) at some = has_entry_key k c q (tables.entries m.chains) (sym (get-entries m.chains k) ∙ at) some
 
-branch_there : (m : Moment) (b : ℕ) (q : Network) (r : Route) → all_at (own_of m) m.chains m.hops b q ≡ Some r → Contains (best_keys m) q
+branch_there : (m : Moment) (b : ℕ) (q : AddressPrefix) (r : Route) → all_at (own_of m) m.chains m.hops b q ≡ Some r → Contains (best_keys m) q
 branch_there m zero q r is = Contains-append_right (peer_keys m) (tree_keys m.tree) q (has_tree_key m.tree q (own_there m.declared.speaker m.redist (int_rows m.tree) q r is))
 branch_there m (suc k) q r is = Contains-append_left (peer_keys m) (tree_keys m.tree) q (filt_there m (suc k) q (resolved_there (resolver_at (suc k) m.hops) (filt_at m.chains (suc k)) q r is))
 
-best_there : (m : Moment) (q : Network) → IsSome (best_of m q) → Contains (best_keys m) q
+best_there : (m : Moment) (q : AddressPrefix) → IsSome (best_of m q) → Contains (best_keys m) q
 best_there m q there = by_row (best_of m q) refl there
   where
     by_row : (o : Option Route) → best_of m q ≡ o → IsSome o → Contains (best_keys m) q
@@ -284,20 +284,20 @@ best_there m q there = by_row (best_of m q) refl there
     by_row (Some r) is some = let b = best_is_a_branchs (all_at (own_of m) m.chains m.hops) q r is in branch_there m b.0 q r b.2
 
 -- ---- the external rows, of which this speaker's own routes have none
-own_external : (me : Speaker) (on : Protos) (q : Network) (o : Option Interior) (r : Route) → redistributed me on q o ≡ Some r → IsSome (external_row (Some r)) → ⊥
+own_external : (me : Speaker) (on : Protos) (q : AddressPrefix) (o : Option Interior) (r : Route) → redistributed me on q o ≡ Some r → IsSome (external_row (Some r)) → ⊥
 own_external me on q o r is there = by_bool (is_on on o) (λ b. (if b then Some (local_route me) else None) ≡ Some r → ⊥)
     (λ _ same. let none : is_some (external_row (Some r)) ≡ false = ap (λ (x : Option Route). is_some (external_row x)) (sym same) in absurd (let clash : true ≡ false = sym there ∙ none in cc))
     (λ _ none. absurd (cc)) is
 
-none_is_own : (s : Option Speaker) (redist : Passed Protos) (int : Rows Interior) (q : Network) (r : Route) → own_rows s redist int q ≡ Some r → IsSome (external_row (Some r)) → ⊥
+none_is_own : (s : Option Speaker) (redist : Passed Protos) (int : Rows Interior) (q : AddressPrefix) (r : Route) → own_rows s redist int q ≡ Some r → IsSome (external_row (Some r)) → ⊥
 none_is_own None redist int q r is there = absurd (cc)
 none_is_own (Some me) redist int q r is there = own_external me (function_at redist q) q (int q) r is there
 
-branch_peer : (m : Moment) (b : ℕ) (q : Network) (r : Route) → all_at (own_of m) m.chains m.hops b q ≡ Some r → IsSome (external_row (Some r)) → Contains (peer_keys m) q
+branch_peer : (m : Moment) (b : ℕ) (q : AddressPrefix) (r : Route) → all_at (own_of m) m.chains m.hops b q ≡ Some r → IsSome (external_row (Some r)) → Contains (peer_keys m) q
 branch_peer m zero q r is there = absurd (none_is_own m.declared.speaker m.redist (int_rows m.tree) q r is there)
 branch_peer m (suc k) q r is there = filt_there m (suc k) q (resolved_there (resolver_at (suc k) m.hops) (filt_at m.chains (suc k)) q r is)
 
-best_peer : (m : Moment) (q : Network) → IsSome (external_row (best_of m q)) → Contains (peer_keys m) q
+best_peer : (m : Moment) (q : AddressPrefix) → IsSome (external_row (best_of m q)) → Contains (peer_keys m) q
 best_peer m q there = by_row (best_of m q) refl there
   where
     by_row : (o : Option Route) → best_of m q ≡ o → IsSome (external_row o) → Contains (peer_keys m) q
@@ -305,11 +305,11 @@ best_peer m q there = by_row (best_of m q) refl there
     by_row (Some r) is some = let b = best_is_a_branchs (all_at (own_of m) m.chains m.hops) q r is in branch_peer m b.0 q r b.2 some
 
 -- ---- the external routes, where the forwarding side has read all of `best`
-read_external : (queue : Queued Route) (reader : Option ℕ) (best : Rows Route) (q : Network) → unread_if queue reader ≡ [] → IsSome (external_row (read_rows_by queue reader best q)) → IsSome (external_row (best q))
+read_external : (queue : Queued Route) (reader : Option ℕ) (best : Rows Route) (q : AddressPrefix) → unread_if queue reader ≡ [] → IsSome (external_row (read_rows_by queue reader best q)) → IsSome (external_row (best q))
 read_external queue None best q over there = absurd (let clash : false ≡ true = there in cc)
 read_external queue (Some r) best q over there = subst (λ (u : List (Change Route)). IsSome (external_row (rows_before u best q))) over there
 
-read_there : (queue : Queued Route) (reader : Option ℕ) (best : Rows Route) (q : Network) → unread_if queue reader ≡ [] → IsSome (read_rows_by queue reader best q) → IsSome (best q)
+read_there : (queue : Queued Route) (reader : Option ℕ) (best : Rows Route) (q : AddressPrefix) → unread_if queue reader ≡ [] → IsSome (read_rows_by queue reader best q) → IsSome (best q)
 read_there queue None best q over there = absurd (let clash : false ≡ true = there in cc)
 read_there queue (Some r) best q over there = subst (λ (u : List (Change Route)). IsSome (rows_before u best q)) over there
 
@@ -326,13 +326,13 @@ one_side None a b = let clash : false ≡ true = a in cc
 one_side (Some r) a b = elim r.internal as (λ i. IsSome {T = External} (if not i then Some r else None) → IsSome {T = External} (if i then Some r else None) → ⊥) [ true ↦ λ x _. let clash : false ≡ true = x in cc | false ↦ λ _ y. let clash : false ≡ true = y in cc ] a b
 
 module _ (m : Moment) (stands : Stands m) (over : unread_if m.exits.queue m.reader ≡ []) where
-  read_key : (q : Network) → IsSome (read_of m q) → Contains (best_keys m) q
+  read_key : (q : AddressPrefix) → IsSome (read_of m q) → Contains (best_keys m) q
   read_key q there = best_there m q (read_there m.exits.queue m.reader (best_of m) q over there)
 
-  side_at : (side : BgpLink) (q : Network) → kept_rows m.rib.splitter side q ≡ on_link side (external_row (read_of m q))
+  side_at : (side : BgpLink) (q : AddressPrefix) → kept_rows m.rib.splitter side q ≡ on_link side (external_row (read_of m q))
   side_at side q = ap (λ (p : Parted). p side q) stands.exits.external.links
 
-  side_key : (side : BgpLink) (q : Network) → IsSome (kept_rows m.rib.splitter side q) → Contains (peer_keys m) q
+  side_key : (side : BgpLink) (q : AddressPrefix) → IsSome (kept_rows m.rib.splitter side q) → Contains (peer_keys m) q
   side_key side q there = best_peer m q (read_external m.exits.queue m.reader (best_of m) q over (side_there side (external_row (read_of m q)) (ap is_some (sym (side_at side q)) ∙ there)))
 
   -- no more rows stand on `ebgp` and `ibgp` than peers have,
@@ -365,7 +365,7 @@ module _ (m : Moment) (stands : Stands m) (over : unread_if m.exits.queue m.read
 -- ---- what each peer was sent, where its exit has sent all
 -- a row of `best` stands at a candidate
 module _ (m : Moment) (stands : Stands m) where
-  no_branch : (q : Network) (b : ℕ) (r : Route) → candidates_of m q ≡ false → all_at (own_of m) m.chains m.hops b q ≡ Some r → ⊥
+  no_branch : (q : AddressPrefix) (b : ℕ) (r : Route) → candidates_of m q ≡ false → all_at (own_of m) m.chains m.hops b q ≡ Some r → ⊥
   unfolding best_candidates
   no_branch q zero r none is =
       let row = own_there m.declared.speaker m.redist (int_rows m.tree) q r is in
@@ -397,7 +397,7 @@ module _ (m : Moment) (stands : Stands m) where
 refresh_below : (c : OutChained) → refresh_left c ≤ tables.len c.sent
 refresh_below c = by_walk c.refresh
   where
-    by_walk : (walk : Option (Option Network)) → left_on c.sent walk ≤ tables.len c.sent
+    by_walk : (walk : Option (Option AddressPrefix)) → left_on c.sent walk ≤ tables.len c.sent
     by_walk None = omega arith
     by_walk (Some place) = table_within place c.sent
 

@@ -1,5 +1,5 @@
 -- The next task of a phase.
-use Rattle.router_moments.proofs.Common.{sym, subst, ◌∙◌, ap, ◌≡◌, ℕ, refl, List, true, false, Bool, ◌++◌, ◌≤◌, cond, ◌<◌, take, ◌||◌, AllByRecursion, list_any, range_with_len, Network, Attrs, Route, Chained, Task, Change, table_of, is_unread, Walked, chain_at, Protos, Proto, Connected, Static, Ospf, Rip, Interior, Branch, Treed, branch_of, next_hop_at, holds_up_at, is_over, held_in, Moment, best_of, counts, beyonds, unread_if, best_beyond, Stands, phase_of, has_work, next_task, phase_tasks, Phase}
+use Rattle.router_moments.proofs.Common.{sym, subst, ◌∙◌, ap, ◌≡◌, ℕ, refl, List, true, false, Bool, ◌++◌, ◌≤◌, cond, ◌<◌, take, ◌||◌, AllByRecursion, list_any, range_with_len, AddressPrefix, Attrs, Route, Chained, Task, Change, table_of, is_unread, Walked, chain_at, Protos, Proto, Connected, Static, Ospf, Rip, Interior, Branch, Treed, branch_of, next_hop_at, holds_up_at, is_over, held_in, Moment, best_of, counts, beyonds, unread_if, best_beyond, Stands, phase_of, has_work, next_task, phase_tasks, Phase}
 use Rattle.std.proofs.Common.{length, [], ◌∷◌, map, Option, Some, None, is_some}
 use Rattle.std.specs.Prelude.{IfNone, option_map}
 use Rattle.hop_side.specs.Resolvers.{Beyonds, has_hop_work, hop_holds_up, left_in}
@@ -72,7 +72,7 @@ pub next_of_peers : (s r : Phase) (m v : Moment) (first : Option Task) → IsOfP
 next_of_peers s r m v first peers is view found =
     found ∙ found_of_peers (has_peer_work v.chains) (λ t. has_work t v) (λ k n. refl) (λ k. refl) s peers v ∙ ap (next_task s) view ∙ ap (λ (e : Phase). next_task e m) (sym is)
 
-pub held_of_peers : (s r : Phase) (m v : Moment) (p : Network) (first : Option Task) → IsOfPeers s → r ≡ s → v ≡ m → first ≡ find (λ t. peer_lags v.chains t p) (phase_tasks s v) → first ≡ held_in r m p
+pub held_of_peers : (s r : Phase) (m v : Moment) (p : AddressPrefix) (first : Option Task) → IsOfPeers s → r ≡ s → v ≡ m → first ≡ find (λ t. peer_lags v.chains t p) (phase_tasks s v) → first ≡ held_in r m p
 held_of_peers s r m v p first peers is view found =
     found ∙ found_of_peers (λ t. peer_lags v.chains t p) (λ t. holds_up_at t v p) (λ k n. refl) (λ k. refl) s peers v ∙ ap (λ (n : Moment). held_in s n p) view ∙ ap (λ (e : Phase). held_in e m p) (sym is)
 
@@ -90,7 +90,7 @@ pub next_of_hops : (r : Phase) (m v : Moment) (first : Option ℕ) (task : Optio
 next_of_hops r m v first task is view found made =
     made ∙ ap (option_map (λ k. tasks.Nh k)) found ∙ found_by (λ k. tasks.Nh k) (has_hop_work v.hops) (λ t. has_work t v) (tables.keys v.hops) (λ k. refl) ∙ ap (next_task Nh) view ∙ ap (λ (e : Phase). next_task e m) (sym is)
 
-pub held_of_hops : (r : Phase) (m v : Moment) (p : Network) (first : Option ℕ) (task : Option Task) → r ≡ Nh → v ≡ m → first ≡ find (λ k. hop_holds_up v.hops k p (next_hop_at v k p)) (tables.keys v.hops) → task ≡ option_map (λ k. tasks.Nh k) first → task ≡ held_in r m p
+pub held_of_hops : (r : Phase) (m v : Moment) (p : AddressPrefix) (first : Option ℕ) (task : Option Task) → r ≡ Nh → v ≡ m → first ≡ find (λ k. hop_holds_up v.hops k p (next_hop_at v k p)) (tables.keys v.hops) → task ≡ option_map (λ k. tasks.Nh k) first → task ≡ held_in r m p
 held_of_hops r m v p first task is view found made =
     made ∙ ap (option_map (λ k. tasks.Nh k)) found ∙ found_by (λ k. tasks.Nh k) (λ k. hop_holds_up v.hops k p (next_hop_at v k p)) (λ t. holds_up_at t v p) (tables.keys v.hops) (λ k. refl)
     ∙ ap (λ (n : Moment). held_in Nh n p) view ∙ ap (λ (e : Phase). held_in e m p) (sym is)
@@ -105,12 +105,12 @@ pub next_of_exits : (r : Phase) (m v : Moment) (first : Option ℕ) (task : Opti
 next_of_exits r m v first task is view found made =
     made ∙ ap (option_map (λ k. tasks.Out k)) found ∙ found_by (λ k. tasks.Out k) (has_exit_work v.exits) (λ t. has_work t v) (tables.keys v.exits.chains) (λ k. refl) ∙ ap (next_task Out) view ∙ ap (λ (e : Phase). next_task e m) (sym is)
 
-pub held_of_exits : (r : Phase) (m v : Moment) (p : Network) (first : Option ℕ) (task : Option Task) → r ≡ Out → v ≡ m → first ≡ find (λ k. exit_holds_up v.exits (best_of m) k p) (tables.keys v.exits.chains) → task ≡ option_map (λ k. tasks.Out k) first → task ≡ held_in r m p
+pub held_of_exits : (r : Phase) (m v : Moment) (p : AddressPrefix) (first : Option ℕ) (task : Option Task) → r ≡ Out → v ≡ m → first ≡ find (λ k. exit_holds_up v.exits (best_of m) k p) (tables.keys v.exits.chains) → task ≡ option_map (λ k. tasks.Out k) first → task ≡ held_in r m p
 held_of_exits r m v p first task is view found made =
     made ∙ ap (option_map (λ k. tasks.Out k)) (found ∙ ap (λ (n : Moment). find (λ k. exit_holds_up n.exits (best_of m) k p) (tables.keys n.exits.chains)) view)
     ∙ found_by (λ k. tasks.Out k) (λ k. exit_holds_up m.exits (best_of m) k p) (λ t. holds_up_at t m p) (tables.keys m.exits.chains) (λ k. refl) ∙ ap (λ (e : Phase). held_in e m p) (sym is)
 
-pub none_of_exits : (r : Phase) (m v : Moment) (first : Option ℕ) (task : Option Task) → r ≡ Out → v ≡ m → IfNone first ((beyond : Option Network → ℕ) → exits_left_in beyond v.exits ≡ 0) → task ≡ option_map (λ k. tasks.Out k) first → IfNone task (counts m r ≡ 0)
+pub none_of_exits : (r : Phase) (m v : Moment) (first : Option ℕ) (task : Option Task) → r ≡ Out → v ≡ m → IfNone first ((beyond : Option AddressPrefix → ℕ) → exits_left_in beyond v.exits ≡ 0) → task ≡ option_map (λ k. tasks.Out k) first → IfNone task (counts m r ≡ 0)
 none_of_exits r m v None task is view none made =
     subst (λ (o : Option Task). IfNone o (counts m r ≡ 0)) (sym made) (ap (counts m) is ∙ ap (λ (n : Moment). counts n Out) (sym view) ∙ none (best_beyond v.chains v.tree))
 none_of_exits r m v (Some k) task is view none made = subst (λ (o : Option Task). IfNone o (counts m r ≡ 0)) (sym made) tt
@@ -125,7 +125,7 @@ none_of_refreshes r m v None task is view none made =
     subst (λ (o : Option Task). IfNone o (counts m r ≡ 0)) (sym made) (ap (counts m) is ∙ ap (λ (n : Moment). counts n Ref) (sym view) ∙ none)
 none_of_refreshes r m v (Some k) task is view none made = subst (λ (o : Option Task). IfNone o (counts m r ≡ 0)) (sym made) tt
 
-pub held_of_refreshes : (r : Phase) (m : Moment) (p : Network) → r ≡ Ref → None ≡ held_in r m p
+pub held_of_refreshes : (r : Phase) (m : Moment) (p : AddressPrefix) → r ≡ Ref → None ≡ held_in r m p
 held_of_refreshes r m p is = none (tables.keys m.exits.chains) ∙ ap (λ (e : Phase). held_in e m p) (sym is)
   where
     none : (ks : List ℕ) → None ≡ find (λ t. holds_up_at t m p) (map (λ k. tasks.Ref k) ks)
@@ -198,7 +198,7 @@ abbrev IsOfTree : Phase → Type 0
 IsOfTree Rdel = Unit {0}
 IsOfTree other = ⊥
 
-pub held_of_tree : (m v : Moment) (p : Network) (hops : List ℕ) (count n : ℕ) (first : Option Task) → v ≡ m → ((k : ℕ) → k < 65 → n ≤ k → chain_at k m.chains ≡ None) → AreUpTo m p hops count n → first ≡ find (tree_holds_up v.tree p (take count hops)) (tree_tasks v.tree) → first ≡ held_in Rdel m p
+pub held_of_tree : (m v : Moment) (p : AddressPrefix) (hops : List ℕ) (count n : ℕ) (first : Option Task) → v ≡ m → ((k : ℕ) → k < 65 → n ≤ k → chain_at k m.chains ≡ None) → AreUpTo m p hops count n → first ≡ find (tree_holds_up v.tree p (take count hops)) (tree_tasks v.tree) → first ≡ held_in Rdel m p
 unfolding peer_numbers
 held_of_tree m v p hops count n first view none upto found =
     found ∙ ap (λ (x : Moment). find (tree_holds_up x.tree p (take count hops)) (tree_tasks x.tree)) view
@@ -211,5 +211,5 @@ held_of_tree m v p hops count n first view none upto found =
         (all_hops m p hops count n upto none (tree_over m.tree (tasks.Rdel proto loss)) ∙ any_made (is_over m.tree (tasks.Rdel proto loss)) (λ k. next_hop_at m k p) (range_with_len 0 65))
     each other of = absurd (subst IsOfTree (sym of) tt)
 
-pub held_of_losses : (r : Phase) (m : Moment) (p : Network) (first : Option Task) → r ≡ Rdel → first ≡ held_in Rdel m p → first ≡ held_in r m p
+pub held_of_losses : (r : Phase) (m : Moment) (p : AddressPrefix) (first : Option Task) → r ≡ Rdel → first ≡ held_in Rdel m p → first ≡ held_in r m p
 held_of_losses r m p first is held = held ∙ ap (λ (e : Phase). held_in e m p) (sym is)

@@ -1,5 +1,5 @@
 -- This speaker's own routes: what a change of them makes, and one turn of the walk of redistribution.
-use Rattle.router_moments.proofs.Common.{sym, subst, ◌∙◌, ap, ◌≡◌, refl, List, arith, ◌++◌, on_ok_weaker, Network, Route, Speaker, Exited, entries_of_entries, Journaled, flushed, Adds, with_entries, entries_of, Leads, Entry, Line, Value, IsSent, Rows, Change, Turn, joined, with_side, Sides, Region, Decided, Redistributed, Outward, Passed, Walked, present, passed_rows, adds_both, redistributed, has, Protos, Interior, int_rows, int_candidates, own_rows, all_at, best_at, best_links, best_entries, own_links, own_entries, live_state, Moment, best_of, router_links, own_of, with_exits, parts, with_redist, Stands, ExitsStand, journal_lines, sent_of, TakesTurn, IsWork, Decides, Taken}
+use Rattle.router_moments.proofs.Common.{sym, subst, ◌∙◌, ap, ◌≡◌, refl, List, arith, ◌++◌, on_ok_weaker, AddressPrefix, Route, Speaker, Exited, entries_of_entries, Journaled, flushed, Adds, with_entries, entries_of, Leads, Entry, Line, Value, IsSent, Rows, Change, Turn, joined, with_side, Sides, Region, Decided, Redistributed, Outward, Passed, Walked, present, passed_rows, adds_both, redistributed, has, Protos, Interior, int_rows, int_candidates, own_rows, all_at, best_at, best_links, best_entries, own_links, own_entries, live_state, Moment, best_of, router_links, own_of, with_exits, parts, with_redist, Stands, ExitsStand, journal_lines, sent_of, TakesTurn, IsWork, Decides, Taken}
 use Rattle.std.proofs.Common.{Option, Some, None, is_some, Result}
 use Rattle.std.specs.Result.{OnOk}
 use Rattle.link_change.specs.declared.turn.Turn.TheVariants as turns
@@ -57,7 +57,7 @@ own_followed result me change taken m v m2 s own before now view since same pass
 
 -- ---- the walk
 module _ {F : Type 0} where
-  stepped_present : (in_force : F) (o : Option (Walked F)) (p : Network) → present_of in_force (walk_stepped o p) ≡ present_of in_force o
+  stepped_present : (in_force : F) (o : Option (Walked F)) (p : AddressPrefix) → present_of in_force (walk_stepped o p) ≡ present_of in_force o
   stepped_present in_force None p = refl
   stepped_present in_force (Some w) p = refl
 
@@ -70,23 +70,23 @@ module _ {F : Type 0} where
   finished_present in_force (Some w) = waiting_present w.next w.waiting
 
   -- the latest set stays
-  walked_present : (next : Option Network) (s : Passed F) → present (walked_on next s) ≡ present s
+  walked_present : (next : Option AddressPrefix) (s : Passed F) → present (walked_on next s) ≡ present s
   walked_present None s = finished_present s.in_force s.walk
   walked_present (Some p) s = stepped_present s.in_force s.walk p
 
 -- a change at the candidate, or none anywhere
-pub walked_sent : (next : Option Network) (old new : Rows Route) (own : Option (Change Route)) → IsSentAt next old new own → (p : Network) × IsSent old new p own
+pub walked_sent : (next : Option AddressPrefix) (old new : Rows Route) (own : Option (Change Route)) → IsSentAt next old new own → (p : AddressPrefix) × IsSent old new p own
 walked_sent None old new own changes = (record { address = 0; length = 0 }, subst (λ (o : Option (Change Route)). IsSent old new (record { address = 0; length = 0 }) o) (sym changes.0) changes.1)
 walked_sent (Some p) old new own changes = (p, changes)
 
 -- so this speaker's own rows move by what was sent, and the best ones by what was decided
 pub own_sent : (m : Moment) (me : Speaker) (s : Passed Protos) (own : Option (Change Route)) → m.declared.speaker ≡ Some me → Walks (redistributed me) (int_candidates m.tree) (int_rows m.tree) m.redist s own
-    → (p : Network) × IsSent (own_of m) (own_of (with_redist m s)) p own
+    → (p : AddressPrefix) × IsSent (own_of m) (own_of (with_redist m s)) p own
 own_sent m me s own since walks =
     let moved = walked_sent walks.next (passed_rows (redistributed me) m.redist (int_rows m.tree)) (passed_rows (redistributed me) s (int_rows m.tree)) own walks.changes in
     (moved.0, subst (λ (x : Option Speaker). IsSent (own_rows x m.redist (int_rows m.tree)) (own_rows x s (int_rows m.tree)) moved.0 own) (sym since) moved.1)
 
-pub own_chosen : (m m' : Moment) (own : Option (Change Route)) (best : List (Entry Value)) (decided : DecidesOn 0 own (all_at (own_of m') m.chains m.hops) best) → own_of m' ≡ own_of (with_redist m m'.redist) → (p : Network) → IsSent (own_of m) (own_of (with_redist m m'.redist)) p own
+pub own_chosen : (m m' : Moment) (own : Option (Change Route)) (best : List (Entry Value)) (decided : DecidesOn 0 own (all_at (own_of m') m.chains m.hops) best) → own_of m' ≡ own_of (with_redist m m'.redist) → (p : AddressPrefix) → IsSent (own_of m) (own_of (with_redist m m'.redist)) p own
     → IsSent (best_of m) (best_of (with_redist m m'.redist)) p decided.best
 own_chosen m m' own best decided same p sent =
     subst (λ (rows : Rows Route). IsSent (best_of m) (best_at rows m.chains m.hops) p decided.best) same
@@ -122,7 +122,7 @@ own_works m said m' stands t = one_turn phases.Red m now m' said t.after (keeps_
     latest : present m'.redist ≡ present m.redist
     latest = ap (λ (x : Passed Protos). present x) t.walks.after ∙ walked_present t.walks.next m.redist
 
-    sent : (p : Network) × IsSent (own_of m) (own_of now) p t.own
+    sent : (p : AddressPrefix) × IsSent (own_of m) (own_of now) p t.own
     sent = own_sent m t.me m'.redist t.own t.local t.walks
 
     chosen : IsSent (best_of m) (best_of now) sent.0 t.decided.best

@@ -1,5 +1,5 @@
 -- A fall in the chain of a peer, what follows it, and the weld behind both: where its entries lead to, and what stands then.
-use Rattle.router_moments.proofs.Common.{sym, subst, ◌∙◌, ap, ◌≡◌, ℕ, refl, List, ◌++◌, Network, Route, peer_at, DeclaredPeer, GoesOn, Chained, welded, Entry, Line, Value, IsSent, Rows, Change, LiveState, chain_at, Chains, filt_at, put_chain, all_at, best_at, best_entries, live_state, Moment, best_of, own_of, with_exits, with_chains, with_hops, Stands, PeerStands, journal_lines, FallsPeer, Keeps, SettlesPeer}
+use Rattle.router_moments.proofs.Common.{sym, subst, ◌∙◌, ap, ◌≡◌, ℕ, refl, List, ◌++◌, AddressPrefix, Route, peer_at, DeclaredPeer, GoesOn, Chained, welded, Entry, Line, Value, IsSent, Rows, Change, LiveState, chain_at, Chains, filt_at, put_chain, all_at, best_at, best_entries, live_state, Moment, best_of, own_of, with_exits, with_chains, with_hops, Stands, PeerStands, journal_lines, FallsPeer, Keeps, SettlesPeer}
 use Rattle.std.proofs.Common.{Option, Some, is_some}
 use Rattle.peer_side.specs.Steps.{FallsInward, Changes}
 use Rattle.peer_side.proofs.WeldLemmas.{weld_after}
@@ -12,7 +12,7 @@ use Rattle.router_moments.proofs.HopLemmas.{all_comes, falls_lead, hops_fall}
 use Rattle.router_moments.proofs.StandLemmas.{resolver_there, speaker_there, same_peers, not_zero, external_agrees, stands_with}
 
 module _ (k : ℕ) (sent : Option (Change Route)) (P : Chains → List (Entry Value) → Type 0) (m : Moment) (said : List Line) (m' : Moment) (stands : Stands m) (f : FallsPeer k sent P m said m')
-    (c less : Chained) (at : chain_at k m.chains ≡ Some c) (after : f.fallen ≡ put_chain k less m.chains) (p : Network) (changes : Changes k p sent m.chains f.fallen) where
+    (c less : Chained) (at : chain_at k m.chains ≡ Some c) (after : f.fallen ≡ put_chain k less m.chains) (p : AddressPrefix) (changes : Changes k p sent m.chains f.fallen) where
   -- what it leaves
   abbrev pub behind : Moment
   behind = with_exits (with_hops (with_chains m m'.chains) m'.registry m'.hops) m'.exits

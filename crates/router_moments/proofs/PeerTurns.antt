@@ -1,5 +1,5 @@
 -- One turn of a task of a peer.
-use Rattle.router_moments.proofs.Common.{sym, subst, ◌∙◌, ap, ◌≡◌, ℕ, refl, List, true, arith, false, Bool, ◌++◌, ◌≤◌, Network, Route, peer_at, DeclaredPeer, OutChains, Resolvers, known_in, GoesOn, Chained, filt_rows, welded, Journaled, flushed, Adds, Entry, Line, Task, Value, Change, Turn, adds_both, Chains, filt_at, filt_by, put_chain, lost_in, Registry, Interior, all_at, live_state, Moment, own_of, with_chains, Stands, PeerStands, IsSilent, open_session, journal_lines, phase_of, IsTurn, Resolves, FallsPeer, IsPeerTurn, sent_of, Keeps, TakesTurn, IsWork, SettlesPeer, MaySettle, Taken}
+use Rattle.router_moments.proofs.Common.{sym, subst, ◌∙◌, ap, ◌≡◌, ℕ, refl, List, true, arith, false, Bool, ◌++◌, ◌≤◌, AddressPrefix, Route, peer_at, DeclaredPeer, OutChains, Resolvers, known_in, GoesOn, Chained, filt_rows, welded, Journaled, flushed, Adds, Entry, Line, Task, Value, Change, Turn, adds_both, Chains, filt_at, filt_by, put_chain, lost_in, Registry, Interior, all_at, live_state, Moment, own_of, with_chains, Stands, PeerStands, IsSilent, open_session, journal_lines, phase_of, IsTurn, Resolves, FallsPeer, IsPeerTurn, sent_of, Keeps, TakesTurn, IsWork, SettlesPeer, MaySettle, Taken}
 use Rattle.std.proofs.Common.{Option, Some, None}
 use Rattle.link_change.specs.declared.turn.Turn.TheVariants as turns
 use Rattle.journal_text.specs.declared.link.Task.TheVariants.{Del, Fin}
@@ -83,7 +83,7 @@ module _ (task : Task) (sent : Option (Change Route)) (m : Moment) (said : List 
       (weld_heard m.declared.profile less (turned_heard m.declared.profile task c less sent f.entries f.part.turn.turned (stands.exits.rows k c f.part.turn.at)))
 
   -- of a deletion stage no row comes on `filt.K`
-  stood : (s : ℕ) → task ≡ Del k s → (q : Network) → IsSome (filt_at f.fallen k q) → filt_at f.fallen k q ≡ filt_at m.chains k q
+  stood : (s : ℕ) → task ≡ Del k s → (q : AddressPrefix) → IsSome (filt_at f.fallen k q) → filt_at f.fallen k q ≡ filt_at m.chains k q
   stood s is q some =
       let old : filt_at m.chains k q ≡ filt_rows c q = ap (λ (o : Option Chained). filt_by o q) f.part.turn.at in
       let new : filt_at f.fallen k q ≡ filt_rows less q = ap (λ (o : Option Chained). filt_by o q) (fallen_at k m.chains f.fallen less f.part.turn.after) in

@@ -1,10 +1,10 @@
 -- What each event says can be printed, and so can what stands behind it.
-use Rattle.router_moments.proofs.Common.{sym, subst, ◌∙◌, ap, ◌≡◌, ℕ, refl, List, true, arith, false, ◌+◌, Bool, ◌++◌, ◌≤◌, cond, ◌<◌, nat_eq, not, ◌&&◌, IfSome, get-empty, AllByRecursion, nat_cmp, Network, is_host_prefix, Attrs, Neighbour, Profile, Speaker, AreOctets, Message, Update, peer_at, Declaration, with_four_octets, with_revised, with_reflection, IsWellFormed, DeclaredPeer, Event, Down, Bgp, RouteAdd, RouteDel, Lose, Cover, Settled, Work, As4, Revised, Reflect, Up, Redist, ArePrintableExits, resolver_at, Chained, IsPrefix, AllHaveMetrics, IsFit, neighbours, words_in, IsPrinted, AreTablesOf, IsInteriorRow, IsPrintableChain, HaveWays, IsNameNumber, Line, Link, Task, Value, Rows, is_empty_map, speaker_since, as4_is_first, revised_is_first, reflect_is_first, LiveState, changes_of, Says, announced_with, withdrawn_from, all_both, table_of, Hop, Resolving, Metric, OutChained, put_each, chain_at, overdue_at, has_turn_in, Rule, width, Proto, Connected, Static, Ospf, Rip, Interior, put_all, Branch, way_of_route, tree_overdue, fed_tree, int_rows, branch_of, ByPeer, IsBlock, BeginsIf, EndsIf, HearsIf, Declares, BySpeaker, Begins, DropsRouteIf, answer_lines, Shows, Moment, router_links, with_exits, rules_to, all_phases, ArePrinted, IsPrintableMoment, Stands, ExitsAt, journal_lines, has_work, FallsRoute}
+use Rattle.router_moments.proofs.Common.{sym, subst, ◌∙◌, ap, ◌≡◌, ℕ, refl, List, true, arith, false, ◌+◌, Bool, ◌++◌, ◌≤◌, cond, ◌<◌, nat_eq, not, ◌&&◌, IfSome, get-empty, AllByRecursion, nat_cmp, AddressPrefix, is_host_prefix, Attrs, Neighbour, Profile, Speaker, AreOctets, Message, Update, peer_at, Declaration, with_four_octets, with_revised, with_reflection, IsWellFormed, DeclaredPeer, Event, Down, Bgp, RouteAdd, RouteDel, Lose, Cover, Settled, Work, As4, Revised, Reflect, Up, Redist, ArePrintableExits, resolver_at, Chained, IsPrefix, AllHaveMetrics, IsFit, neighbours, words_in, IsPrinted, AreTablesOf, IsInteriorRow, IsPrintableChain, HaveWays, IsNameNumber, Line, Link, Task, Value, Rows, is_empty_map, speaker_since, as4_is_first, revised_is_first, reflect_is_first, LiveState, changes_of, Says, announced_with, withdrawn_from, all_both, table_of, Hop, Resolving, Metric, OutChained, put_each, chain_at, overdue_at, has_turn_in, Rule, width, Proto, Connected, Static, Ospf, Rip, Interior, put_all, Branch, way_of_route, tree_overdue, fed_tree, int_rows, branch_of, ByPeer, IsBlock, BeginsIf, EndsIf, HearsIf, Declares, BySpeaker, Begins, DropsRouteIf, answer_lines, Shows, Moment, router_links, with_exits, rules_to, all_phases, ArePrinted, IsPrintableMoment, Stands, ExitsAt, journal_lines, has_work, FallsRoute}
 use Rattle.std.proofs.Common.{◌^◌, ◌==◌, [], ◌∷◌, map, Option, Some, None, IsSome, is_some}
 use Rattle.std.specs.Prelude.{filter, length}
 use Rattle.std.proofs.lemmas.List.Elements.{All-nil}
 use Rattle.bgp_wire.specs.Grammar.{Reads, without, is_served}
-use Rattle.bgp_wire.specs.Readable.{IsNetwork}
+use Rattle.bgp_wire.specs.Readable.{IsAddressPrefix}
 use Rattle.bgp_wire.specs.declared.message.Message.TheVariants as messages
 use Rattle.bgp_wire.proofs.ReadableLaws.{Every, all_every, every_filter}
 use Rattle.bgp_wire.proofs.ReadableMessages.{read_is_readable}
@@ -111,7 +111,7 @@ module _ (m : Moment) (stands : Stands m) (printable : IsPrintableMoment m) wher
       let low = sub.holds.from in
       subst Printed (sym covers.line) (plain_printed (neighbours m.declared) _ refl refl (fits, by_match covers.found covers.cover.longest_is, (sub.masked, omega (arith, low, fits))), tt)
     where
-      by_match : (found : Option (Network × Interior)) → found ≡ longest width (int_rows m.tree) addr → IsMatch (matched found)
+      by_match : (found : Option (AddressPrefix × Interior)) → found ≡ longest width (int_rows m.tree) addr → IsMatch (matched found)
       by_match None is = tt
       by_match (Some r) is =
           let is_longest : IsLongest width (int_rows m.tree) addr (Some r) = subst (IsLongest width (int_rows m.tree) addr) (sym is) (longest_is width (int_rows m.tree) addr) in
@@ -157,7 +157,7 @@ module _ (m : Moment) (stands : Stands m) (printable : IsPrintableMoment m) wher
       of_exit (Some me) None (Some c) there is e = absurd is
       of_exit None p (Some c) there is e = absurd is
 
-  settled : (p : Network) (said : List Line) → IsPrefix p → TellsSettled p m said → Printed said
+  settled : (p : AddressPrefix) (said : List Line) → IsPrefix p → TellsSettled p m said → Printed said
   settled p said prefix tells = subst Printed (sym tells.line) (plain_printed (neighbours m.declared) _ refl refl (prefix, by_answer tells.answer tells.tells.works), tt)
     where
       by_answer : (o : Option Task) → IfSome o (λ task. has_work task m ≡ true) → IsNamedIfAny o
@@ -165,7 +165,7 @@ module _ (m : Moment) (stands : Stands m) (printable : IsPrintableMoment m) wher
       by_answer (Some task) works = task_named task works
 
   module _ (few : AreNumbered 4294967294 m.tree) where
-    asked : (link : Link) (p : Network) → IsNamed link → IsPrefix p → (of : Option (Rows Value)) → router_links m link ≡ of → Printed (answer_lines link p of)
+    asked : (link : Link) (p : AddressPrefix) → IsNamed link → IsPrefix p → (of : Option (Rows Value)) → router_links m link ≡ of → Printed (answer_lines link p of)
     asked link p named prefix None at = (absent, tt)
     asked link p named prefix (Some rows) at = (answer_printed (neighbours m.declared) link rows named (λ q v is. links_print m stands printable link rows q v at is) p prefix, tt)
 
@@ -210,26 +210,26 @@ module _ (m : Moment) (stands : Stands m) (printable : IsPrintableMoment m) wher
         })
 
     -- ---- messages
-    network_prefix : (n : Network) → IsNetwork n → IsPrefix n
-    network_prefix n is = (is.masked, is.fits)
+    address_prefix_is_prefix : (n : AddressPrefix) → IsAddressPrefix n → IsPrefix n
+    address_prefix_is_prefix n is = (is.masked, is.fits)
 
     changes_said : (w : Neighbour) (octets : List ℕ) (u : Update) → AreOctets octets → Reads m.declared.profile (not w.internal) octets (messages.Update u) → AllByRecursion (IsSaid m.declared.profile w) (changes_of u)
     changes_said w octets u are reads =
         let readable = read_is_readable m.declared.profile (not w.internal) octets u are reads in
-        all_both (IsSaid m.declared.profile w) (map withdrawn_from (without u.announced u.withdrawn)) _ (withdrawn _ (every_filter IsNetwork _ u.withdrawn (all_every IsNetwork u.withdrawn readable.withdrawn)))
-        (announced u.attrs refl (filter is_host_prefix u.announced) (every_filter IsNetwork is_host_prefix u.announced (all_every IsNetwork u.announced readable.announced)))
+        all_both (IsSaid m.declared.profile w) (map withdrawn_from (without u.announced u.withdrawn)) _ (withdrawn _ (every_filter IsAddressPrefix _ u.withdrawn (all_every IsAddressPrefix u.withdrawn readable.withdrawn)))
+        (announced u.attrs refl (filter is_host_prefix u.announced) (every_filter IsAddressPrefix is_host_prefix u.announced (all_every IsAddressPrefix u.announced readable.announced)))
       where
-        withdrawn : (ns : List Network) → Every IsNetwork ns → AllByRecursion (IsSaid m.declared.profile w) (map withdrawn_from ns)
+        withdrawn : (ns : List AddressPrefix) → Every IsAddressPrefix ns → AllByRecursion (IsSaid m.declared.profile w) (map withdrawn_from ns)
         withdrawn [] each = tt
-        withdrawn (n ∷ ns) each = ((network_prefix n each.0, tt), withdrawn ns each.1)
+        withdrawn (n ∷ ns) each = ((address_prefix_is_prefix n each.0, tt), withdrawn ns each.1)
 
         attrs_said : (o : Option Attrs) → u.attrs ≡ o → IfSome o (WasHeard m.declared.profile (not w.internal))
         attrs_said None at = tt
         attrs_said (Some a) at = (octets, u, are, reads, at)
 
-        announced : (o : Option Attrs) → u.attrs ≡ o → (ns : List Network) → Every IsNetwork ns → AllByRecursion (IsSaid m.declared.profile w) (map (announced_with o) ns)
+        announced : (o : Option Attrs) → u.attrs ≡ o → (ns : List AddressPrefix) → Every IsAddressPrefix ns → AllByRecursion (IsSaid m.declared.profile w) (map (announced_with o) ns)
         announced o at [] each = tt
-        announced o at (n ∷ ns) each = ((network_prefix n each.0, attrs_said o at), announced o at ns each.1)
+        announced o at (n ∷ ns) each = ((address_prefix_is_prefix n each.0, attrs_said o at), announced o at ns each.1)
 
     heard : (k : ℕ) (p : DeclaredPeer) (octets : List ℕ) (message : Message) (said : List Line) (m' : Moment) → peer_at k m.declared.peers ≡ Some p → p.up ≡ true → AreOctets octets → Says m.declared.profile p octets message → Hears k p m message said m'
         → Leaves m.declared.profile (neighbours m.declared) m' said
@@ -247,7 +247,7 @@ module _ (m : Moment) (stands : Stands m) (printable : IsPrintableMoment m) wher
         record { chains = l.chains; interior = l.interior; hops = l.hops; ways = l.ways; exits = l.exits; printed = subst Printed (sym hears.1) (note_printed (neighbours m.declared) k _ (named_by m stands start k p at) hears.3.each hears.3.few, l.printed) }
 
     -- ---- interior routes
-    fed : (proto : Proto) (p : Network) (row : Option Interior) (said : List Line) (m' : Moment) → IsSome m.declared.speaker → IsPrefix p → IfSome row (IsInteriorRow p) → FallsRoute m (fed_tree m.tree proto p row) proto p (way_of_route proto m.tree) said m'
+    fed : (proto : Proto) (p : AddressPrefix) (row : Option Interior) (said : List Line) (m' : Moment) → IsSome m.declared.speaker → IsPrefix p → IfSome row (IsInteriorRow p) → FallsRoute m (fed_tree m.tree proto p row) proto p (way_of_route proto m.tree) said m'
         → Leaves m.declared.profile (neighbours m.declared) m' said
     fed proto p row said m' since prefix new falls =
         let b = branch_of proto m.tree in
@@ -335,7 +335,7 @@ module _ (m : Moment) (stands : Stands m) (printable : IsPrintableMoment m) wher
     heard_if true k p octets said turns m' up at are is = heard k p octets is.1.0 said m' at up are is.1.1 is.1.2
     heard_if false k p octets said turns m' up at are is = just _ m said turns m' is (stays _ m refl (ignored, tt))
 
-    dropped_if : (has : Bool) (proto : Proto) (p : Network) (said : List Line) (turns : ℕ) (m' : Moment) → IsSome m.declared.speaker → IsPrefix p → DropsRouteIf has proto p m said turns m' → Leaves m.declared.profile (neighbours m.declared) m' said
+    dropped_if : (has : Bool) (proto : Proto) (p : AddressPrefix) (said : List Line) (turns : ℕ) (m' : Moment) → IsSome m.declared.speaker → IsPrefix p → DropsRouteIf has proto p m said turns m' → Leaves m.declared.profile (neighbours m.declared) m' said
     dropped_if false proto p said turns m' since prefix is = just _ m said turns m' is (stays _ m refl (ignored, tt))
     dropped_if true proto p said turns m' since prefix is = fed proto p None said m' since prefix tt is.1
 

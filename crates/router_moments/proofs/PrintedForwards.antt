@@ -1,5 +1,5 @@
 -- This speaker's own routes, the external rows, and what packets are forwarded by can be printed, and so can what goes on to `fib`.
-use Rattle.router_moments.proofs.Common.{sym, subst, ◌∙◌, ◌≡◌, ℕ, refl, List, true, arith, false, Bool, ◌≤◌, cond, ◌<◌, inr, inl, ◌⊎◌, option_or, Network, Route, Neighbour, Profile, Speaker, AreBestRows, fib_distance, IsPrefix, Prints, IsPrinted, HaveWays, IsWay, route_value, fib_value, interior_value, sent_entries, external_value, Entry, Fib, Value, IsSent, Rows, Change, all_both, over, external_hop, Resolving, in_force_by, fresh_by, walk_to, goes_on, Passed, function_at, IsSender, redistributed, Protos, Registry, ext_is_of_best, StandsOver, ext_rows, fib_over, FallsOn, RibExit, FibRow, Interior, Parted, on_link, BgpLink, own_rows, MaySend}
+use Rattle.router_moments.proofs.Common.{sym, subst, ◌∙◌, ◌≡◌, ℕ, refl, List, true, arith, false, Bool, ◌≤◌, cond, ◌<◌, inr, inl, ◌⊎◌, option_or, AddressPrefix, Route, Neighbour, Profile, Speaker, AreBestRows, fib_distance, IsPrefix, Prints, IsPrinted, HaveWays, IsWay, route_value, fib_value, interior_value, sent_entries, external_value, Entry, Fib, Value, IsSent, Rows, Change, all_both, over, external_hop, Resolving, in_force_by, fresh_by, walk_to, goes_on, Passed, function_at, IsSender, redistributed, Protos, Registry, ext_is_of_best, StandsOver, ext_rows, fib_over, FallsOn, RibExit, FibRow, Interior, Parted, on_link, BgpLink, own_rows, MaySend}
 use Rattle.std.proofs.Common.{◌^◌, Option, Some, None}
 use Rattle.bgp_wire.specs.Lengths.{attributes_length}
 use Rattle.rib_route.specs.Distances.{external_proto}
@@ -93,7 +93,7 @@ module _ (profile : Profile) (peers : ℕ → Option Neighbour) where
       by_row (Some r) at is = by_test (is_of link r.internal) r at is
 
   -- ---- what packets are forwarded by
-  outlet_print : (p : Network) (r : External) (row : FibRow) (o : Option Outlet) → IsOutletIfAny o → IsPrefix p → IsPrintable peers (external_value r) → over_outlet r o ≡ Some row → IsPrefix p × IsPrintable peers (fib_value row)
+  outlet_print : (p : AddressPrefix) (r : External) (row : FibRow) (o : Option Outlet) → IsOutletIfAny o → IsPrefix p → IsPrintable peers (external_value r) → over_outlet r o ≡ Some row → IsPrefix p × IsPrintable peers (fib_value row)
   outlet_print p r row None own prefix printed is = absurd (cc)
   outlet_print p r row (Some o) own prefix printed is =
       let same : record { proto = external_proto r; gateway = Some (first_router o.gateway r.next_hop); iface = o.iface } ≡ row = cc in
@@ -101,7 +101,7 @@ module _ (profile : Profile) (peers : ℕ → Option Neighbour) where
       (prefix, record { well_told = record { ranges = own.0; told = first_fits o.gateway r.next_hop own.1 printed.well_told.told }; short = tt })
 
   -- the answers that hold at a prefix
-  abbrev answers_at : Resolving Way → Network → Answers Way
+  abbrev answers_at : Resolving Way → AddressPrefix → Answers Way
   answers_at s p = function_of (in_force_by s.known) (walk_to (fresh_by s.known) s.walk) p
 
   resolved_print : (s : Resolving Way) (ext : Rows External) → HaveWays s → Prints peers external_value ext → Prints peers fib_value (resolved_rows s ext)
@@ -125,7 +125,7 @@ module _ (profile : Profile) (peers : ℕ → Option Neighbour) where
   pub fib_print : (e : RibExit) (best : Rows Route) (int : Rows Interior) → StandsOver best e → AreBestRows profile peers best → HaveWays e.forwarding → Prints peers interior_value int → Prints peers fib_value (fib_over e int)
   fib_print e best int stands are ways interior = table_print e.forwarding int (ext_rows e) ways interior (ext_print e best stands are)
 
-  pub fib_printed : (old new : Rows FibRow) (p : Network) (fib : Option (Change FibRow)) → Prints peers fib_value old → Prints peers fib_value new → IsSent old new p fib → ArePrintedEntries peers (fib_entries fib)
+  pub fib_printed : (old new : Rows FibRow) (p : AddressPrefix) (fib : Option (Change FibRow)) → Prints peers fib_value old → Prints peers fib_value new → IsSent old new p fib → ArePrintedEntries peers (fib_entries fib)
   fib_printed old new p fib before then is = sent_printed peers fib_value Fib old new p fib tt before then is
 
   -- ---- what goes on from the splitter to `fib`
@@ -149,14 +149,14 @@ module _ (profile : Profile) (peers : ℕ → Option Neighbour) where
   both_print : (rows : Parted) → AllPrint rows → Prints peers external_value (merged_links rows)
   both_print rows each = merged_print peers external_value external_distance (rows sides.Ebgp) (rows sides.Ibgp) (each sides.Ebgp) (each sides.Ibgp)
 
-  part_printed : (link : BgpLink) (change : Change External) (caused : Caused) (old new : Parted) (p : Network) → AllPrint old → AllPrint new → IsSent (old link) (new link) p (Some change)
+  part_printed : (link : BgpLink) (change : Change External) (caused : Caused) (old new : Parted) (p : AddressPrefix) → AllPrint old → AllPrint new → IsSent (old link) (new link) p (Some change)
       → IsSent (merged_links old) (merged_links new) p caused.ext → ArePrintedEntries peers (fib_entries caused.fib) → ArePrintedEntries peers (part_entries link change caused)
   part_printed link change caused old new p before then sent ext fib =
       all_both Is (valued_change external_value (journal_link link) change) (caused_entries caused) (sent_printed peers external_value (journal_link link) (old link) (new link) p (Some change) (named link) (before link) (then link) sent)
       (all_both Is (sent_entries external_value Ext caused.ext) (fib_entries caused.fib) (sent_printed peers external_value Ext (merged_links old) (merged_links new) p caused.ext tt (both_print old before) (both_print new then) ext) fib)
 
   -- at most one of the two changes `fib`
-  one_printed : (old new : Rows FibRow) (p : Network) (first second : Caused) → Prints peers fib_value old → Prints peers fib_value new → IsSent old new p (option_or first.fib second.fib)
+  one_printed : (old new : Rows FibRow) (p : AddressPrefix) (first second : Caused) → Prints peers fib_value old → Prints peers fib_value new → IsSent old new p (option_or first.fib second.fib)
       → (first.ext ≡ None) ⊎ (second.ext ≡ None) → (first.ext ≡ None → first.fib ≡ None) → (second.ext ≡ None → second.fib ≡ None) → ArePrintedEntries peers (fib_entries first.fib) × ArePrintedEntries peers (fib_entries second.fib)
   one_printed old new p first second before then is (inl none) by_first by_second =
       let gone = by_first none in
@@ -167,7 +167,7 @@ module _ (profile : Profile) (peers : ℕ → Option Neighbour) where
       let sent : IsSent old new p first.fib = subst (IsSent old new p) (or_none first.fib) (subst (λ (o : Option (Change FibRow)). IsSent old new p (option_or first.fib o)) gone is) in
       (fib_printed old new p first.fib before then sent, subst (λ (o : Option (Change FibRow)). ArePrintedEntries peers (fib_entries o)) (sym gone) tt)
 
-  split_printed : (split : Split) (first second : Caused) (old new : Parted) (p : Network) → AllPrint old → AllPrint new → Splits old new p split → CausesOn p split first.ext second.ext old new
+  split_printed : (split : Split) (first second : Caused) (old new : Parted) (p : AddressPrefix) → AllPrint old → AllPrint new → Splits old new p split → CausesOn p split first.ext second.ext old new
       → ArePrintedEntries peers (fib_entries first.fib) × ArePrintedEntries peers (fib_entries second.fib) → ArePrintedEntries peers (fall_entries split first second)
   split_printed Neither first second old new p before then splits causes fibs = tt
   split_printed (One link change) first second old new p before then splits causes fibs = part_printed link change first old new p before then splits.0 causes.0 fibs.0
@@ -177,7 +177,7 @@ module _ (profile : Profile) (peers : ℕ → Option Neighbour) where
       (part_printed link add first old (first_on link old new) p before mid splits.first.0 causes.0 fibs.0) (part_printed (other link) delete second (first_on link old new) new p mid then splits.second.0 causes.1 fibs.1)
 
   -- from these best routes to those
-  pub external_printed : (p : Network) (int : Rows Interior) (split : Split) (first second : Caused) (was : Registry Interior) (e e' : RibExit) (entries : List (Entry Value)) (best now : Rows Route)
+  pub external_printed : (p : AddressPrefix) (int : Rows Interior) (split : Split) (first second : Caused) (was : Registry Interior) (e e' : RibExit) (entries : List (Entry Value)) (best now : Rows Route)
       → StandsOver best e → AreBestRows profile peers best → AreBestRows profile peers now → HaveWays e.forwarding → HaveWays e'.forwarding → Prints peers interior_value int
       → FallsOn p int split first second was e e' entries best now → ArePrintedEntries peers (fall_entries split first second)
   external_printed p int split first second was e e' entries best now stands before then ways ways' interior f =

@@ -1,5 +1,5 @@
 -- What falls and turns say can be printed, and so can what stands behind them.
-use Rattle.router_moments.proofs.Common.{sym, subst, ◌∙◌, ap, ◌≡◌, ℕ, List, arith, ◌++◌, ◌≤◌, not, inr, IfSome, AllByRecursion, Network, Attrs, Route, Neighbour, Profile, Speaker, peer_at, Declaration, ArePrintableExits, AreBestRows, with_queue, Resolvers, PeerRows, res_at, GoesOn, Chained, welded, fed, IsPrefix, AllHaveMetrics, Prints, IsFit, neighbours, IsPrinted, AreTablesOf, IsInteriorRow, IsPrintableChain, HaveWays, IsWay, IsNameNumber, route_value, interior_value, sent_entries, Entry, Line, Link, Best, Res, Org, Task, Value, IsSent, Rows, Change, LiveState, all_both, swept_one, same_some, route_hop, with_metric, metric_of, way_of, over, external_hop, answer_of, put_each, chain_at, Chains, filt_at, put_chain, Registry, fib_over, FallsOn, Proto, Interior, put_all, welded_branch, swept_branch, Branch, int_rows, Treed, branch_of, put_branch, own_rows, best_entries, own_entries, RunsFirst, Moment, best_of, own_of, with_exits, read_rows_by, with_chains, read_of, with_tree, with_hops, candidates_of, with_redist, with_rib, ArePrinted, IsPrintableMoment, Stands, journal_lines, Turns, IsTurn, BelowInt, FallsRoute, RunsPhase, Resolves, FallsPeer, IsPeerTurn, RunsAll, FeedsAll, AreHeard, Phase}
+use Rattle.router_moments.proofs.Common.{sym, subst, ◌∙◌, ap, ◌≡◌, ℕ, List, arith, ◌++◌, ◌≤◌, not, inr, IfSome, AllByRecursion, AddressPrefix, Attrs, Route, Neighbour, Profile, Speaker, peer_at, Declaration, ArePrintableExits, AreBestRows, with_queue, Resolvers, PeerRows, res_at, GoesOn, Chained, welded, fed, IsPrefix, AllHaveMetrics, Prints, IsFit, neighbours, IsPrinted, AreTablesOf, IsInteriorRow, IsPrintableChain, HaveWays, IsWay, IsNameNumber, route_value, interior_value, sent_entries, Entry, Line, Link, Best, Res, Org, Task, Value, IsSent, Rows, Change, LiveState, all_both, swept_one, same_some, route_hop, with_metric, metric_of, way_of, over, external_hop, answer_of, put_each, chain_at, Chains, filt_at, put_chain, Registry, fib_over, FallsOn, Proto, Interior, put_all, welded_branch, swept_branch, Branch, int_rows, Treed, branch_of, put_branch, own_rows, best_entries, own_entries, RunsFirst, Moment, best_of, own_of, with_exits, read_rows_by, with_chains, read_of, with_tree, with_hops, candidates_of, with_redist, with_rib, ArePrinted, IsPrintableMoment, Stands, journal_lines, Turns, IsTurn, BelowInt, FallsRoute, RunsPhase, Resolves, FallsPeer, IsPeerTurn, RunsAll, FeedsAll, AreHeard, Phase}
 use Rattle.std.proofs.Common.{[], ◌∷◌, Option, Some, None}
 use Rattle.journal_text.specs.Walk.{no_links}
 use Rattle.journal_text.specs.declared.line.Line.TheVariants as lines
@@ -58,7 +58,7 @@ both_shown : (m : Moment) (xs ys : List (Entry Value)) → AreShown m xs → Are
 both_shown m xs ys p q = all_both (λ (e : Entry Value). IsPrinted (neighbours m.declared) (lines.Journal e)) xs ys p q
 
 -- what the decision sends
-decided_shown : (m : Moment) (old new : Rows Route) (p : Network) (best : Option (Change Route)) (lines : List (Entry Value)) → lines ≡ best_entries best → AreBestRows m.declared.profile (neighbours m.declared) old → AreBestRows m.declared.profile (neighbours m.declared) new → IsSent old new p best
+decided_shown : (m : Moment) (old new : Rows Route) (p : AddressPrefix) (best : Option (Change Route)) (lines : List (Entry Value)) → lines ≡ best_entries best → AreBestRows m.declared.profile (neighbours m.declared) old → AreBestRows m.declared.profile (neighbours m.declared) new → IsSent old new p best
     → AreShown m lines
 decided_shown m old new p best lines is before then sent = subst (AreShown m) (sym is)
     (sent_printed (neighbours m.declared) route_value Best old new p best tt (best_shown (neighbours m.declared) m.declared.profile old before) (best_shown (neighbours m.declared) m.declared.profile new then) sent)
@@ -70,7 +70,7 @@ resolved_metrics k (Some change) below r r' h h' entries fit t metrics = metrics
 
 -- ---- a fall in a peer's chain, what follows it, and the weld behind both
 module _ (k : ℕ) (sent : Option (Change Route)) (P : Chains → List (Entry Value) → Type 0) (m : Moment) (said : List Line) (m' : Moment) (stands : Stands m) (f : FallsPeer k sent P m said m')
-    (c less : Chained) (at : chain_at k m.chains ≡ Some c) (after : f.fallen ≡ put_chain k less m.chains) (p : Network) (changes : Changes k p sent m.chains f.fallen) where
+    (c less : Chained) (at : chain_at k m.chains ≡ Some c) (after : f.fallen ≡ put_chain k less m.chains) (p : AddressPrefix) (changes : Changes k p sent m.chains f.fallen) where
   fall_prints : Stands m' → IsPrintableMoment m → IsFit (neighbours m.declared) m.declared.profile less → AreShown m f.entries → StaysPrintable m said m'
   fall_prints stands' printable own falls = record {
     now = subst IsPrintableMoment (sym f.after) (record { declared = printable.declared; chains = new.chains; interior = printable.interior; hops = metrics; ways = printable.ways; exits = queued_printable m.declared.profile (neighbours m.declared) (best_of m) (best_of now) p f.decided.best m.exits m'.exits (best_fit m stands old) best chosen f.queued printable.exits });
@@ -124,10 +124,10 @@ module _ (k : ℕ) (sent : Option (Change Route)) (P : Chains → List (Entry Va
           (weld_printed (neighbours m.declared) (owners.Peer less.incoming.number) (λ n number. (own.named, number)) (In less.incoming.number) less.incoming.tables.deletions own.named own.printable.tables.losses)
 
 -- ---- one prefix that a peer said something of
-abbrev pub IsSaid : Profile → Neighbour → Network × Option Attrs → Type 0
+abbrev pub IsSaid : Profile → Neighbour → AddressPrefix × Option Attrs → Type 0
 IsSaid profile w change = IsPrefix change.0 × IfSome change.1 (WasHeard profile (not w.internal))
 
-feed_prints : (k : ℕ) (w : Neighbour) (p : Network) (row : Option Attrs) (m : Moment) (said : List Line) (m' : Moment) → Stands m → Stands m' → neighbours m.declared k ≡ Some w → IsSaid m.declared.profile w (p, row) → Feeds k (p, row) m said m' → IsPrintableMoment m → StaysPrintable m said m'
+feed_prints : (k : ℕ) (w : Neighbour) (p : AddressPrefix) (row : Option Attrs) (m : Moment) (said : List Line) (m' : Moment) → Stands m → Stands m' → neighbours m.declared k ≡ Some w → IsSaid m.declared.profile w (p, row) → Feeds k (p, row) m said m' → IsPrintableMoment m → StaysPrintable m said m'
 feed_prints k w p row m said m' stands stands' there is t printable =
     let i = t.1 in
     let f = i.part.feeds in
@@ -140,7 +140,7 @@ feed_prints k w p row m said m' stands stands' there is t printable =
     fall_prints k t.0 (FeedsInward k p row t.0 m.chains) m said m' stands i f.chain less f.at f.after p i.part.changes stands' printable fit
     (chain_fall (neighbours m.declared) m.declared.profile f.chain own.0 less p (way_of_feed f.chain.incoming) t.0 i.entries fit is.0 (feed_once (neighbours m.declared) m.declared.profile f.chain own.0) f.falls)
   where
-    row_heard : (x : Neighbour) (q : Network) (o : Option Attrs) → IsSaid m.declared.profile x (q, o) → IfSome o (IsHeardRow m.declared.profile (not x.internal) q)
+    row_heard : (x : Neighbour) (q : AddressPrefix) (o : Option Attrs) → IsSaid m.declared.profile x (q, o) → IfSome o (IsHeardRow m.declared.profile (not x.internal) q)
     row_heard x q None is = tt
     row_heard x q (Some a) is = is
 
@@ -176,7 +176,7 @@ hop_prints k m said m' stands stands' t printable = record {
     new : IsShown now
     new = record { declared = old.declared; chains = old.chains; interior = old.interior; hops = metrics }
 
-    goes : (p : Network) × GoesOn k p t.sent m.hops m'.hops t.entries (filt_at m.chains) (filt_at m.chains)
+    goes : (p : AddressPrefix) × GoesOn k p t.sent m.hops m'.hops t.entries (filt_at m.chains) (filt_at m.chains)
     goes = hop_goes k m said m' stands t
 
     chosen : IsSent (best_of m) (best_of now) goes.0 t.decided.best
@@ -209,7 +209,7 @@ own_prints m said m' stands stands' t printable = record {
     new : IsShown now
     new = record { declared = old.declared; chains = old.chains; interior = old.interior; hops = old.hops }
 
-    sent : (p : Network) × IsSent (own_of m) (own_of now) p t.own
+    sent : (p : AddressPrefix) × IsSent (own_of m) (own_of now) p t.own
     sent = own_sent m t.me m'.redist t.own t.local t.walks
 
     chosen : IsSent (best_of m) (best_of now) sent.0 t.decided.best
@@ -285,12 +285,12 @@ below_ways None int m x entries b ways = subst (λ (n : Moment). HaveWays n.rib.
 below_ways (Some change) int m x entries b ways = answers_mapped IsWay (reached_hop b.0.informed.reached) (λ h own. own) m.rib.forwarding.known x.rib.forwarding.known b.0.informed.external.reaches.known ways
 
 -- the exits, where what came on `best` joined their queue
-below_exits : (sent : Option (Change Interior)) (int : Rows Interior) (m x : Moment) (entries : List (Entry Value)) (b : BelowInt sent int m x entries) (p : Network) (old new : Rows Route) → AreBestRows m.declared.profile (neighbours m.declared) old → AreBestRows m.declared.profile (neighbours m.declared) new
+below_exits : (sent : Option (Change Interior)) (int : Rows Interior) (m x : Moment) (entries : List (Entry Value)) (b : BelowInt sent int m x entries) (p : AddressPrefix) (old new : Rows Route) → AreBestRows m.declared.profile (neighbours m.declared) old → AreBestRows m.declared.profile (neighbours m.declared) new
     → IsSent old new p (below_best sent int m x entries b) → ArePrintableExits m.declared.profile (neighbours m.declared) m.exits → ArePrintableExits m.declared.profile (neighbours m.declared) x.exits
 below_exits None int m x entries b p old new before then is exits = subst (λ (n : Moment). ArePrintableExits m.declared.profile (neighbours m.declared) n.exits) (sym b.0) exits
 below_exits (Some change) int m x entries b p old new before then is exits = queued_printable m.declared.profile (neighbours m.declared) old new p b.0.own.decided.best m.exits x.exits before then is b.0.own.queued exits
 
-module _ (proto : Proto) (b : Branch) (p : Network) (way : List Link) (m : Moment) (said : List Line) (m' : Moment) (me : Speaker) (stands : Stands m) (since : m.declared.speaker ≡ Some me) (few : length b.tables.deletions ≤ 16) (stands' : Stands m') (printable : IsPrintableMoment m) (own : AreFit IsInteriorRow b.tables)
+module _ (proto : Proto) (b : Branch) (p : AddressPrefix) (way : List Link) (m : Moment) (said : List Line) (m' : Moment) (me : Speaker) (stands : Stands m) (since : m.declared.speaker ≡ Some me) (few : length b.tables.deletions ≤ 16) (stands' : Stands m') (printable : IsPrintableMoment m) (own : AreFit IsInteriorRow b.tables)
     (f : FallsRoute m (put_branch proto b m.tree) proto p way said m') where
   abbrev t : Treed
   t = put_branch proto b m.tree
@@ -437,7 +437,7 @@ pub first_goes : (task : Option Task) (m : Moment) (said : List Line) (m' : Mome
 first_goes = first_along Goes goes_nowhere goes_then turn_goes
 
 -- the prefixes of an UPDATE
-pub feeds_go : (k : ℕ) (w : Neighbour) (cs : List (Network × Option Attrs)) (m : Moment) (said : List Line) (m' : Moment) → Stands m → IsUpAt k m → AreHeard m.declared.profile cs → neighbours m.declared k ≡ Some w → AllByRecursion (IsSaid m.declared.profile w) cs → FeedsAll k cs m said m'
+pub feeds_go : (k : ℕ) (w : Neighbour) (cs : List (AddressPrefix × Option Attrs)) (m : Moment) (said : List Line) (m' : Moment) → Stands m → IsUpAt k m → AreHeard m.declared.profile cs → neighbours m.declared k ≡ Some w → AllByRecursion (IsSaid m.declared.profile w) cs → FeedsAll k cs m said m'
     → Goes m said m'
 feeds_go k w [] m said m' stands up heard there each f = goes_nowhere m m' said f.0 f.1
 feeds_go k w (c ∷ cs) m said m' stands up heard there each f =

@@ -1,5 +1,5 @@
 -- What a change of `best` makes of what reads it: it joins the queue, and no link of theirs changes.
-use Rattle.router_moments.proofs.Common.{sym, subst, ◌∙◌, ap, ◌≡◌, ℕ, refl, true, false, cond, ForSome, itself, Network, Route, Profile, Speaker, peer_at, Declaration, DeclaredPeer, Exited, AllStand, OutChains, IsExits, AllLead, route_rows, Link, IsSent, Rows, Change, OutChained, RowsMayBeHeard, MayBeHeard, StandsOver, int_rows, Queues, Moment, best_of, own_of, read_rows_by, read_by, read_links, rules_to, Policies, Stands, ExitsAt, ReadsOn, ExitsStand, MaySend, IsExitOf}
+use Rattle.router_moments.proofs.Common.{sym, subst, ◌∙◌, ap, ◌≡◌, ℕ, refl, true, false, cond, ForSome, itself, AddressPrefix, Route, Profile, Speaker, peer_at, Declaration, DeclaredPeer, Exited, AllStand, OutChains, IsExits, AllLead, route_rows, Link, IsSent, Rows, Change, OutChained, RowsMayBeHeard, MayBeHeard, StandsOver, int_rows, Queues, Moment, best_of, own_of, read_rows_by, read_by, read_links, rules_to, Policies, Stands, ExitsAt, ReadsOn, ExitsStand, MaySend, IsExitOf}
 use Rattle.std.proofs.Common.{Option, Some, None}
 use Rattle.std.specs.Prelude.{IsSome}
 use Rattle.std.specs.FinMap as tables
@@ -68,23 +68,23 @@ module _ (e e' : Exited) where
   queue_sound None q sound = subst IsExits (sym q) sound
   queue_sound (Some c) q sound = q.sound
 
-  pub queue_links : (best : Option (Change Route)) (old new : Rows Route) (p : Network) → Queues best e e' → IsSent old new p best → exit_links e' new ≡ exit_links e old
+  pub queue_links : (best : Option (Change Route)) (old new : Rows Route) (p : AddressPrefix) → Queues best e e' → IsSent old new p best → exit_links e' new ≡ exit_links e old
   queue_links None old new p q sent = ap (λ (x : Exited). exit_links x new) q ∙ ap (exit_links e) sent
   queue_links (Some c) old new p q sent = q.links old new p sent
 
   -- what the reader of the forwarding side has stays
-  pub queue_rows : (best : Option (Change Route)) (reader : Option ℕ) (old new : Rows Route) (p : Network) → ((r : ℕ) → reader ≡ Some r → IsSome (tables.get e.queue r)) → Queues best e e' → IsSent old new p best
+  pub queue_rows : (best : Option (Change Route)) (reader : Option ℕ) (old new : Rows Route) (p : AddressPrefix) → ((r : ℕ) → reader ≡ Some r → IsSome (tables.get e.queue r)) → Queues best e e' → IsSent old new p best
       → read_rows_by e'.queue reader new ≡ read_rows_by e.queue reader old
   queue_rows best None old new p live q sent = refl
   queue_rows None (Some r) old new p live q sent = ap (λ (x : Exited). read_rows_by x.queue (Some r) new) q ∙ ap (read_rows_by e.queue (Some r)) sent
   queue_rows (Some c) (Some r) old new p live q sent = put_keeps_read e.queue e'.queue old new p c r q.appends sent (live r refl)
 
-  queue_read : (best : Option (Change Route)) (reader : Option ℕ) (old new : Rows Route) (p : Network) → ((r : ℕ) → reader ≡ Some r → IsSome (tables.get e.queue r)) → Queues best e e' → IsSent old new p best
+  queue_read : (best : Option (Change Route)) (reader : Option ℕ) (old new : Rows Route) (p : AddressPrefix) → ((r : ℕ) → reader ≡ Some r → IsSome (tables.get e.queue r)) → Queues best e e' → IsSent old new p best
       → read_by e'.queue reader new ≡ read_by e.queue reader old
   queue_read best None old new p live q sent = refl
   queue_read best (Some r) old new p live q sent = ap (λ (rows : Rows Route). Some (route_rows rows)) (queue_rows best (Some r) old new p live q sent)
 
-  pub queue_external : (best : Option (Change Route)) (reader : Option ℕ) (old new : Rows Route) (p : Network) → ((r : ℕ) → reader ≡ Some r → IsSome (tables.get e.queue r)) → Queues best e e' → IsSent old new p best
+  pub queue_external : (best : Option (Change Route)) (reader : Option ℕ) (old new : Rows Route) (p : AddressPrefix) → ((r : ℕ) → reader ≡ Some r → IsSome (tables.get e.queue r)) → Queues best e e' → IsSent old new p best
       → read_links e'.queue reader new ≡ read_links e.queue reader old
   queue_external best reader old new p live q sent i link = each link i
     where
@@ -92,11 +92,11 @@ module _ (e e' : Exited) where
       each ReadRib = queue_read best reader old new p live q sent
       each other = refl
 
-  pub queue_all : (best : Option (Change Route)) (old new : Rows Route) (p : Network) → Queues best e e' → IsSent old new p best → AllLead e.queue old → AllLead e'.queue new
+  pub queue_all : (best : Option (Change Route)) (old new : Rows Route) (p : AddressPrefix) → Queues best e e' → IsSent old new p best → AllLead e.queue old → AllLead e'.queue new
   queue_all None old new p q sent all = subst (λ (x : Exited). AllLead x.queue new) (sym q) (subst (λ (rows : Rows Route). AllLead e.queue rows) (sym sent) all)
   queue_all (Some c) old new p q sent all = put_keeps_leading e.queue e'.queue old new p c q.appends sent all
 
-  queue_stand : (f : Profile) (best : Option (Change Route)) (old new : Rows Route) (p : Network) → e.profile ≡ f → RowsMayBeHeard f new → Queues best e e' → IsSent old new p best → AllStand old e → AllStand new e'
+  queue_stand : (f : Profile) (best : Option (Change Route)) (old new : Rows Route) (p : AddressPrefix) → e.profile ≡ f → RowsMayBeHeard f new → Queues best e e' → IsSent old new p best → AllStand old e → AllStand new e'
   queue_stand f None old new p is heard q sent all = subst (λ (x : Exited). AllStand new x) (sym q) (subst (λ (rows : Rows Route). AllStand rows e) (sym sent) all)
   queue_stand f (Some c) old new p is heard q sent all = q.stand old new p sent own all
     where
@@ -106,7 +106,7 @@ module _ (e e' : Exited) where
 
 -- ---- what stands then
 -- where a change of `best` joined the queue, if one came, and the RIB's exit stands over all rows over which it stood
-pub exits_fall : (m now : Moment) (best : Option (Change Route)) (p : Network) → Stands m → RowsWereHeard m.declared.profile now.chains → Queues best m.exits now.exits → IsSent (best_of m) (best_of now) p best
+pub exits_fall : (m now : Moment) (best : Option (Change Route)) (p : AddressPrefix) → Stands m → RowsWereHeard m.declared.profile now.chains → Queues best m.exits now.exits → IsSent (best_of m) (best_of now) p best
     → now.declared ≡ m.declared → now.outgoing ≡ m.outgoing → now.reader ≡ m.reader → ((rows : Rows Route) → StandsOver rows m.rib → StandsOver rows now.rib) → ExitsStand now
 exits_fall m now best p stands rows q sent declared outgoing reader over = record {
   rows = rows_then;

@@ -1,5 +1,5 @@
 -- How many turns readers of `best` take: the most that one hasn't taken, and how many candidates of `best` lie beyond a place.
-use Rattle.router_moments.proofs.Common.{sym, ◌∙◌, ap, ◌≡◌, ℕ, refl, List, true, arith, false, ◌+◌, Bool, ◌≤◌, cond, ◌<◌, suc, zero, nat_eq, ◌≢◌, ◌||◌, nat_lt, ◌-◌, ◌*◌, nat_tests, nat_cmp_total, FinMap, nat_cmp-IsAntisymmetric, get-insert, AllByRecursion, list_any, range_with_len, sum_by, nat_cmp, eq_by_cmp, Network, Attrs, Route, Exited, Queued, Takes, known_in, candidates_are_counted, Chained, filt_candidates, Candidates, IsNextCandidate, Change, CountsBeyond, chain_at, Chains, rows_in, Treed, tree_count, int_candidates, Queues, Moment, candidates_of, most_unread, bound_of, best_beyond, Stands}
+use Rattle.router_moments.proofs.Common.{sym, ◌∙◌, ap, ◌≡◌, ℕ, refl, List, true, arith, false, ◌+◌, Bool, ◌≤◌, cond, ◌<◌, suc, zero, nat_eq, ◌≢◌, ◌||◌, nat_lt, ◌-◌, ◌*◌, nat_tests, nat_cmp_total, FinMap, nat_cmp-IsAntisymmetric, get-insert, AllByRecursion, list_any, range_with_len, sum_by, nat_cmp, eq_by_cmp, AddressPrefix, Attrs, Route, Exited, Queued, Takes, known_in, candidates_are_counted, Chained, filt_candidates, Candidates, IsNextCandidate, Change, CountsBeyond, chain_at, Chains, rows_in, Treed, tree_count, int_candidates, Queues, Moment, candidates_of, most_unread, bound_of, best_beyond, Stands}
 use Rattle.std.proofs.Common.{[], ◌∷◌, length, Option, Some, None, is_some}
 use Rattle.std.specs.Prelude.{IsSome}
 use Rattle.std.specs.Option.{option_map}
@@ -148,14 +148,14 @@ announced_fits losses own stages walks hops changes sends exits unread rows rout
     omega (arith, a, b, c, d, e, read, parts, again, more, split, all)
 
 -- ---- the candidates of `best` beyond a place
-lost_further : (place : Option Network) (p : Network) (ds : List (Lost Attrs)) → IsBeyond place p → lost_beyond (Some p) ds ≤ lost_beyond place ds
+lost_further : (place : Option AddressPrefix) (p : AddressPrefix) (ds : List (Lost Attrs)) → IsBeyond place p → lost_beyond (Some p) ds ≤ lost_beyond place ds
 lost_further place p [] h = omega arith
 lost_further place p (d ∷ ds) h =
     let first : count_beyond (Some p) d.rows ≤ count_beyond place d.rows = table_further place p d.rows h in
     let rest = lost_further place p ds h in
     omega (arith, first, rest)
 
-chain_further : (place : Option Network) (p : Network) (c : Chained) → IsBeyond place p → filt_beyond c (Some p) ≤ filt_beyond c place
+chain_further : (place : Option AddressPrefix) (p : AddressPrefix) (c : Chained) → IsBeyond place p → filt_beyond c (Some p) ≤ filt_beyond c place
 chain_further place p c h =
     let first : count_beyond (Some p) c.incoming.tables.live ≤ count_beyond place c.incoming.tables.live = table_further place p c.incoming.tables.live h in
     let rest = lost_further place p c.incoming.tables.deletions h in
@@ -189,7 +189,7 @@ module _ (a : Chains) (t : Treed) (small : (k : ℕ) → IsSome (chain_at k a) �
   lent_is (suc k) some low = ap (λ b. candidates_by (cond b (chain_at (suc k) a) None)) (let is : nat_lt (suc k) 65 ≡ true = grind (arith, nat_tests) in is)
 
   -- of a candidate of a peer the chain
-  chain_of : (k : ℕ) (p : Network) → candidates_by (lent_chain a k) p ≡ true → (c : Chained) × (chain_at k a ≡ Some c) × (filt_candidates c p ≡ true)
+  chain_of : (k : ℕ) (p : AddressPrefix) → candidates_by (lent_chain a k) p ≡ true → (c : Chained) × (chain_at k a ≡ Some c) × (filt_candidates c p ≡ true)
   chain_of k p is = by_low (nat_lt k 65) is
     where
       by_chain : (o : Option Chained) → chain_at k a ≡ o → candidates_by o p ≡ true → (c : Chained) × (chain_at k a ≡ Some c) × (filt_candidates c p ≡ true)
@@ -201,11 +201,11 @@ module _ (a : Chains) (t : Treed) (small : (k : ℕ) → IsSome (chain_at k a) �
       by_low false is = absurd (cc)
 
   -- a candidate is of a peer, or of `int`
-  candidate_of : (P : Type 0) (k : ℕ) (p : Network) → ((c : Chained) → chain_at k a ≡ Some c → filt_candidates c p ≡ true → P) → (int_candidates t p ≡ true → P) → lent_candidates (int_candidates t) a k p ≡ true → P
+  candidate_of : (P : Type 0) (k : ℕ) (p : AddressPrefix) → ((c : Chained) → chain_at k a ≡ Some c → filt_candidates c p ≡ true → P) → (int_candidates t p ≡ true → P) → lent_candidates (int_candidates t) a k p ≡ true → P
   candidate_of P zero p chain own is = own is
   candidate_of P (suc k) p chain own is = let c = chain_of (suc k) p is in chain c.0 c.1 c.2
 
-  pub other_none : (k : ℕ) (c : Chained) (q : Network) → chain_at k a ≡ Some c → candidates_below 65 (lent_candidates (int_candidates t) a) q ≡ false → filt_candidates c q ≡ false
+  pub other_none : (k : ℕ) (c : Chained) (q : AddressPrefix) → chain_at k a ≡ Some c → candidates_below 65 (lent_candidates (int_candidates t) a) q ≡ false → filt_candidates c q ≡ false
   other_none k c q at none =
       let low = small k (ap is_some at) in
       let from = low.0 in
@@ -217,13 +217,13 @@ module _ (a : Chains) (t : Treed) (small : (k : ℕ) → IsSome (chain_at k a) �
   unfolding best_candidates
   best_counted_by = record { fewer = fewer; most = most }
     where
-      most : (place : Option Network) → best_beyond a t place ≤ best_beyond a t None
+      most : (place : Option AddressPrefix) → best_beyond a t place ≤ best_beyond a t None
       most place =
           let peers = sum_by-le-sum_by (λ (c : Chained). filt_beyond c place) (λ c. filt_beyond c None) (tables.values a) (λ c. (candidates_are_counted c).0.most place) in
           let own = tree_most t place in
           omega (arith, peers, own)
 
-      fewer : (place : Option Network) (p : Network) → IsNextCandidate (candidates_below 65 (lent_candidates (int_candidates t) a)) place (Some p) → best_beyond a t (Some p) < best_beyond a t place
+      fewer : (place : Option AddressPrefix) (p : AddressPrefix) → IsNextCandidate (candidates_below 65 (lent_candidates (int_candidates t) a)) place (Some p) → best_beyond a t (Some p) < best_beyond a t place
       fewer place p next =
           let any = any_at (λ b. lent_candidates (int_candidates t) a b p) 0 65 next.1 in
           candidate_of (best_beyond a t (Some p) < best_beyond a t place) any.0 p (λ c at is.

@@ -1,5 +1,5 @@
 -- A refresh that a peer asked for, and one turn of it: the walk of its exit becomes another, and nothing else changes.
-use Rattle.router_moments.proofs.Common.{sym, subst, ◌∙◌, ap, ◌≡◌, ℕ, refl, List, true, arith, false, Bool, cond, Network, Route, Speaker, peer_at, DeclaredPeer, Exited, Queued, AllLead, neighbours, leads_nowhere, Journaled, flushed, entries_of, Leads, Links, Entry, Line, Link, Value, OutChained, live_state, Moment, best_of, router_links, with_exits, read_by, Policies, most_unread, unread_if, best_beyond, Stands, ExitsAt, Keeps, TakesTurn, IsWork, Taken}
+use Rattle.router_moments.proofs.Common.{sym, subst, ◌∙◌, ap, ◌≡◌, ℕ, refl, List, true, arith, false, Bool, cond, AddressPrefix, Route, Speaker, peer_at, DeclaredPeer, Exited, Queued, AllLead, neighbours, leads_nowhere, Journaled, flushed, entries_of, Leads, Links, Entry, Line, Link, Value, OutChained, live_state, Moment, best_of, router_links, with_exits, read_by, Policies, most_unread, unread_if, best_beyond, Stands, ExitsAt, Keeps, TakesTurn, IsWork, Taken}
 use Rattle.std.proofs.Common.{[], length, Option, Some, None}
 use Rattle.std.specs.FinMap as tables
 use Rattle.journal_text.specs.declared.link.Link.TheVariants as links
@@ -28,7 +28,7 @@ use Rattle.router_moments.proofs.SpendLemmas.{Spent}
 use Rattle.router_moments.proofs.WorkLemmas.{one_turn}
 
 -- the same session under the same rules, whatever its walk is
-same_session : (s : Option Speaker) (policies : Policies) (k : ℕ) (p : Option DeclaredPeer) (c : OutChained) (walk : Option (Option Network)) → ExitsAt s policies k p (Some c) → ExitsAt s policies k p (Some (record c { refresh = walk }))
+same_session : (s : Option Speaker) (policies : Policies) (k : ℕ) (p : Option DeclaredPeer) (c : OutChained) (walk : Option (Option AddressPrefix)) → ExitsAt s policies k p (Some c) → ExitsAt s policies k p (Some (record c { refresh = walk }))
 same_session (Some me) policies k (Some p) c walk is = record { up = is.up; session = is.session; words = is.words; speaker = is.speaker; latest = is.latest }
 same_session (Some me) policies k None c walk is = absurd is
 same_session None policies k p c walk is = absurd is

@@ -1,5 +1,5 @@
 -- From the links of the tree, of `red` with the decision over it, and of the external routes, to those of the router.
-use Rattle.router_moments.proofs.Common.{sym, subst, ◌∙◌, ap, ◌≡◌, ℕ, refl, List, true, false, ◌++◌, suc, zero, Network, Route, Speaker, best_rows, Resolvers, PeerRows, ComesOn, leads_append, leads_sent, route_value, route_rows, Leads, Links, with_link, Entry, Link, Fib, Value, IsSent, Rows, Change, joined, with_side, Sides, LeadsIn, Decided, Redistributed, InteriorRoutes, Forward, Passed, passed_rows, Chains, redistributed, Protos, Interior, tree_leads, LeadsTree, int_rows, Treed, tree_links, own_rows, all_at, best_links, best_entries, own_links, own_entries, resolved_at, Moment, router_links, with_tree, parts, tree_by}
+use Rattle.router_moments.proofs.Common.{sym, subst, ◌∙◌, ap, ◌≡◌, ℕ, refl, List, true, false, ◌++◌, suc, zero, AddressPrefix, Route, Speaker, best_rows, Resolvers, PeerRows, ComesOn, leads_append, leads_sent, route_value, route_rows, Leads, Links, with_link, Entry, Link, Fib, Value, IsSent, Rows, Change, joined, with_side, Sides, LeadsIn, Decided, Redistributed, InteriorRoutes, Forward, Passed, passed_rows, Chains, redistributed, Protos, Interior, tree_leads, LeadsTree, int_rows, Treed, tree_links, own_rows, all_at, best_links, best_entries, own_links, own_entries, resolved_at, Moment, router_links, with_tree, parts, tree_by}
 use Rattle.std.proofs.Common.{◌==◌, Option, Some}
 use Rattle.journal_text.specs.declared.link.Link.TheVariants.{Red, Ebgp, Ibgp, Ext}
 use Rattle.rib_exit.specs.Exits.{is_exit_link}
@@ -34,7 +34,7 @@ exit_leads old new entries leads sides is = leads_anywhere old new (joined sides
     same other at = refl
 
 -- ---- the region of `red`
-pub own_leads : (s : Option Speaker) (me : Speaker) (old new : Rows Route) (p : Network) (own : Option (Change Route)) → s ≡ Some me → IsSent old new p own → LeadsIn Redistributed (own_links s old) (own_entries own) (own_links s new)
+pub own_leads : (s : Option Speaker) (me : Speaker) (old new : Rows Route) (p : AddressPrefix) (own : Option (Change Route)) → s ≡ Some me → IsSent old new p own → LeadsIn Redistributed (own_links s old) (own_entries own) (own_links s new)
 own_leads s me old new p own since sent sides is =
     subst (λ (l : Links Value). Leads (joined sides) (own_entries own) l) (λ i link. each link i)
     (leads_sent route_value (λ a b e. cc) (joined sides) Red old new p own (ap (λ (l : Links Value). l Red) is ∙ ap (λ (x : Option Speaker). own_links x old Red) since) sent)
@@ -48,7 +48,7 @@ pub own_rows_are : (s : Option Speaker) (me : Speaker) (passed : Passed Protos) 
 own_rows_are s me passed int since = ap (λ (x : Option Speaker). own_rows x passed int) since
 
 -- a change of branch 0, beside `res.K` that stay
-pub own_comes : (own : Option (Change Route)) (old new : Rows Route) (a : Chains) (h h' : Resolvers) (p : Network) → IsSent old new p own → ((j : ℕ) → resolved_at a h' j ≡ resolved_at a h j) → ComesOn 0 p own (all_at old a h) (all_at new a h')
+pub own_comes : (own : Option (Change Route)) (old new : Rows Route) (a : Chains) (h h' : Resolvers) (p : AddressPrefix) → IsSent old new p own → ((j : ℕ) → resolved_at a h' j ≡ resolved_at a h j) → ComesOn 0 p own (all_at old a h) (all_at new a h')
 own_comes own old new a h h' p sent same = record { here = sent; others = others }
   where
     others : (j : ℕ) → (j == 0) ≡ false → all_at new a h' j ≡ all_at old a h j
@@ -57,10 +57,10 @@ own_comes own old new a h h' p sent same = record { here = sent; others = others
 
 -- from whatever rows of the branches the change led to these
 abbrev pub DecidesTo : ℕ → Option (Change Route) → Option (Change Route) → PeerRows → Type 0
-DecidesTo k sent best now = (before : PeerRows) (p : Network) → ComesOn k p sent before now → IsSent (best_rows before) (best_rows now) p best
+DecidesTo k sent best now = (before : PeerRows) (p : AddressPrefix) → ComesOn k p sent before now → IsSent (best_rows before) (best_rows now) p best
 
 -- what both say, in their regions
-pub leads_own : (s : Option Speaker) (me : Speaker) (old new was is : Rows Route) (p : Network) (own best : Option (Change Route)) (sides : Sides) → s ≡ Some me → IsSent old new p own → IsSent was is p best → sides Redistributed ≡ own_links s old → sides Decided ≡ best_links s was
+pub leads_own : (s : Option Speaker) (me : Speaker) (old new was is : Rows Route) (p : AddressPrefix) (own best : Option (Change Route)) (sides : Sides) → s ≡ Some me → IsSent old new p own → IsSent was is p best → sides Redistributed ≡ own_links s old → sides Decided ≡ best_links s was
     → Leads (joined sides) (own_entries own ++ best_entries best) (joined (with_side (with_side sides Redistributed (own_links s new)) Decided (best_links s is)))
 leads_own s me old new was is p own best sides since sent chosen red decided =
     leads_append (joined sides) (joined (with_side sides Redistributed (own_links s new))) (joined (with_side (with_side sides Redistributed (own_links s new)) Decided (best_links s is))) (own_entries own) (best_entries best)

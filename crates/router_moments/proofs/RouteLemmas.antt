@@ -1,5 +1,5 @@
 -- A change of an interior route: what follows it, and what stands then.
-use Rattle.router_moments.proofs.Common.{sym, subst, ◌∙◌, ap, ◌≡◌, refl, List, arith, ◌++◌, ◌≤◌, not, Network, Route, Speaker, unheard_joins, others_are_unheard, AreUnheard, Exited, Resolvers, PeerRows, entries_of_entries, with_entries_append, leads_append, leads_nowhere, Journaled, Adds, with_entries, entries_of, Leads, Entry, Line, Link, Value, IsSent, Rows, is_empty_map, with_row, Change, joined, with_side, Sides, Region, Decided, Redistributed, Resolved, Outward, InteriorRoutes, Forward, adds_both, filt_at, Registry, StandsOver, AgreesWith, RibExit, Proto, FibRow, Interior, tree_leads, put_all, welded_branch, Branch, LeadsTree, way_of_route, fed_tree, welded_tree, int_rows, Treed, branch_of, IsTree, tree_links, IsFull, put_branch, own_rows, all_at, best_at, best_links, best_entries, Queues, own_links, own_entries, live_state, Moment, best_of, router_links, own_of, with_tree, parts, tree_by, forward_by, Stands, ExitsStand, HopsStand, journal_lines, BelowInt, FallsRoute, Pushes, Keeps}
+use Rattle.router_moments.proofs.Common.{sym, subst, ◌∙◌, ap, ◌≡◌, refl, List, arith, ◌++◌, ◌≤◌, not, AddressPrefix, Route, Speaker, unheard_joins, others_are_unheard, AreUnheard, Exited, Resolvers, PeerRows, entries_of_entries, with_entries_append, leads_append, leads_nowhere, Journaled, Adds, with_entries, entries_of, Leads, Entry, Line, Link, Value, IsSent, Rows, is_empty_map, with_row, Change, joined, with_side, Sides, Region, Decided, Redistributed, Resolved, Outward, InteriorRoutes, Forward, adds_both, filt_at, Registry, StandsOver, AgreesWith, RibExit, Proto, FibRow, Interior, tree_leads, put_all, welded_branch, Branch, LeadsTree, way_of_route, fed_tree, welded_tree, int_rows, Treed, branch_of, IsTree, tree_links, IsFull, put_branch, own_rows, all_at, best_at, best_links, best_entries, Queues, own_links, own_entries, live_state, Moment, best_of, router_links, own_of, with_tree, parts, tree_by, forward_by, Stands, ExitsStand, HopsStand, journal_lines, BelowInt, FallsRoute, Pushes, Keeps}
 use Rattle.std.proofs.Common.{[], length, Option, Some, None, IsSome}
 use Rattle.std.specs.FinMap as tables
 use Rattle.rib_exit.specs.Exits.{exit_links as external_links, IsExit}
@@ -24,7 +24,7 @@ use Rattle.router_moments.proofs.StandLemmas.{put_is_with, speaker_of}
 
 -- ---- the register
 -- it keeps up with `int`
-pub keeps_up : (sent : Option (Change Interior)) (old int : Rows Interior) (m m1 : Moment) (entries : List (Entry Value)) (p : Network) → BelowInt sent int m m1 entries → tables.get m.registry.rows ≡ old → IsSent old int p sent → tables.get m1.registry.rows ≡ int
+pub keeps_up : (sent : Option (Change Interior)) (old int : Rows Interior) (m m1 : Moment) (entries : List (Entry Value)) (p : AddressPrefix) → BelowInt sent int m m1 entries → tables.get m.registry.rows ≡ old → IsSent old int p sent → tables.get m1.registry.rows ≡ int
 keeps_up None old int m m1 entries p below is same = ap (λ (x : Moment). tables.get x.registry.rows) below.0 ∙ is ∙ sym same
 keeps_up (Some change) old int m m1 entries p below is sent =
     ap tables.get below.0.informed.registers.rows ∙ put_is_with m.registry.rows change.prefix change.after ∙ ap (λ (x : Rows Interior). with_row x change.prefix change.after) is ∙ sym sent.2
@@ -107,7 +107,7 @@ replanted m t r h e x = record m { tree = t; registry = r; hops = h; exits = e; 
 abbrev grown : Moment → Treed → Sides
 grown m t = with_side (parts m) InteriorRoutes (tree_by m.declared.speaker t)
 
-pub record CarriesOn (m : Moment) (t : Treed) (p : Network) (best : Option (Change Route)) (r : Registry Interior) (h : Resolvers) (e : Exited) (x : RibExit) (entries : List (Entry Value)) : Type 0 where
+pub record CarriesOn (m : Moment) (t : Treed) (p : AddressPrefix) (best : Option (Change Route)) (r : Registry Interior) (h : Resolvers) (e : Exited) (x : RibExit) (entries : List (Entry Value)) : Type 0 where
   pub leads : Leads (joined (grown m t)) entries (router_links (replanted m t r h e x))
   pub queued : Queues best m.exits e
   pub chosen : IsSent (best_of m) (best_of (replanted m t r h e x)) p best
@@ -116,7 +116,7 @@ pub record CarriesOn (m : Moment) (t : Treed) (p : Network) (best : Option (Chan
   pub agree : AgreesWith x r
   pub over : (rows : Rows Route) → StandsOver rows m.rib → StandsOver rows x
 
-carries_none : (m : Moment) (t : Treed) (p : Network) → Stands m → int_rows t ≡ int_rows m.tree → CarriesOn m t p None m.registry m.hops m.exits m.rib []
+carries_none : (m : Moment) (t : Treed) (p : AddressPrefix) → Stands m → int_rows t ≡ int_rows m.tree → CarriesOn m t p None m.registry m.hops m.exits m.rib []
 carries_none m t p stands same = record {
   leads = leads_nowhere (joined (grown m t)) (router_links (with_tree m t)) (ap joined (interior_set m t same));
   queued = refl;
@@ -128,12 +128,12 @@ carries_none m t p stands same = record {
 }
 
 -- this speaker's own rows move with `int`
-pub own_passes : (m : Moment) (t : Treed) (p : Network) (change : Change Interior) (m1 : Moment) (entries : List (Entry Value)) → IsSent (int_rows m.tree) (int_rows t) p (Some change) → (f : FollowsInt change (int_rows t) (with_tree m t) m1 entries)
+pub own_passes : (m : Moment) (t : Treed) (p : AddressPrefix) (change : Change Interior) (m1 : Moment) (entries : List (Entry Value)) → IsSent (int_rows m.tree) (int_rows t) p (Some change) → (f : FollowsInt change (int_rows t) (with_tree m t) m1 entries)
     → IsSent (own_of m) (own_rows m.declared.speaker m.redist (int_rows t)) p f.own.own
 own_passes m t p change m1 entries sent f =
     subst (λ (s : Option Speaker). IsSent (own_rows s m.redist (int_rows m.tree)) (own_rows s m.redist (int_rows t)) p f.own.own) (sym f.local) (f.own.passed (int_rows m.tree) (int_rows t) p sent)
 
-carries_change : (m : Moment) (t : Treed) (p : Network) (change : Change Interior) (m1 : Moment) (entries : List (Entry Value)) → Stands m → IsSent (int_rows m.tree) (int_rows t) p (Some change) → (f : FollowsInt change (int_rows t) (with_tree m t) m1 entries)
+carries_change : (m : Moment) (t : Treed) (p : AddressPrefix) (change : Change Interior) (m1 : Moment) (entries : List (Entry Value)) → Stands m → IsSent (int_rows m.tree) (int_rows t) p (Some change) → (f : FollowsInt change (int_rows t) (with_tree m t) m1 entries)
     → CarriesOn m t p f.own.decided.best m1.registry m1.hops m1.exits m1.rib entries
 carries_change m t p change m1 entries stands sent f = record {
   leads = leads;
@@ -201,11 +201,11 @@ carries_change m t p change m1 entries stands sent f = record {
         (leads_append (joined (grown m t)) (joined chose) (joined forwarded) (own_entries f.own.own ++ best_entries best) f.fib_lines first then))
 
 -- whether a change came out or not
-pub record Carried (m : Moment) (t : Treed) (p : Network) (best : Option (Change Route)) (m1 : Moment) (entries : List (Entry Value)) : Type 0 where
+pub record Carried (m : Moment) (t : Treed) (p : AddressPrefix) (best : Option (Change Route)) (m1 : Moment) (entries : List (Entry Value)) : Type 0 where
   pub on : CarriesOn m t p best m1.registry m1.hops m1.exits m1.rib entries
   pub is : m1 ≡ replanted m t m1.registry m1.hops m1.exits m1.rib
 
-carried : (m : Moment) (t : Treed) (p : Network) (sent : Option (Change Interior)) (m1 : Moment) (entries : List (Entry Value)) → Stands m → IsSent (int_rows m.tree) (int_rows t) p sent → (below : BelowInt sent (int_rows t) (with_tree m t) m1 entries)
+carried : (m : Moment) (t : Treed) (p : AddressPrefix) (sent : Option (Change Interior)) (m1 : Moment) (entries : List (Entry Value)) → Stands m → IsSent (int_rows m.tree) (int_rows t) p sent → (below : BelowInt sent (int_rows t) (with_tree m t) m1 entries)
     → Carried m t p (below_best sent (int_rows t) (with_tree m t) m1 entries below) m1 entries
 carried m t p None m1 entries stands same below =
     subst (λ (n : Moment). Carried m t p None n entries) (sym below.0) (subst (λ (es : List (Entry Value)). Carried m t p None (with_tree m t) es) (sym below.1) (record { on = carries_none m t p stands same; is = refl }))
@@ -249,7 +249,7 @@ live_lost m proto b i = record (live_state m) {
 
 -- ---- a change, what follows it, and the weld
 -- as the calls make it, one after the other
-pub route_fell : (m : Moment) (new : Treed) (proto : Proto) (p : Network) (way : List Link) (sent : Option (Change Interior)) (t : Treed) (m' : Moment) (before j now : Journaled) → t ≡ new → IsSent (int_rows m.tree) (int_rows t) p sent
+pub route_fell : (m : Moment) (new : Treed) (proto : Proto) (p : AddressPrefix) (way : List Link) (sent : Option (Change Interior)) (t : Treed) (m' : Moment) (before j now : Journaled) → t ≡ new → IsSent (int_rows m.tree) (int_rows t) p sent
     → Adds (FallsTree m.tree t p way sent) before j → Adds (Settles proto sent (with_tree m t) m') j now → Pushes (λ said. FallsRoute m new proto p way said m') before now
 route_fell m new proto p way sent t m' before j now at rows adds settled = (
   journal_lines (adds.0 ++ settled.0),
@@ -269,7 +269,7 @@ route_fell m new proto p way sent t m' before j now at rows adds settled = (
 )
 
 -- What stands after a change of the branch of a protocol, and what was said.
-pub record Routes (m : Moment) (proto : Proto) (b : Branch) (p : Network) (followed : Moment) (best : Option (Change Route)) (m' : Moment) (said : List Line) : Type 0 where
+pub record Routes (m : Moment) (proto : Proto) (b : Branch) (p : AddressPrefix) (followed : Moment) (best : Option (Change Route)) (m' : Moment) (said : List Line) : Type 0 where
   pub is : m' ≡ replanted m (put_branch proto (welded_branch b) m.tree) followed.registry followed.hops followed.exits followed.rib
   pub queued : Queues best m.exits m'.exits
   pub chosen : IsSent (best_of m) (best_of m') p best
@@ -278,10 +278,10 @@ pub record Routes (m : Moment) (proto : Proto) (b : Branch) (p : Network) (follo
   pub heard : IsHeard m said m'
 
 -- the change of `best` that came of it
-abbrev pub fell_best : (m : Moment) (new : Treed) (proto : Proto) (p : Network) (way : List Link) (said : List Line) (m' : Moment) → FallsRoute m new proto p way said m' → Option (Change Route)
+abbrev pub fell_best : (m : Moment) (new : Treed) (proto : Proto) (p : AddressPrefix) (way : List Link) (said : List Line) (m' : Moment) → FallsRoute m new proto p way said m' → Option (Change Route)
 fell_best m new proto p way said m' f = below_best f.sent (int_rows new) (with_tree m new) f.followed f.below f.below_int
 
-pub routes_on : (m : Moment) (me : Speaker) (proto : Proto) (b : Branch) (p : Network) (way : List Link) (said : List Line) (m' : Moment) → Stands m → m.declared.speaker ≡ Some me → length b.tables.deletions ≤ 16
+pub routes_on : (m : Moment) (me : Speaker) (proto : Proto) (b : Branch) (p : AddressPrefix) (way : List Link) (said : List Line) (m' : Moment) → Stands m → m.declared.speaker ≡ Some me → length b.tables.deletions ≤ 16
     → (f : FallsRoute m (put_branch proto b m.tree) proto p way said m') → Routes m proto b p f.followed (fell_best m (put_branch proto b m.tree) proto p way said m' f) m' said
 routes_on m me proto b p way said m' stands since few f = record {
   is = is ∙ ap (λ (y : Treed). replanted m y x.registry x.hops x.exits x.rib) branch;
@@ -355,7 +355,7 @@ routes_on m me proto b p way said m' stands since few f = record {
         (exits_fall m then best p stands stands.exits.rows on.queued chosen refl refl refl on.over)
 
 -- ---- a route that is set, or goes
-pub routed : (m : Moment) (proto : Proto) (p : Network) (new : Option Interior) (said : List Line) (m' : Moment) → Stands m → IsSome m.declared.speaker → FallsRoute m (fed_tree m.tree proto p new) proto p (way_of_route proto m.tree) said m'
+pub routed : (m : Moment) (proto : Proto) (p : AddressPrefix) (new : Option Interior) (said : List Line) (m' : Moment) → Stands m → IsSome m.declared.speaker → FallsRoute m (fed_tree m.tree proto p new) proto p (way_of_route proto m.tree) said m'
     → Keeps (interior_fed (live_state m) proto (live_after (branch_of proto m.tree).tables.live p new)) m m' said
 routed m proto p new said m' stands since f =
     let few : length (fed_branch (branch_of proto m.tree) p new).tables.deletions ≤ 16 = (let same = few_fed (branch_of proto m.tree) p new in let was = stands.interior.few proto in omega (arith, same, was)) in

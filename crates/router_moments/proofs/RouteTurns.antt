@@ -1,5 +1,5 @@
 -- One turn of the stage of a protocol's loss.
-use Rattle.router_moments.proofs.Common.{sym, subst, ◌∙◌, ap, ◌≡◌, ℕ, refl, List, arith, ◌+◌, ◌≤◌, IfOk-weaker, FinMap, Network, prefix_cmp, Speaker, known_in, Journaled, flushed, Adds, with_entries, Entry, Line, Value, Rows, Change, Turn, table_of, swept_one, Proto, Interior, of_new, welded_branch, swept_branch, Branch, welded_tree, int_rows, Treed, branch_of, tree_count, live_state, Moment, with_tree, tree_beyond, Stands, BelowInt, FallsRoute, TakesTurn, IsWork, Done, Taken}
+use Rattle.router_moments.proofs.Common.{sym, subst, ◌∙◌, ap, ◌≡◌, ℕ, refl, List, arith, ◌+◌, ◌≤◌, IfOk-weaker, FinMap, AddressPrefix, prefix_cmp, Speaker, known_in, Journaled, flushed, Adds, with_entries, Entry, Line, Value, Rows, Change, Turn, table_of, swept_one, Proto, Interior, of_new, welded_branch, swept_branch, Branch, welded_tree, int_rows, Treed, branch_of, tree_count, live_state, Moment, with_tree, tree_beyond, Stands, BelowInt, FallsRoute, TakesTurn, IsWork, Done, Taken}
 use Rattle.std.proofs.Common.{length, Option, Some, None, IsSome, is_some, Result, IfOk}
 use Rattle.link_change.specs.declared.turn.Turn.TheVariants.{Quiet, Sent}
 use Rattle.journal_text.specs.declared.link.Task.TheVariants.{Rdel}
@@ -49,7 +49,7 @@ sent_since m v proto n turn change t before j view stands is taken =
 pub route_works : (proto : Proto) (n : ℕ) (m : Moment) (said : List Line) (m' : Moment) → Stands m → IsRouteTurn proto n m said m' → IsWork RdelPhase 1 m m' said
 route_works proto n m said m' stands t = one_turn RdelPhase m m' m' said refl (record { leads = r.leads; live = lives; stands = r.stands; heard = r.heard }) spent known tt
   where
-    p : Network
+    p : AddressPrefix
     p = t.prefix
 
     f : FallsRoute m (swept_tree proto n p m.tree) proto p (way_of_sweep proto n m.tree) said m'
@@ -79,7 +79,7 @@ route_works proto n m said m' stands t = one_turn RdelPhase m m' m' said refl (r
         let same : tree_count m'.tree ≡ tree_count (swept_tree proto n p m.tree) = ap tree_count welded ∙ weld_keeps_rows (swept_tree proto n p m.tree) proto in
         omega (arith, one, same)
 
-    less : (place : Option Network) → tree_beyond m'.tree place ≤ tree_beyond m.tree place
+    less : (place : Option AddressPrefix) → tree_beyond m'.tree place ≤ tree_beyond m.tree place
     less place = subst (λ (x : Treed). tree_beyond x place ≤ tree_beyond m.tree place) (sym welded) (sweep_beyond place proto n p m.tree)
 
     -- what follows asks for no next hop

@@ -1,5 +1,5 @@
 -- Rows from scratch: those of the interior routes, and those that next hops make, at a prefix.
-use Rattle.router_moments.proofs.Common.{sym, ◌∙◌, ap, ◌≡◌, ℕ, refl, List, true, arith, false, ◌+◌, Bool, cond, ◌<◌, suc, zero, list_any, range_with_len, Network, Route, Neighbour, Speaker, rows_by, metric_rows, link_by, route_rows, Value, Rows, table_of, same_some, route_hop, with_metric, metric_of, Resolving, passes, goes_on, Metric, Passed, function_at, Rule, redistributed, has, Protos, row_of_both, Proto, Connected, Static, Ospf, Rip, Interior, org_rows, int_rows, Treed, branch_of, IsTree, own_rows}
+use Rattle.router_moments.proofs.Common.{sym, ◌∙◌, ap, ◌≡◌, ℕ, refl, List, true, arith, false, ◌+◌, Bool, cond, ◌<◌, suc, zero, list_any, range_with_len, AddressPrefix, Route, Neighbour, Speaker, rows_by, metric_rows, link_by, route_rows, Value, Rows, table_of, same_some, route_hop, with_metric, metric_of, Resolving, passes, goes_on, Metric, Passed, function_at, Rule, redistributed, has, Protos, row_of_both, Proto, Connected, Static, Ospf, Rip, Interior, org_rows, int_rows, Treed, branch_of, IsTree, own_rows}
 use Rattle.std.proofs.Common.{[], Option, Some, None, ◌∷◌}
 use Rattle.std.specs.Prelude.{option_map}
 use Rattle.addr4.specs.Prefixes.{block}
@@ -31,13 +31,13 @@ module _ (org_exact : OrgWhereNoneIsLost) (t : Treed) (tree : IsTree t) where
   live_in proto = (branch_of proto t).tables.live
 
   -- no lost table of a protocol has the prefix
-  abbrev pub LacksAt : Network → Proto → Type 0
+  abbrev pub LacksAt : AddressPrefix → Proto → Type 0
   LacksAt q proto = (n : ℕ) → tree_lags t (Rdel proto n) q ≡ false
 
-  pub two_at : (a b : Proto) (q : Network) → LacksAt q a → LacksAt q b → merged interior_distance (org_rows (branch_of a t)) (org_rows (branch_of b t)) q ≡ least_rows live_in (a ∷ b ∷ []) q
+  pub two_at : (a b : Proto) (q : AddressPrefix) → LacksAt q a → LacksAt q b → merged interior_distance (org_rows (branch_of a t)) (org_rows (branch_of b t)) q ≡ least_rows live_in (a ∷ b ∷ []) q
   two_at a b q na nb = (λ i. row_of_both interior_distance (org_exact t tree a q na i) (org_exact t tree b q nb i)) ∙ ap (λ (rows : Rows Interior). rows q) (least_two live_in a b)
 
-  pub int_at : (q : Network) → ((proto : Proto) → LacksAt q proto) → int_rows t q ≡ least_rows live_in (Connected ∷ Static ∷ Ospf ∷ Rip ∷ []) q
+  pub int_at : (q : AddressPrefix) → ((proto : Proto) → LacksAt q proto) → int_rows t q ≡ least_rows live_in (Connected ∷ Static ∷ Ospf ∷ Rip ∷ []) q
   int_at q none =
       (λ i. row_of_both interior_distance (row_of_both interior_distance (org_exact t tree Connected q (none Connected) i) (org_exact t tree Static q (none Static) i))
       (row_of_both interior_distance (org_exact t tree Ospf q (none Ospf) i) (org_exact t tree Rip q (none Rip) i)))
@@ -66,7 +66,7 @@ opt_link None upper = refl
 opt_link (Some s) upper = refl
 
 -- from the row of a link to its value
-pub row_value : {V : Type 0} (v : V → Value) (a b : Option (Rows V)) (p : Network) → row_in a p ≡ row_in b p → row_in (option_map (valued v) a) p ≡ row_in (option_map (valued v) b) p
+pub row_value : {V : Type 0} (v : V → Value) (a b : Option (Rows V)) (p : AddressPrefix) → row_in a p ≡ row_in b p → row_in (option_map (valued v) a) p ≡ row_in (option_map (valued v) b) p
 row_value {V} v a b p same = made a ∙ ap (option_map (option_map v)) same ∙ sym (made b)
   where
     made : (o : Option (Rows V)) → row_in (option_map (valued v) o) p ≡ option_map (option_map v) (row_in o p)
@@ -77,16 +77,16 @@ abbrev pub or_none : {V : Type 0} → Option (Option V) → Option V
 or_none None = None
 or_none (Some row) = row
 
-pub if_any : (o : Option (Rows Route)) (p : Network) → rows_if_any o p ≡ or_none (row_in o p)
+pub if_any : (o : Option (Rows Route)) (p : AddressPrefix) → rows_if_any o p ≡ or_none (row_in o p)
 if_any None p = refl
 if_any (Some rows) p = refl
 
-pub by_resolver_row : (o : Option (Resolving Metric)) (upper : Rows Route) (p : Network) → rows_by o upper p ≡ or_none (row_in (opt_rows o upper) p)
+pub by_resolver_row : (o : Option (Resolving Metric)) (upper : Rows Route) (p : AddressPrefix) → rows_by o upper p ≡ or_none (row_in (opt_rows o upper) p)
 by_resolver_row None upper p = refl
 by_resolver_row (Some s) upper p = refl
 
 -- ---- next hops
-pub by_match : (r : Route) (found : Option (Network × Interior)) → with_metric r (metric_of found) ≡ with_metric_of r (option_map (λ x. x.1) found)
+pub by_match : (r : Route) (found : Option (AddressPrefix × Interior)) → with_metric r (metric_of found) ≡ with_metric_of r (option_map (λ x. x.1) found)
 by_match r None = refl
 by_match r (Some x) = refl
 
@@ -103,12 +103,12 @@ same_hop answers (Some q) r is = by_answer (answers (route_hop q)) is
     by_answer None e = absurd (clash_some r ⊥ e)
     by_answer (Some answer) e = by_metric answer.igp e
 
-pub same_next_hop : (o : Option (Resolving Metric)) (upper : Rows Route) (p : Network) (r : Route) → rows_by o upper p ≡ Some r → option_map route_hop (upper p) ≡ Some (route_hop r)
+pub same_next_hop : (o : Option (Resolving Metric)) (upper : Rows Route) (p : AddressPrefix) (r : Route) → rows_by o upper p ≡ Some r → option_map route_hop (upper p) ≡ Some (route_hop r)
 same_next_hop None upper p r is = absurd (clash_some r ⊥ is)
 same_next_hop (Some s) upper p r is = same_hop (function_at (passes s) p) (upper p) r is
 
 -- this speaker's own routes come from no peer
-pub own_external : (s : Option Speaker) (pass : Passed Protos) (int : Rows Interior) (p : Network) (r : Route) → own_rows s pass int p ≡ Some r → external_row (λ w. true) (Some r) ≡ None
+pub own_external : (s : Option Speaker) (pass : Passed Protos) (int : Rows Interior) (p : AddressPrefix) (r : Route) → own_rows s pass int p ≡ Some r → external_row (λ w. true) (Some r) ≡ None
 own_external None pass int p r is = absurd (clash_some r ⊥ is)
 own_external (Some me) pass int p r is = by_row (int p) is
   where

@@ -1,5 +1,5 @@
 -- Who asked for all routes again is served on by each event, and who asks is served from then on.
-use Rattle.router_moments.proofs.Common.{sym, subst, ◌∙◌, ap, ◌≡◌, ℕ, refl, List, true, false, arith, ◌+◌, Bool, ◌++◌, ◌≤◌, cond, Network, Speaker, Message, Profile, peer_at, DeclaredPeer, Event, Down, Bgp, RouteAdd, RouteDel, Lose, Cover, Settled, Work, As4, Revised, Reflect, Up, Redist, Exited, Line, declared_after, changes_of, Attrs, OutChained, overdue_at, Proto, tree_overdue, ByPeer, IsBlock, BeginsIf, EndsIf, HearsIf, Declares, BySpeaker, Begins, DropsRouteIf, Moment, with_exits, rules_to, all_phases, Stands, journal_lines, FeedsAll, inl, inr, get-empty, nat_cmp, not}
+use Rattle.router_moments.proofs.Common.{sym, subst, ◌∙◌, ap, ◌≡◌, ℕ, refl, List, true, false, arith, ◌+◌, Bool, ◌++◌, ◌≤◌, cond, AddressPrefix, Speaker, Message, Profile, peer_at, DeclaredPeer, Event, Down, Bgp, RouteAdd, RouteDel, Lose, Cover, Settled, Work, As4, Revised, Reflect, Up, Redist, Exited, Line, declared_after, changes_of, Attrs, OutChained, overdue_at, Proto, tree_overdue, ByPeer, IsBlock, BeginsIf, EndsIf, HearsIf, Declares, BySpeaker, Begins, DropsRouteIf, Moment, with_exits, rules_to, all_phases, Stands, journal_lines, FeedsAll, inl, inr, get-empty, nat_cmp, not}
 use Rattle.std.proofs.Common.{[], ◌∷◌, Option, Some, None, append_assoc}
 use Rattle.bgp_wire.specs.declared.message.RouteRefresh.{RouteRefresh}
 use Rattle.bgp_wire.specs.declared.notice.Notice.{Notice}
@@ -20,7 +20,7 @@ use Rattle.router_moments.proofs.SessionLemmas.{number_at, silenced}
 use Rattle.router_moments.proofs.ServedTurns.{serves_then, route_chains, turns_serve, first_serves, just_said, idle_serves}
 
 -- the prefixes of an UPDATE leave the chains
-feeds_chains : (k : ℕ) (cs : List (Network × Option Attrs)) (m : Moment) (said : List Line) (m' : Moment) → FeedsAll k cs m said m' → m'.exits.chains ≡ m.exits.chains
+feeds_chains : (k : ℕ) (cs : List (AddressPrefix × Option Attrs)) (m : Moment) (said : List Line) (m' : Moment) → FeedsAll k cs m said m' → m'.exits.chains ≡ m.exits.chains
 feeds_chains k [] m said m' f = ap (λ (x : Moment). x.exits.chains) f.1
 feeds_chains k (c ∷ cs) m said m' f = feeds_chains k cs f.2 f.1 m' f.4 ∙ queue_chains m.exits f.2.exits f.3.1.decided.best f.3.1.queued
 
@@ -98,7 +98,7 @@ module _ (m m' : Moment) (stands : Stands m) (j s : ℕ) (begun : HasBegun j s m
   declares None k words client said turns is = absurd is
   declares (Some me) k words client said turns is = stays said (ap (λ (x : Moment). x.exits.chains) is.2)
 
-  dropped_if : (has : Bool) (proto : Proto) (p : Network) (said : List Line) (turns : ℕ) → DropsRouteIf has proto p m said turns m' → Serve said
+  dropped_if : (has : Bool) (proto : Proto) (p : AddressPrefix) (said : List Line) (turns : ℕ) → DropsRouteIf has proto p m said turns m' → Serve said
   dropped_if true proto p said turns is = stays said (route_chains m _ proto p _ said m' is.1)
   dropped_if false proto p said turns is = same_moment said is.2
 

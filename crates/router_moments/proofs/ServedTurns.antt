@@ -1,5 +1,5 @@
 -- Who asked for all routes again is served on by each turn of background work.
-use Rattle.router_moments.proofs.Common.{sym, subst, ◌∙◌, ap, ◌≡◌, ℕ, refl, List, ◌++◌, Journaled, Line, Link, Task, LiveState, Network, Proto, int_rows, Treed, RunsFirst, Moment, best_of, with_tree, Stands, Turns, IsTurn, FallsRoute, RunsPhase, RunsAll, TakesTurn, Done, Taken, Phase}
+use Rattle.router_moments.proofs.Common.{sym, subst, ◌∙◌, ap, ◌≡◌, ℕ, refl, List, ◌++◌, Journaled, Line, Link, Task, LiveState, AddressPrefix, Proto, int_rows, Treed, RunsFirst, Moment, best_of, with_tree, Stands, Turns, IsTurn, FallsRoute, RunsPhase, RunsAll, TakesTurn, Done, Taken, Phase}
 use Rattle.std.proofs.Common.{[], ◌∷◌, Option, append_assoc}
 use Rattle.journal_text.specs.declared.link.Task.TheVariants.{Del, Fin, Nh, ReadRib, Out, Rdel, Red, Ext, Ref}
 use Rattle.exit_laws.specs.Served.{ServesOn as ServesExits}
@@ -25,7 +25,7 @@ serves_then a b c xs ys said f g is j s since was =
     subst (IsServedAt j s c) (append_assoc since xs ys ∙ ap (λ (ls : List Line). since ++ ls) (sym is)) (g j s (since ++ xs) (f j s since was))
 
 -- ---- a turn: a line for each task
-pub route_chains : (m : Moment) (new : Treed) (proto : Proto) (p : Network) (way : List Link) (said : List Line) (m' : Moment) → FallsRoute m new proto p way said m' → m'.exits.chains ≡ m.exits.chains
+pub route_chains : (m : Moment) (new : Treed) (proto : Proto) (p : AddressPrefix) (way : List Link) (said : List Line) (m' : Moment) → FallsRoute m new proto p way said m' → m'.exits.chains ≡ m.exits.chains
 route_chains m new proto p way said m' f = ap (λ (x : Moment). x.exits.chains) f.after ∙ below_same f.sent (int_rows new) (with_tree m new) f.followed f.below f.below_int
 
 exits_serve : (task : Task) (m : Moment) (said : List Line) (m' : Moment) → Stands m → IsTurn task m said m' → ServesExits m.exits said m'.exits

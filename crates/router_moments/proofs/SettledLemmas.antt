@@ -1,5 +1,5 @@
 -- Where no task holds up a prefix, and where none has work.
-use Rattle.router_moments.proofs.Common.{sym, ◌∙◌, ap, ◌≡◌, ℕ, refl, List, true, arith, false, Bool, cond, ◌&&◌, ◌||◌, AllByRecursion, list_any, Contains, option_or, Network, Attrs, Route, Chained, Best, Fib, Adv, Task, Rows, Change, table_of, same_some, is_unread, Walked, chain_at, has_turn_in, Rule, Interior, int_rows, first_held, next_hop_at, holds_up_at, is_over, held_in, FirstHeldTells, RowsAtRestAreExact, live_state, Moment, best_of, router_links, all_phases, unread_if, Tells, Stands, AllHaveExits, phase_of, has_work, next_task, phase_tasks, Phase}
+use Rattle.router_moments.proofs.Common.{sym, ◌∙◌, ap, ◌≡◌, ℕ, refl, List, true, arith, false, Bool, cond, ◌&&◌, ◌||◌, AllByRecursion, list_any, Contains, option_or, AddressPrefix, Attrs, Route, Chained, Best, Fib, Adv, Task, Rows, Change, table_of, same_some, is_unread, Walked, chain_at, has_turn_in, Rule, Interior, int_rows, first_held, next_hop_at, holds_up_at, is_over, held_in, FirstHeldTells, RowsAtRestAreExact, live_state, Moment, best_of, router_links, all_phases, unread_if, Tells, Stands, AllHaveExits, phase_of, has_work, next_task, phase_tasks, Phase}
 use Rattle.std.proofs.Common.{◌==◌, [], ◌∷◌, Option, Some, None, is_some}
 use Rattle.std.specs.List.{All, find, flat_map}
 use Rattle.std.specs.FinMap as tables
@@ -28,7 +28,7 @@ use Rattle.router_moments.specs.Laws.{OnlyWorkHoldsUp}
 use Rattle.router_moments.proofs.CountLemmas.{each_phase}
 
 -- ---- a task without work holds up nothing
-none_changed : (u : List (Change Route)) (p : Network) → is_unread u ≡ false → changed_in u p ≡ false
+none_changed : (u : List (Change Route)) (p : AddressPrefix) → is_unread u ≡ false → changed_in u p ≡ false
 none_changed [] p none = refl
 none_changed (x ∷ u) p none = absurd (let clash : true ≡ false = none in cc)
 
@@ -54,7 +54,7 @@ only_work of_tree of_peers of_hops of_exits of_external m tasks.Ext p none = of_
 only_work of_tree of_peers of_hops of_exits of_external m (tasks.Ref k) p none = refl
 
 -- nor does one of a phase where none has work
-pub none_held : OnlyWorkHoldsUp → (r : Phase) (m : Moment) (p : Network) → next_task r m ≡ None → held_in r m p ≡ None
+pub none_held : OnlyWorkHoldsUp → (r : Phase) (m : Moment) (p : AddressPrefix) → next_task r m ≡ None → held_in r m p ≡ None
 none_held only r m p = each (phase_tasks r m)
   where
     each : (ts : List Task) → find (λ t. has_work t m) ts ≡ None → find (λ t. holds_up_at t m p) ts ≡ None
@@ -89,7 +89,7 @@ none_so f ts none = All-from_recursion (λ t. f t ≡ false) ts (each ts none)
         (λ _ some. absurd (cc)) (λ is rest. (is, each xs rest)) none
 
 -- what no task of an idle does, none of a phase does
-none_in : (m : Moment) (p : Network) (rs : List Phase) → find (λ task. holds_up_at task m p) (flat_map (λ r. phase_tasks r m) rs) ≡ None → AllByRecursion (λ r. held_in r m p ≡ None) rs
+none_in : (m : Moment) (p : AddressPrefix) (rs : List Phase) → find (λ task. holds_up_at task m p) (flat_map (λ r. phase_tasks r m) rs) ≡ None → AllByRecursion (λ r. held_in r m p ≡ None) rs
 none_in m p [] none = tt
 none_in m p (r ∷ rs) none =
     let both = neither (held_in r m p) (find (λ task. holds_up_at task m p) (flat_map (λ s. phase_tasks s m) rs))
@@ -149,7 +149,7 @@ no_work m settled tasks.Ext = settled phases.Ext
 no_work m settled (tasks.Ref k) = settled phases.Ref k
 
 -- two links with the same row at each prefix are the same
-rows_everywhere : {V : Type 0} (a b : Option (Rows V)) → ((p : Network) → row_in a p ≡ row_in b p) → a ≡ b
+rows_everywhere : {V : Type 0} (a b : Option (Rows V)) → ((p : AddressPrefix) → row_in a p ≡ row_in b p) → a ≡ b
 rows_everywhere None None same = refl
 rows_everywhere None (Some r) same = absurd (clash_some (r (record { address = 0; length = 0 })) ⊥ (same (record { address = 0; length = 0 })))
 rows_everywhere (Some r) None same = absurd (clash_some (r (record { address = 0; length = 0 })) ⊥ (sym (same (record { address = 0; length = 0 }))))
@@ -159,6 +159,6 @@ pub settled_is_exact : RowsAtRestAreExact → OnlyWorkHoldsUp → (m : Moment) �
 settled_is_exact law only m stands all settled link =
     rows_everywhere (router_links m link) (from_scratch (live_state m) link) (λ p. law m stands all link p (λ task holds. kept task (is_spliced link) p))
   where
-    kept : (task : Task) (b : Bool) (p : Network) → cond b (has_work task m) (holds_up_at task m p) ≡ false
+    kept : (task : Task) (b : Bool) (p : AddressPrefix) → cond b (has_work task m) (holds_up_at task m p) ≡ false
     kept task true p = no_work m settled task
     kept task false p = only m task p (no_work m settled task)

@@ -1,5 +1,5 @@
 -- What a turn spends, of its phase and of an idle from that phase on: where a change of `best` may come, one candidate fewer is left.
-use Rattle.router_moments.proofs.Common.{sym, subst, ◌∙◌, ap, ◌≡◌, ℕ, refl, List, true, arith, false, ◌+◌, Bool, ◌≤◌, ◌<◌, not, ◌≢◌, inr, nat_lt, inl, ◌⊎◌, nat_tests, nat_cmp_total, AllByRecursion, sum_by, Network, Attrs, Route, Speaker, Exited, OutChains, resolver_at, Resolvers, put_resolver, Chained, welded, Entry, Task, Value, sum_replaced, Rows, Candidates, IsNextCandidate, Change, is_stale_at, stale_count, Hop, route_hop, with_metric, metric_of, Resolving, passes, in_force_by, fresh_by, walk_to, Metric, Passed, Walked, chain_at, Chains, put_chain, rows_in, lost_in, Rule, redistributed, Protos, Registry, Interior, int_rows, Treed, tree_count, int_candidates, Queues, Moment, with_exits, with_hops, most_unread, with_redist, counts, beyonds, tree_beyond, fin_sends, most_of, own_sends_by, own_waiting, nh_sends, earlier, phase_of, AddsNoRows, Phase}
+use Rattle.router_moments.proofs.Common.{sym, subst, ◌∙◌, ap, ◌≡◌, ℕ, refl, List, true, arith, false, ◌+◌, Bool, ◌≤◌, ◌<◌, not, ◌≢◌, inr, nat_lt, inl, ◌⊎◌, nat_tests, nat_cmp_total, AllByRecursion, sum_by, AddressPrefix, Attrs, Route, Speaker, Exited, OutChains, resolver_at, Resolvers, put_resolver, Chained, welded, Entry, Task, Value, sum_replaced, Rows, Candidates, IsNextCandidate, Change, is_stale_at, stale_count, Hop, route_hop, with_metric, metric_of, Resolving, passes, in_force_by, fresh_by, walk_to, Metric, Passed, Walked, chain_at, Chains, put_chain, rows_in, lost_in, Rule, redistributed, Protos, Registry, Interior, int_rows, Treed, tree_count, int_candidates, Queues, Moment, with_exits, with_hops, most_unread, with_redist, counts, beyonds, tree_beyond, fin_sends, most_of, own_sends_by, own_waiting, nh_sends, earlier, phase_of, AddsNoRows, Phase}
 use Rattle.std.proofs.Common.{Option, Some, None, is_some}
 use Rattle.std.specs.Option.{option_map}
 use Rattle.link_region.proofs.RegionLemmas.{by_bool}
@@ -61,7 +61,7 @@ left_parted : (a : Chains) → left_in a ≡ fin_sends a + fin_ends a
 left_parted a = sum_parts turns_left fin_sends_of ends_of turns_parted (tables.values a)
 
 -- a walk that is on takes a turn
-stepped_ends : (walk : Option (Walked (List Rule))) (p : Network) → walk_ends (walk_stepped walk p) ≡ walk_ends walk
+stepped_ends : (walk : Option (Walked (List Rule))) (p : AddressPrefix) → walk_ends (walk_stepped walk p) ≡ walk_ends walk
 stepped_ends None p = refl
 stepped_ends (Some w) p = refl
 
@@ -74,7 +74,7 @@ finished_ends in_force None w on = absurd (cc)
 finished_ends in_force (Some v) w on = let same = begun_ends v.waiting in omega (arith, same)
 
 -- where it ends, nothing is sent
-none_sent : {B : Type 0} (next : Option Network) (old new : Rows B) (sent : Option (Change B)) → IsSentAt next old new sent → next ≡ None → sent ≡ None
+none_sent : {B : Type 0} (next : Option AddressPrefix) (old new : Rows B) (sent : Option (Change B)) → IsSentAt next old new sent → next ≡ None → sent ≡ None
 none_sent None old new sent is e = is.0
 none_sent (Some p) old new sent is e = absurd (cc)
 
@@ -84,7 +84,7 @@ pub chain_ends : (task : Task) (c less : Chained) (sent : Option (Change Route))
 chain_ends (Del k s) c less sent fall t = inl (ap ends_of t.1.after)
 chain_ends (Fin k) c less sent fall t = by_next t.1.walks.next t.1.walks.after (none_sent t.1.walks.next _ _ sent t.1.walks.changes)
   where
-    by_next : (next : Option Network) → less.filter ≡ walked_on next c.filter → (next ≡ None → sent ≡ None) → (ends_of less ≡ ends_of c) ⊎ ((sent ≡ None) × (ends_of less + 1 ≡ ends_of c) × ((k' s : ℕ) → Fin k ≢ Del k' s))
+    by_next : (next : Option AddressPrefix) → less.filter ≡ walked_on next c.filter → (next ≡ None → sent ≡ None) → (ends_of less ≡ ends_of c) ⊎ ((sent ≡ None) × (ends_of less + 1 ≡ ends_of c) × ((k' s : ℕ) → Fin k ≢ Del k' s))
     by_next None is changes =
         let less_is : ends_of less ≡ walk_ends (walked_on None c.filter).walk = ap (λ (f : Passed (List Rule)). walk_ends f.walk) is in
         let over = finished_ends c.filter.in_force c.filter.walk t.1.walks.walk t.1.walks.on in
@@ -192,7 +192,7 @@ peer_spends (Fin n) m m' tree redist near sends =
 peer_spends other m m' tree redist near sends = absurd near
 
 -- ---- the walk of redistribution: each turn goes to a candidate, or ends and sends nothing
-own_fewer : (t : Treed) (s s' : Passed Protos) (w : Walked Protos) (next : Option Network) (own best : Option (Change Route)) → s.walk ≡ Some w → s' ≡ walked_on next s → IsNextCandidate (int_candidates t) w.place next → (next ≡ None → own ≡ None)
+own_fewer : (t : Treed) (s s' : Passed Protos) (w : Walked Protos) (next : Option AddressPrefix) (own best : Option (Change Route)) → s.walk ≡ Some w → s' ≡ walked_on next s → IsNextCandidate (int_candidates t) w.place next → (next ≡ None → own ≡ None)
     → (own ≡ None → best ≡ None) → own_sends_by t s'.walk + sent_count best ≤ own_sends_by t s.walk
 own_fewer t s s' w None own best on after least ended quiet =
     let was : own_sends_by t s.walk ≡ own_sends_by t (Some w) = ap (own_sends_by t) on in
@@ -228,7 +228,7 @@ abbrev pub need_ends : Bool → ℕ
 need_ends true = 1
 need_ends false = 0
 
-abbrev pub place_ends : Option (Option Network) → ℕ
+abbrev pub place_ends : Option (Option AddressPrefix) → ℕ
 place_ends None = 0
 place_ends (Some place) = 1
 
@@ -239,8 +239,8 @@ few_needed : (b : Bool) → need_ends b ≤ 1
 few_needed true = omega arith
 few_needed false = omega arith
 
-module _ (beyond : Option Network → ℕ) where
-  place_parted : (o : Option (Option Network)) → hop_walk_turns beyond o ≡ place_candidates beyond o + place_ends o
+module _ (beyond : Option AddressPrefix → ℕ) where
+  place_parted : (o : Option (Option AddressPrefix)) → hop_walk_turns beyond o ≡ place_candidates beyond o + place_ends o
   place_parted None = omega arith
   place_parted (Some place) = omega arith
 
@@ -268,11 +268,11 @@ as_many_stale : (old new : Hops Metric) → IsMapped settled old new → stale_c
 as_many_stale old new mapped = same_count is_stale_at old new refl (λ a. ap (λ o. is_stale_at o) (mapped a) ∙ settled_stale (tables.get old a))
 
 -- a walk that is on, seen in the answers
-on_at : (fresh : Answers Metric) (walk : Option (Option Network)) (w : Walked (Answers Metric)) → walk_to fresh walk ≡ Some w → (place : Option Network) × (walk ≡ Some place) × (w.waiting ≡ None)
+on_at : (fresh : Answers Metric) (walk : Option (Option AddressPrefix)) (w : Walked (Answers Metric)) → walk_to fresh walk ≡ Some w → (place : Option AddressPrefix) × (walk ≡ Some place) × (w.waiting ≡ None)
 on_at fresh None w on = absurd (cc)
 on_at fresh (Some place) w on = let same : record { next = fresh; place = place; waiting = None } ≡ w = cc in (place, refl, ap (λ (x : Walked (Answers Metric)). x.waiting) (sym same))
 
-off_at : (fresh : Answers Metric) (walk : Option (Option Network)) → walk_to fresh walk ≡ None → walk ≡ None
+off_at : (fresh : Answers Metric) (walk : Option (Option AddressPrefix)) → walk_to fresh walk ≡ None → walk ≡ None
 off_at fresh None off = refl
 off_at fresh (Some place) off = absurd (cc)
 
@@ -295,7 +295,7 @@ asked_sends b old new a off still client least =
     let same : b new.client None ≡ b old.client None = ap (λ (k : ℕ). b k None) client in
     omega (arith, was, all, is, most, same)
   where
-    at_most : (beyond : Option Network → ℕ) (needed : Bool) → next_candidates beyond needed ≤ beyond None
+    at_most : (beyond : Option AddressPrefix → ℕ) (needed : Bool) → next_candidates beyond needed ≤ beyond None
     at_most beyond true = omega arith
     at_most beyond false = omega arith
 
@@ -308,13 +308,13 @@ module _ (candidates : Candidates) (upper : Rows Route) where
   step_ends : (old new : Resolving Metric) (sent : Option (Change Route)) → Steps route_hop with_metric candidates upper old new sent → (hop_ends old ≤ hop_ends new) ⊎ ((sent ≡ None) × (hop_ends old ≤ hop_ends new + 1))
   step_ends old new sent s = by_next s.walks.next s.walks.after (none_sent s.walks.next _ _ sent s.walks.changes)
     where
-      was : (place : Option Network) × (old.walk ≡ Some place) × (s.walks.walk.waiting ≡ None)
+      was : (place : Option AddressPrefix) × (old.walk ≡ Some place) × (s.walks.walk.waiting ≡ None)
       was = on_at (fresh_by old.known) old.walk s.walks.walk s.walks.on
 
       old_ends : hop_ends old ≡ 1 + stale_count old.known + need_ends (nat_lt 0 (stale_count old.known))
       old_ends = ap (λ w. place_ends w + stale_count old.known + need_ends (is_needed (is_some w) (stale_count old.known) (differing_count same_metric old.known))) was.1
 
-      by_next : (next : Option Network) → passes new ≡ walked_on next (passes old) → (next ≡ None → sent ≡ None) → (hop_ends old ≤ hop_ends new) ⊎ ((sent ≡ None) × (hop_ends old ≤ hop_ends new + 1))
+      by_next : (next : Option AddressPrefix) → passes new ≡ walked_on next (passes old) → (next ≡ None → sent ≡ None) → (hop_ends old ≤ hop_ends new) ⊎ ((sent ≡ None) × (hop_ends old ≤ hop_ends new + 1))
       by_next None is changes =
           let over : walk_to (fresh_by new.known) new.walk ≡ None = ap (λ (x : Passed (Answers Metric)). x.walk) is ∙ ap (λ (o : Option (Walked (Answers Metric))). (after_walk (in_force_by old.known) o).walk) s.walks.on ∙ ap walk_of_waiting was.2 in
           let off = off_at (fresh_by new.known) new.walk over in
@@ -348,7 +348,7 @@ module _ (candidates : Candidates) (upper : Rows Route) where
       few : hop_ends old ≤ 1
       few = off_ends old begins.off ((none_stale old.known).0 begins.none_stale)
 
-      by_next : (next : Option Network) → passes new ≡ walked_on next (passes (begun old)) → (next ≡ None → sent ≡ None) → TurnEnds old new sent
+      by_next : (next : Option AddressPrefix) → passes new ≡ walked_on next (passes (begun old)) → (next ≡ None → sent ≡ None) → TurnEnds old new sent
       by_next None is changes = let f = few in inr (inl (changes refl, omega (arith, f)))
       by_next (Some p) is changes =
           let on : walk_to (fresh_by new.known) new.walk ≡ walk_stepped (Some begins.steps.walks.walk) p = ap (λ (x : Passed (Answers Metric)). x.walk) is ∙ ap (λ o. walk_stepped o p) begins.steps.walks.on in

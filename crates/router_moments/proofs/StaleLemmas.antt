@@ -1,5 +1,5 @@
 -- Next hops become stale with a change of `int` alone: neither with a change from above, nor in their own turns.
-use Rattle.router_moments.proofs.Common.{sym, subst, ◌∙◌, ap, ◌≡◌, ℕ, refl, List, true, arith, false, ◌+◌, Bool, ◌≤◌, cond, nat_eq, not, inr, inl, nat_cmp_total, nat_cmp-IsAntisymmetric, Network, Route, resolver_at, Resolvers, put_resolver, Entry, Value, sum_replaced, Rows, Candidates, Change, is_stale_at, stale_count, Hop, metric_of, Resolving, Metric, Registry, RibExit, Interior, Moment, Resolves, Phase}
+use Rattle.router_moments.proofs.Common.{sym, subst, ◌∙◌, ap, ◌≡◌, ℕ, refl, List, true, arith, false, ◌+◌, Bool, ◌≤◌, cond, nat_eq, not, inr, inl, nat_cmp_total, nat_cmp-IsAntisymmetric, AddressPrefix, Route, resolver_at, Resolvers, put_resolver, Entry, Value, sum_replaced, Rows, Candidates, Change, is_stale_at, stale_count, Hop, metric_of, Resolving, Metric, Registry, RibExit, Interior, Moment, Resolves, Phase}
 use Rattle.std.proofs.Common.{Option, Some, None, is_some}
 use Rattle.std.specs.Option.{option_map}
 use Rattle.std.specs.FinMap as tables
@@ -26,14 +26,14 @@ module _ {A : Type 0} where
   as_before old new same a stale = subst (λ (h : Hops A). is_stale_at (tables.get h a) ≡ true) same stale
 
   -- a change from above: what it makes known isn't stale
-  pub kept_or_learnt : (kept : Option (Network × Interior) → A) (r : Registry Interior) (old new : Hops A) → KeepsOrLearns (told_of kept r) old new → StaleBefore old new
+  pub kept_or_learnt : (kept : Option (AddressPrefix × Interior) → A) (r : Registry Interior) (old new : Hops A) → KeepsOrLearns (told_of kept r) old new → StaleBefore old new
   kept_or_learnt kept r old new keeps a stale = by_hop (tables.get new a) refl stale
     where
       by_hop : (o : Option (Hop A)) → tables.get new a ≡ o → is_stale_at o ≡ true → is_stale_at (tables.get old a) ≡ true
       by_hop None at was = absurd (let clash : false ≡ true = was in cc)
       by_hop (Some h) at was = elim (keeps a h at) as (λ _. is_stale_at (tables.get old a) ≡ true) [
         | inl same ↦ ap (λ (o : Option (Hop A)). is_stale_at o) same ∙ was
-        | inr learnt ↦ absurd (let clash : false ≡ true = sym (ap (λ (c : Option Network). not (is_some c)) learnt.is_told.came) ∙ was in cc)
+        | inr learnt ↦ absurd (let clash : false ≡ true = sym (ap (λ (c : Option AddressPrefix). not (is_some c)) learnt.is_told.came) ∙ was in cc)
       ]
 
   -- the step of a walk, and its end
@@ -41,18 +41,18 @@ module _ {A : Type 0} where
   settled_stale None = refl
   settled_stale (Some h) = refl
 
-  stepped : (walk : Option (Option Network)) (old new : Hops A) → KnownAfter walk old new → StaleBefore old new
+  stepped : (walk : Option (Option AddressPrefix)) (old new : Hops A) → KnownAfter walk old new → StaleBefore old new
   stepped None old new mapped a stale = sym (settled_stale (tables.get old a)) ∙ sym (ap (λ (o : Option (Hop A)). is_stale_at o) (mapped a)) ∙ stale
   stepped (Some place) old new same a stale = as_before old new same a stale
 
   -- one that is asked for again isn't stale then
-  renewed : (kept : Option (Network × Interior) → A) (r : Registry Interior) (old new : Hops A) (b : ℕ) → Renews kept r old new b → StaleBefore old new
+  renewed : (kept : Option (AddressPrefix × Interior) → A) (r : Registry Interior) (old new : Hops A) (b : ℕ) → Renews kept r old new b → StaleBefore old new
   renewed kept r old new b is a stale = elim (cases_eq a b) as (λ _. is_stale_at (tables.get old a) ≡ true) [
     | inl same ↦ absurd (let clash : false ≡ true = sym (ap (λ (o : Option (Hop A)). is_stale_at o) (ap (tables.get new) same ∙ ap (λ (h : Hops A). tables.get h b) is.1 ∙ get_at nat_cmp_total old b _)) ∙ stale in cc)
     | inr apart ↦ ap (λ (o : Option (Hop A)). is_stale_at o) (sym (ap (λ (h : Hops A). tables.get h a) is.1 ∙ get_apart nat_cmp_total nat_cmp-IsAntisymmetric old b _ a apart)) ∙ stale
   ]
 
-  pub turned : {R L : Type 0} (hop : R → ℕ) (made : R → A → Option L) (candidates : Candidates) (upper : Rows R) (kept : Option (Network × Interior) → A) (was is : Registry Interior) (old new : Resolving A) (sent : Option (Change L))
+  pub turned : {R L : Type 0} (hop : R → ℕ) (made : R → A → Option L) (candidates : Candidates) (upper : Rows R) (kept : Option (AddressPrefix × Interior) → A) (was is : Registry Interior) (old new : Resolving A) (sent : Option (Change L))
       → Turned hop made candidates upper kept was is old new sent → StaleBefore old.known new.known
   turned hop made candidates upper kept was is old new sent (inl goes) = stepped new.walk old.known new.known goes.steps.known
   turned hop made candidates upper kept was is old new sent (inr (inl asks)) = renewed kept was old.known new.known asks.next_hop asks.renews

@@ -1,5 +1,5 @@
 -- What stands after a step of one chain, and what is live then.
-use Rattle.router_moments.proofs.Common.{sym, subst, ◌∙◌, ap, ◌≡◌, ℕ, refl, List, true, arith, false, ◌≤◌, cond, nat_eq, ◌≢◌, FinMap, Network, prefix_cmp, Speaker, peer_at, Declaration, DeclaredPeer, Exited, resolver_at, Resolvers, Chained, with_row, LiveState, present, put_each, chain_at, Chains, put_chain, routes_of, rules_of, Rule, Registry, AgreesWith, Interior, Treed, IsTree, live_state, Moment, with_exits, with_chains, with_tree, with_hops, Stands, StandsAt, PeerStands, ExitsStand, HopsStand, MaySettle}
+use Rattle.router_moments.proofs.Common.{sym, subst, ◌∙◌, ap, ◌≡◌, ℕ, refl, List, true, arith, false, ◌≤◌, cond, nat_eq, ◌≢◌, FinMap, AddressPrefix, prefix_cmp, Speaker, peer_at, Declaration, DeclaredPeer, Exited, resolver_at, Resolvers, Chained, with_row, LiveState, present, put_each, chain_at, Chains, put_chain, routes_of, rules_of, Rule, Registry, AgreesWith, Interior, Treed, IsTree, live_state, Moment, with_exits, with_chains, with_tree, with_hops, Stands, StandsAt, PeerStands, ExitsStand, HopsStand, MaySettle}
 use Rattle.std.proofs.Common.{Option, Some, None, length}
 use Rattle.std.specs.Prelude.{IsSome, is_some}
 use Rattle.std.specs.FinMap as tables
@@ -23,7 +23,7 @@ remade m d cs = record m { declared = d; chains = cs }
 
 -- ---- the register
 -- its rows with one that was put
-pub put_is_with : (rows : FinMap prefix_cmp Interior) (p : Network) (row : Option Interior) → tables.get (put_row rows p row) ≡ with_row (tables.get rows) p row
+pub put_is_with : (rows : FinMap prefix_cmp Interior) (p : AddressPrefix) (row : Option Interior) → tables.get (put_row rows p row) ≡ with_row (tables.get rows) p row
 put_is_with rows p None = rows_removed rows p
 put_is_with rows p (Some row) = rows_inserted rows p row
 

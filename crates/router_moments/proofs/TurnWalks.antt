@@ -1,5 +1,5 @@
 -- What each turn keeps, many turns keep: of a task, of a phase, and of all phases. So the same peers have exits.
-use Rattle.router_moments.proofs.Common.{sym, subst, ◌∙◌, ap, ◌≡◌, ℕ, List, ◌++◌, suc, zero, true, Network, Attrs, Route, Queued, OutChained, peer_at, Declaration, Exited, OutChains, with_exit, Entry, Line, Link, Task, Value, Rows, Change, Proto, Interior, int_rows, Treed, RunsFirst, Moment, with_tree, Stands, AllHaveExits, Turns, IsTurn, BelowInt, FallsRoute, RunsPhase, Runs, IsPeerTurn, RunsAll, FeedsAll, HaveSameExits, Phase}
+use Rattle.router_moments.proofs.Common.{sym, subst, ◌∙◌, ap, ◌≡◌, ℕ, List, ◌++◌, suc, zero, true, AddressPrefix, Attrs, Route, Queued, OutChained, peer_at, Declaration, Exited, OutChains, with_exit, Entry, Line, Link, Task, Value, Rows, Change, Proto, Interior, int_rows, Treed, RunsFirst, Moment, with_tree, Stands, AllHaveExits, Turns, IsTurn, BelowInt, FallsRoute, RunsPhase, Runs, IsPeerTurn, RunsAll, FeedsAll, HaveSameExits, Phase}
 use Rattle.std.proofs.Common.{[], ◌∷◌, Option, Some, None, is_some}
 use Rattle.std.specs.FinMap as tables
 use Rattle.journal_text.specs.declared.link.Task.TheVariants.{Del, Fin, Nh, ReadRib, Out, Rdel, Red, Ext, Ref}
@@ -54,7 +54,7 @@ pub below_same : (sent : Option (Change Interior)) (int : Rows Interior) (m m' :
 below_same None int m m' entries b = ap (λ (x : Moment). x.exits.chains) b.0
 below_same (Some change) int m m' entries b = queue_chains m.exits m'.exits b.0.own.decided.best b.0.own.queued
 
-pub route_same : (m : Moment) (new : Treed) (proto : Proto) (p : Network) (way : List Link) (said : List Line) (m' : Moment) → FallsRoute m new proto p way said m' → HaveSameExits m m'
+pub route_same : (m : Moment) (new : Treed) (proto : Proto) (p : AddressPrefix) (way : List Link) (said : List Line) (m' : Moment) → FallsRoute m new proto p way said m' → HaveSameExits m m'
 route_same m new proto p way said m' f = chains_same m m' (ap (λ (x : Moment). x.exits.chains) f.after ∙ below_same f.sent (int_rows new) (with_tree m new) f.followed f.below f.below_int)
 
 -- where the chain of one that has an exit became another
@@ -88,6 +88,6 @@ first_same = first_along SameAlong same_nowhere same_then turn_same
 pub all_have_on : (m m' : Moment) → m'.declared ≡ m.declared → HaveSameExits m m' → AllHaveExits m → AllHaveExits m'
 all_have_on m m' declared same all k p at up = same k ∙ all k p (ap (λ (d : Declaration). peer_at k d.peers) (sym declared) ∙ at) up
 
-pub feeds_same : (k : ℕ) (cs : List (Network × Option Attrs)) (m : Moment) (said : List Line) (m' : Moment) → FeedsAll k cs m said m' → HaveSameExits m m'
+pub feeds_same : (k : ℕ) (cs : List (AddressPrefix × Option Attrs)) (m : Moment) (said : List Line) (m' : Moment) → FeedsAll k cs m said m' → HaveSameExits m m'
 feeds_same k [] m said m' f = same_nowhere m m' said f.0 f.1
 feeds_same k (c ∷ cs) m said m' f = same_then m f.2 m' f.0 f.1 said (chains_same m f.2 (queue_chains m.exits f.2.exits f.3.1.decided.best f.3.1.queued)) (feeds_same k cs f.2 f.1 m' f.4) f.5

@@ -1,6 +1,6 @@
 -- What the decision makes of the rows of `red` and of all `res.K` (RFC 4271, sections 9.1.2 and 9.4).
 use Rattle.std.specs.Prelude.{◌≡◌, ℕ, zero, suc, nat_lt, cond, false, List, Option, Some, None}
-use Rattle.addr4.specs.Prefixes.{Network}
+use Rattle.addr4.specs.Prefixes.{AddressPrefix}
 use Rattle.bgp_attr.specs.declared.route.Route.{Route}
 use Rattle.bgp_attr.specs.declared.speaker.Speaker.{Speaker}
 use Rattle.link_change.specs.Rows.{Rows, Candidates, no_rows}
@@ -68,7 +68,7 @@ best_entries = sent_entries route_value Best
 pub record DecidesOn (k : ℕ) (sent : Option (Change Route)) (now : PeerRows) (entries : List (Entry Value)) : Type 0 where
   pub best : Option (Change Route)
   pub lines : entries ≡ best_entries best
-  pub decides : (before : PeerRows) (p : Network) → ComesOn k p sent before now → IsSent (best_rows before) (best_rows now) p best
+  pub decides : (before : PeerRows) (p : AddressPrefix) → ComesOn k p sent before now → IsSent (best_rows before) (best_rows now) p best
 
 -- What follows a change that came on `best`, if one did: it joins what each reader of the queue hasn't taken. No link changes by that.
 abbrev pub Queues : Option (Change Route) → Exited → Exited → Type 0

@@ -2,7 +2,7 @@
 use Rattle.std.specs.Prelude.{◌≡◌, ℕ, ◌+◌, ◌≤◌, ◌<◌, ◌^◌, ◌⊎◌, Bool, true, false, List, [], ◌∷◌, ◌++◌, map, length, Contains, cond, Option, Some, None, IsSome, is_some}
 use Rattle.std.specs.List.{AllByRecursion}
 use Rattle.std.specs.List.Sorted.{IsStrictlySortedBy}
-use Rattle.addr4.specs.Prefixes.{Network, prefix_cmp}
+use Rattle.addr4.specs.Prefixes.{AddressPrefix, prefix_cmp}
 use Rattle.bgp_attr.specs.declared.speaker.Speaker.{Speaker}
 use Rattle.link_change.specs.Rows.{Rows}
 use Rattle.bgp_wire.specs.declared.message.Message.{Message}
@@ -138,11 +138,11 @@ pub record Loses (k s : ℕ) (m : Moment) (said : List Line) (m' : Moment) : Typ
   pub after : m' ≡ ended between k
 
 -- A route of a protocol is the one of the event from now on; an equal one sends nothing.
-abbrev pub AddsRoute : Network → Interior → Moment → List Line → Moment → Type 0
+abbrev pub AddsRoute : AddressPrefix → Interior → Moment → List Line → Moment → Type 0
 AddsRoute p row m said m' = FallsRoute m (fed_tree m.tree row.proto p (Some row)) row.proto p (way_of_route row.proto m.tree) said m'
 
 -- by whether the protocol has a live route at the prefix
-abbrev pub DropsRouteIf : Bool → Proto → Network → Moment → List Line → ℕ → Moment → Type 0
+abbrev pub DropsRouteIf : Bool → Proto → AddressPrefix → Moment → List Line → ℕ → Moment → Type 0
 DropsRouteIf false proto p m said turns m' = Just (lines.Ignored ∷ []) m said turns m'
 DropsRouteIf true proto p m said turns m' =
     (turns ≡ 0) × FallsRoute m (fed_tree m.tree proto p None) proto p (way_of_route proto m.tree) said m'
@@ -158,13 +158,13 @@ pub record LosesProtocol (proto : Proto) (m : Moment) (said : List Line) (m' : M
 
 -- the longest interior route that holds the address, and the largest subnet with that answer
 pub record CoversAddress (addr : ℕ) (m : Moment) (said : List Line) : Type 0 where
-  pub found : Option (Network × Interior)
-  pub subnet : Network
+  pub found : Option (AddressPrefix × Interior)
+  pub subnet : AddressPrefix
   pub cover : IsCover width (int_rows m.tree) addr found subnet
   pub line : said ≡ lines.Cover addr (matched found) subnet ∷ []
 
 -- whether a prefix is settled
-pub record TellsSettled (p : Network) (m : Moment) (said : List Line) : Type 0 where
+pub record TellsSettled (p : AddressPrefix) (m : Moment) (said : List Line) : Type 0 where
   pub answer : Option Task
   pub tells : Tells m p answer
   pub line : said ≡ lines.Settled p answer ∷ []
@@ -210,20 +210,20 @@ HearsIf false m k p octets said turns m' = Just (lines.Ignored ∷ []) m said tu
 HearsIf true m k p octets said turns m' = (turns ≡ 0) × ((message : Message) × Says m.declared.profile p octets message × Hears k p m message said m')
 
 -- the answer of a lookup
-abbrev pub answer_lines : Link → Network → Option (Rows Value) → List Line
+abbrev pub answer_lines : Link → AddressPrefix → Option (Rows Value) → List Line
 answer_lines link p None = lines.Absent ∷ []
 answer_lines link p (Some rows) = lines.Journal (entries.Asked link p (rows p)) ∷ []
 
 -- all rows of a link, by prefix
-pub record AreRows (rows : Rows Value) (listed : List (Network × Value)) : Type 0 where
+pub record AreRows (rows : Rows Value) (listed : List (AddressPrefix × Value)) : Type 0 where
   pub order : IsStrictlySortedBy prefix_cmp (map (λ r. r.0) listed)
   pub each : AllByRecursion (λ r. rows r.0 ≡ Some r.1) listed
-  pub all : (q : Network) → IsSome (rows q) → Contains (map (λ r. r.0) listed) q
+  pub all : (q : AddressPrefix) → IsSome (rows q) → Contains (map (λ r. r.0) listed) q
 
 abbrev pub Shows : Link → Option (Rows Value) → List Line → Type 0
 Shows link None said = said ≡ lines.Absent ∷ []
 Shows link (Some rows) said =
-    (listed : List (Network × Value)) × AreRows rows listed
+    (listed : List (AddressPrefix × Value)) × AreRows rows listed
     × (said ≡ map (λ r. lines.Row link r.0 r.1) listed ++ lines.Rows link (length listed) ∷ []) × (length listed < 2 ^ 128)
 
 -- so many turns, at most n, and fewer only where the task then has no work

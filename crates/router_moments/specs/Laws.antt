@@ -1,6 +1,6 @@
 -- Laws of moments, for the crates above.
 use Rattle.std.specs.Prelude.{◌≡◌, ◌+◌, ◌≤◌, false, [], None}
-use Rattle.addr4.specs.Prefixes.{Network}
+use Rattle.addr4.specs.Prefixes.{AddressPrefix}
 use Rattle.journal_text.specs.declared.link.Task.{Task}
 use Rattle.peer_side.specs.Peers.{rows_in}
 use Rattle.hop_side.specs.Resolvers.{known_in}
@@ -24,11 +24,11 @@ RowsAtRestAreExact = (m : Moment) → Stands m → AllHaveExits m → IsExactAtR
 
 -- A task without work holds up nothing.
 abbrev pub OnlyWorkHoldsUp : Type 0
-OnlyWorkHoldsUp = (m : Moment) (task : Task) (p : Network) → has_work task m ≡ false → holds_up_at task m p ≡ false
+OnlyWorkHoldsUp = (m : Moment) (task : Task) (p : AddressPrefix) → has_work task m ≡ false → holds_up_at task m p ≡ false
 
 -- The first task that holds up a prefix tells whether it is settled.
 abbrev pub FirstHeldTells : Type 0
-FirstHeldTells = (m : Moment) → Stands m → AllHaveExits m → (p : Network) → Tells m p (first_held m p)
+FirstHeldTells = (m : Moment) → Stands m → AllHaveExits m → (p : AddressPrefix) → Tells m p (first_held m p)
 
 -- Each known next hop is named by a row. So peers' next hops are no more than the peers' rows; and those of external routes, where the
 -- forwarding side has read all, are no more than the rows of peers and of protocols.

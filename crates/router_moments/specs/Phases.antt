@@ -13,7 +13,7 @@ use Rattle.nexthop_resolver.specs.declared.rows.Metric.{Metric}
 use Rattle.nexthop_resolver.specs.Resolving.{Resolving}
 use Rattle.nexthop_resolver.specs.Left.{differing_count, is_needed}
 use Rattle.std.specs.FinMap as tables
-use Rattle.addr4.specs.Prefixes.{Network}
+use Rattle.addr4.specs.Prefixes.{AddressPrefix}
 use Rattle.hop_side.specs.Resolvers.{Resolvers, Beyonds, same_metric, left_in as hops_left_in}
 use Rattle.in_chain.specs.Chains.{Chained, filt_beyond}
 use Rattle.peer_side.specs.Peers.{Chains, chain_at, rows_in, lost_in, left_in}
@@ -33,7 +33,7 @@ abbrev pub tree_lost : Treed → ℕ
 tree_lost t = lost_count t.connected.tables.deletions + (lost_count t.statics.tables.deletions + (lost_count t.ospf.tables.deletions + lost_count t.rip.tables.deletions))
 
 -- how many rows of `in.K` lie beyond a place
-abbrev pub beyond_by : Option Chained → Option Network → ℕ
+abbrev pub beyond_by : Option Chained → Option AddressPrefix → ℕ
 beyond_by None place = 0
 beyond_by (Some c) place = filt_beyond c place
 
@@ -56,15 +56,15 @@ unread_if queued None = []
 unread_if queued (Some reader) = unread_by queued reader
 
 -- how many rows of the four `org.PROTO` lie beyond a place: so many candidates of `int` there are at most
-abbrev pub tree_beyond : Treed → Option Network → ℕ
+abbrev pub tree_beyond : Treed → Option AddressPrefix → ℕ
 tree_beyond t place = tables_beyond place t.connected.tables + (tables_beyond place t.statics.tables + (tables_beyond place t.ospf.tables + tables_beyond place t.rip.tables))
 
 -- how many rows of `ebgp` and `ibgp` lie beyond a place: so many candidates of `ext` there are at most
-abbrev pub external_beyond : RibExit → Option Network → ℕ
+abbrev pub external_beyond : RibExit → Option AddressPrefix → ℕ
 external_beyond x place = table_beyond place x.splitter.ebgp + table_beyond place x.splitter.ibgp
 
 -- how many candidates of `best` lie beyond a place, at most: those of each peer, and those of `int`
-abbrev pub best_beyond : Chains → Treed → Option Network → ℕ
+abbrev pub best_beyond : Chains → Treed → Option AddressPrefix → ℕ
 best_beyond a t place = sum_by (λ c. filt_beyond c place) (tables.values a) + tree_beyond t place
 
 -- how many turns a phase takes, if nothing else happens
@@ -111,11 +111,11 @@ fin_sends_of c = walk_candidates c.incoming.tables c.filter.walk
 abbrev pub fin_sends : Chains → ℕ
 fin_sends a = sum_by fin_sends_of (tables.values a)
 
-abbrev pub place_candidates : (Option Network → ℕ) → Option (Option Network) → ℕ
+abbrev pub place_candidates : (Option AddressPrefix → ℕ) → Option (Option AddressPrefix) → ℕ
 place_candidates beyond None = 0
 place_candidates beyond (Some place) = beyond place
 
-abbrev pub next_candidates : (Option Network → ℕ) → Bool → ℕ
+abbrev pub next_candidates : (Option AddressPrefix → ℕ) → Bool → ℕ
 next_candidates beyond true = beyond None
 next_candidates beyond false = 0
 

@@ -1,7 +1,7 @@
 -- Which rows of a moment are what the live state alone asks for (`from_scratch` of `live_state`): all, where no task has work, and at any
 -- moment, at each prefix, those of each link that no work holds up there.
 use Rattle.std.specs.Prelude.{◌≡◌, ℕ, Bool, true, false, if◌then◌else◌, Option, option_map, IfNone, IfSome}
-use Rattle.addr4.specs.Prefixes.{Network}
+use Rattle.addr4.specs.Prefixes.{AddressPrefix}
 use Rattle.link_change.specs.Rows.{Rows}
 use Rattle.rib_route.specs.declared.Proto.TheVariants.{Connected, Static, Ospf, Rip}
 use Rattle.journal_text.specs.declared.link.Link.{Link}
@@ -24,11 +24,11 @@ abbrev pub IsExact : Moment → Type 0
 IsExact m = (link : Link) → IsExactAt m link
 
 -- the row of a link at a prefix, if the link is live
-abbrev pub row_in : {V : Type 0} → Option (Rows V) → Network → Option (Option V)
+abbrev pub row_in : {V : Type 0} → Option (Rows V) → AddressPrefix → Option (Option V)
 row_in rows p = option_map (λ r. r p) rows
 
 -- at a prefix a link has exactly the row that is decided from scratch, or isn't live where none is
-abbrev pub IsExactIn : Moment → Link → Network → Type 0
+abbrev pub IsExactIn : Moment → Link → AddressPrefix → Type 0
 IsExactIn m link p = row_in (router_links m link) p ≡ row_in (from_scratch (live_state m) link) p
 
 -- ---- which links the work of a task holds up
@@ -88,27 +88,27 @@ is_spliced (Lost proto n) = true
 is_spliced other = false
 
 -- whether a task keeps a link, which it holds up, from its rows at a prefix: one into a deletion stage is kept by all work of the stage
-abbrev pub keeps_up : Link → Task → Moment → Network → Bool
+abbrev pub keeps_up : Link → Task → Moment → AddressPrefix → Bool
 keeps_up link task m p = if is_spliced link then has_work task m else holds_up_at task m p
 
 -- no work holds the link up at the prefix
-abbrev pub IsAtRestIn : Moment → Link → Network → Type 0
+abbrev pub IsAtRestIn : Moment → Link → AddressPrefix → Type 0
 IsAtRestIn m link p = (task : Task) → HoldsUp task link → keeps_up link task m p ≡ false
 
 -- at each prefix each link that no work holds up there has the row that the live state alone asks for
 abbrev pub IsExactAtRest : Moment → Type 0
-IsExactAtRest m = (link : Link) (p : Network) → IsAtRestIn m link p → IsExactIn m link p
+IsExactAtRest m = (link : Link) (p : AddressPrefix) → IsAtRestIn m link p → IsExactIn m link p
 
 -- ---- settled prefixes
 -- the rows at a prefix of the best routes, of the forwarding table, and of what each peer was sent are those from scratch
-pub record IsSettledAt (m : Moment) (p : Network) : Type 0 where
+pub record IsSettledAt (m : Moment) (p : AddressPrefix) : Type 0 where
   pub best : IsExactIn m Best p
   pub fib : IsExactIn m Fib p
   pub sent : (j s : ℕ) → IsExactIn m (Adv j s) p
 
 -- What the answer tells, whether a prefix is settled: the first task that holds it up, which has work; where there is none, no task at all
 -- holds it up, and its rows are those from scratch.
-pub record Tells (m : Moment) (p : Network) (answer : Option Task) : Type 0 where
+pub record Tells (m : Moment) (p : AddressPrefix) (answer : Option Task) : Type 0 where
   pub first : answer ≡ first_held m p
   pub works : IfSome answer (λ task. has_work task m ≡ true)
   pub none : IfNone answer ((task : Task) → holds_up_at task m p ≡ false)

@@ -1,7 +1,7 @@
 -- Turns of background work, and the falls of messages (NSDI 2005, sections 5.1 and 5.1.2).
 use Rattle.std.specs.Prelude.{◌≡◌, ℕ, zero, suc, ◌+◌, ◌*◌, Bool, false, List, [], ◌∷◌, ◌++◌, map, Option, Some, None, is_some}
 use Rattle.std.specs.List.{find}
-use Rattle.addr4.specs.Prefixes.{Network}
+use Rattle.addr4.specs.Prefixes.{AddressPrefix}
 use Rattle.bgp_attr.specs.declared.attrs.Attrs.{Attrs}
 use Rattle.bgp_attr.specs.declared.route.Route.{Route}
 use Rattle.link_change.specs.Changes.{IsSent}
@@ -80,7 +80,7 @@ pub record ResolvesOn (k : ℕ) (sent below : Option (Change Route)) (r r' : Reg
   pub lines : entries ≡ res_entries k below
   pub resolves : Resolves k sent below r r' h h' entries
   pub agreed : KeepsAgreed k r r' h h'
-  pub goes : (uppers now : PeerRows) (p : Network) → AllCounted uppers h → ComesOn k p sent uppers now → GoesOn k p below h h' entries uppers now
+  pub goes : (uppers now : PeerRows) (p : AddressPrefix) → AllCounted uppers h → ComesOn k p sent uppers now → GoesOn k p below h h' entries uppers now
 
 -- A fall in the chain of peer k, of which this is said, what follows the change on `filt.K`, what follows that on `res.K`, and behind
 -- them the weld of the stage that the fall emptied, if any.
@@ -100,11 +100,11 @@ pub record FallsPeer (k : ℕ) (sent : Option (Change Route)) (P : Chains → Li
   pub after : m' ≡ with_exits (with_hops (with_chains m m'.chains) m'.registry m'.hops) m'.exits
 
 -- One prefix of an UPDATE from peer k is announced or withdrawn.
-abbrev pub Feeds : ℕ → Network × Option Attrs → Moment → List Line → Moment → Type 0
+abbrev pub Feeds : ℕ → AddressPrefix × Option Attrs → Moment → List Line → Moment → Type 0
 Feeds k change m said m' = (sent : Option (Change Route)) × FallsPeer k sent (FeedsInward k change.0 change.1 sent m.chains) m said m'
 
 -- one prefix after the other
-abbrev pub FeedsAll : ℕ → List (Network × Option Attrs) → Moment → List Line → Moment → Type 0
+abbrev pub FeedsAll : ℕ → List (AddressPrefix × Option Attrs) → Moment → List Line → Moment → Type 0
 FeedsAll k [] m said m' = (said ≡ []) × (m' ≡ m)
 FeedsAll k (c ∷ cs) m said m' =
     (first rest : List Line) × (between : Moment) × Feeds k c m first between × FeedsAll k cs between rest m' × (said ≡ first ++ rest)
@@ -164,7 +164,7 @@ pub record WeldsRoute (proto : Proto) (t : Treed) : Type 0 where
 
 -- A change of an interior route at a prefix made this of the tree: its messages go down to `int`, then all follows that is below, and
 -- behind that stands the weld of the stage that it emptied, if any.
-pub record FallsRoute (m : Moment) (new : Treed) (proto : Proto) (p : Network) (way : List Link) (said : List Line) (m' : Moment) : Type 0 where
+pub record FallsRoute (m : Moment) (new : Treed) (proto : Proto) (p : AddressPrefix) (way : List Link) (said : List Line) (m' : Moment) : Type 0 where
   pub sent : Option (Change Interior)
   pub entries : List (Entry Value)
   pub falls : FallsTree m.tree new p way sent entries
@@ -194,7 +194,7 @@ IsPeerTurn task m said m' = (sent : Option (Change Route)) × FallsPeer (peer_of
 
 -- One turn of the stage of a protocol's loss: its least row goes.
 pub record IsRouteTurn (proto : Proto) (n : ℕ) (m : Moment) (said : List Line) (m' : Moment) : Type 0 where
-  pub prefix : Network
+  pub prefix : AddressPrefix
   pub row : Interior
   pub table : FinMap prefix_cmp Interior
   pub stands : table_of n (branch_of proto m.tree).tables.deletions ≡ Some table

@@ -1,7 +1,7 @@
 -- What the router's own calls make of chains and moments, with what they keep.
 use Rattle.std.specs.List.{AllByRecursion}
 use Rattle.std.specs.Prelude.{◌≡◌, ℕ, ◌+◌, ◌≤◌, ◌⊎◌, true, false, is_some, List, ◌++◌, Option, Some, None, IsSome}
-use Rattle.addr4.specs.Prefixes.{Network}
+use Rattle.addr4.specs.Prefixes.{AddressPrefix}
 use Rattle.bgp_attr.specs.declared.attrs.Attrs.{Attrs}
 use Rattle.link_change.specs.declared.change.Change.{Change}
 use Rattle.journal_text.specs.declared.link.Task.{Task}
@@ -163,7 +163,7 @@ abbrev pub IsUpAt : ℕ → Moment → Type 0
 IsUpAt k m = (p : DeclaredPeer) × (peer_at k m.declared.peers ≡ Some p) × (p.up ≡ true)
 
 -- the attributes of each announcement are some that a neighbour's octets may hold
-abbrev pub AreHeard : Profile → List (Network × Option Attrs) → Type 0
+abbrev pub AreHeard : Profile → List (AddressPrefix × Option Attrs) → Type 0
 AreHeard profile changes = AllByRecursion (λ c. ForSome c.1 (MayBeHeard profile)) changes
 
 -- and so are those of an UPDATE
@@ -172,7 +172,7 @@ IsHeardMessage profile (messages.Update u) = ForSome u.attrs (MayBeHeard profile
 IsHeardMessage profile other = Unit {0}
 
 -- The prefixes of an UPDATE from peer k were announced and withdrawn, one after the other.
-pub record HaveFed (k : ℕ) (changes : List (Network × Option Attrs)) (m m' : Moment) (said : List Line) : Type 0 where
+pub record HaveFed (k : ℕ) (changes : List (AddressPrefix × Option Attrs)) (m m' : Moment) (said : List Line) : Type 0 where
   pub feeds : FeedsAll k changes m said m'
   pub keeps : Keeps (live_fed (live_state m) k changes) m m' said
 
@@ -264,7 +264,7 @@ pub record Decides (k : ℕ) (sent : Option (Change Route)) (m m' : Moment) (ent
 -- ---- interior routes
 
 -- A protocol's route at a prefix is this one from now on, or gone.
-abbrev pub SetsRoute : Moment → Proto → Network → Option Interior → List Line → Moment → Type 0
+abbrev pub SetsRoute : Moment → Proto → AddressPrefix → Option Interior → List Line → Moment → Type 0
 SetsRoute m proto p new said m' = FallsRoute m (fed_tree m.tree proto p new) proto p (way_of_route proto m.tree) said m'
 
 -- there is room for a loss of the protocol

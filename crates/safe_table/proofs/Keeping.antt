@@ -7,7 +7,7 @@ use Rattle.std.specs.FinMap as map
 use Rattle.std.specs.FinMap.{FinMap, find, get-entries, get-insert, get-remove, get-empty, len-insert, len-remove, len-empty, empty_of_len, same_map}
 use Rattle.slab.specs.Slab.{Slab, get, Updates}
 use Rattle.addr4.specs.Places.{key_of, IsBeyond, IsNextRow}
-use Rattle.addr4.specs.Prefixes.{ComesBefore, Network, prefix_cmp}
+use Rattle.addr4.specs.Prefixes.{ComesBefore, AddressPrefix, prefix_cmp}
 use Rattle.addr4.specs.declared.place.Place.{Place}
 use Rattle.addr4.specs.declared.place.Place.TheVariants.{Before, At}
 use Rattle.addr4.proofs.PrefixOrder.{prefixes_total, exact_prefixes, itself, one_prefix}
@@ -20,16 +20,16 @@ use Rattle.safe_table.proofs.Maps.{get-insert_same, get-insert_other, get-remove
 use Rattle.safe_table.proofs.Standing.{moved_by, standing_below, standing_le, some_stand, stand}
 
 -- a slot at p, and the others
-by_prefix : (p q : Network) → (q ≡ p) ⊎ (q ≡ p → ⊥)
+by_prefix : (p q : AddressPrefix) → (q ≡ p) ⊎ (q ≡ p → ⊥)
 by_prefix p q = elim (eq_by_cmp prefix_cmp q p) as (λ b. eq_by_cmp prefix_cmp q p ≡ b → (q ≡ p) ⊎ (q ≡ p → ⊥)) [
   | true ↦ λ e. inl (one_prefix q p e)
   | false ↦ λ e. inr (λ same. let t : eq_by_cmp prefix_cmp q p ≡ true = subst (λ x. eq_by_cmp prefix_cmp q x ≡ true) same (itself q) in absurd (cc))
 ] refl
 
-pub stand_here : (p : Network) → stand p (Some (At p)) ≡ 1
+pub stand_here : (p : AddressPrefix) → stand p (Some (At p)) ≡ 1
 stand_here p = ap (λ b. cond b 1 0) (itself p)
 
-pub stand_away : (p q : Network) → (q ≡ p → ⊥) → stand q (Some (At p)) ≡ 0
+pub stand_away : (p q : AddressPrefix) → (q ≡ p → ⊥) → stand q (Some (At p)) ≡ 0
 stand_away p q differ = ap (λ b. cond b 1 0) (another q p differ)
 
 pub dead_not : (live : Bool) → not live ≡ true → live ≡ true → ⊥
@@ -40,10 +40,10 @@ pub live_not : (live : Bool) → not live ≡ false → live ≡ true
 live_not true e = refl
 live_not false e = absurd (cc)
 
-not_before_itself : (q p : Network) → ComesBefore q p → p ≡ q → ⊥
+not_before_itself : (q p : AddressPrefix) → ComesBefore q p → p ≡ q → ⊥
 not_before_itself q p h same =
-    let a : p.address ≡ q.address = ap (λ (x : Network). x.address) same in
-    let l : p.length ≡ q.length = ap (λ (x : Network). x.length) same in
+    let a : p.address ≡ q.address = ap (λ (x : AddressPrefix). x.address) same in
+    let l : p.length ≡ q.length = ap (λ (x : AddressPrefix). x.length) same in
     elim (before_is q p h) [ inl less ↦ absurd (omega arith) | inr longer ↦ absurd (omega arith) ]
 
 pub not_err : {X E : Type 0} (r : Result X E) (e : E) → r ≡ Err e → IsOk r → ⊥
@@ -52,13 +52,13 @@ not_err (Err x) e was ok = absurd (cc)
 
 -- an iterator leaves its place
 abbrev pub LeftBy : Place → List (Option Place) → List (Option Place) → Type 0
-LeftBy x old new = (q : Network) → standing q new + stand q (Some x) ≡ standing q old
+LeftBy x old new = (q : AddressPrefix) → standing q new + stand q (Some x) ≡ standing q old
 
-pub left_behind : (old new : Slab Place) (id : ℕ) (x : Place) (p : Network) → get old id ≡ Some x → Updates old new id (Some (At p)) → LeftBy x (Some (At p) ∷ old.slots) new.slots
+pub left_behind : (old new : Slab Place) (id : ℕ) (x : Place) (p : AddressPrefix) → get old id ≡ Some x → Updates old new id (Some (At p)) → LeftBy x (Some (At p) ∷ old.slots) new.slots
 left_behind old new id x p at updates q = let m = moved_by old new id x (Some (At p)) q at updates in omega arith
 
 module _ {V : Type 0} where
-  get-with_live : (m : FinMap prefix_cmp V) (p : Network) (o : Option V) (q : Network) → map.get (with_live m p o) q ≡ cond (eq_by_cmp prefix_cmp q p) o (map.get m q)
+  get-with_live : (m : FinMap prefix_cmp V) (p : AddressPrefix) (o : Option V) (q : AddressPrefix) → map.get (with_live m p o) q ≡ cond (eq_by_cmp prefix_cmp q p) o (map.get m q)
   get-with_live m p None q = get-remove prefixes_total m p q
   get-with_live m p (Some v) q = get-insert prefixes_total m p v q
 
@@ -66,7 +66,7 @@ module _ {V : Type 0} where
   chosen true s r = refl
   chosen false s r = refl
 
-  get-live_from : (es : List (Network × Slot V)) (q : Network) → map.get (live_from es) q ≡ live_value (find prefix_cmp q es)
+  get-live_from : (es : List (AddressPrefix × Slot V)) (q : AddressPrefix) → map.get (live_from es) q ≡ live_value (find prefix_cmp q es)
   get-live_from [] q = get-empty prefix_cmp q
   get-live_from (e ∷ es) q =
       get-with_live (live_from es) e.0 e.1.value q
@@ -74,10 +74,10 @@ module _ {V : Type 0} where
       ∙ chosen (eq_by_cmp prefix_cmp q e.0) e.1 (find prefix_cmp q es)
 
   -- a row is the value of what stands there
-  pub get-live : (m : FinMap prefix_cmp (Slot V)) (q : Network) → map.get (live_rows m) q ≡ live_value (map.get m q)
+  pub get-live : (m : FinMap prefix_cmp (Slot V)) (q : AddressPrefix) → map.get (live_rows m) q ≡ live_value (map.get m q)
   get-live m q = get-live_from (map.entries m) q ∙ ap live_value (sym (get-entries m q))
 
-  pub live-insert : (m : FinMap prefix_cmp (Slot V)) (p : Network) (s : Slot V) → live_rows (map.insert m p s) ≡ with_live (live_rows m) p s.value
+  pub live-insert : (m : FinMap prefix_cmp (Slot V)) (p : AddressPrefix) (s : Slot V) → live_rows (map.insert m p s) ≡ with_live (live_rows m) p s.value
   live-insert m p s = same_map prefixes_total exact_prefixes _ _ (λ q.
       get-live (map.insert m p s) q
       ∙ ap live_value (get-insert prefixes_total m p s q)
@@ -89,7 +89,7 @@ module _ {V : Type 0} where
   none_chosen true r = refl
   none_chosen false r = refl
 
-  pub live-remove : (m : FinMap prefix_cmp (Slot V)) (p : Network) → live_rows (map.remove m p) ≡ map.remove (live_rows m) p
+  pub live-remove : (m : FinMap prefix_cmp (Slot V)) (p : AddressPrefix) → live_rows (map.remove m p) ≡ map.remove (live_rows m) p
   live-remove m p = same_map prefixes_total exact_prefixes _ _ (λ q.
       get-live (map.remove m p) q
       ∙ ap live_value (get-remove prefixes_total m p q)
@@ -98,20 +98,20 @@ module _ {V : Type 0} where
       ∙ sym (get-remove prefixes_total (live_rows m) p q))
 
   -- the rows stay where no value changes
-  pub live-same : (m n : FinMap prefix_cmp (Slot V)) → ((q : Network) → live_value (map.get m q) ≡ live_value (map.get n q)) → live_rows m ≡ live_rows n
+  pub live-same : (m n : FinMap prefix_cmp (Slot V)) → ((q : AddressPrefix) → live_value (map.get m q) ≡ live_value (map.get n q)) → live_rows m ≡ live_rows n
   live-same m n same = same_map prefixes_total exact_prefixes _ _ (λ q. get-live m q ∙ same q ∙ sym (get-live n q))
 
-  pub live-readers : (m : FinMap prefix_cmp (Slot V)) (p : Network) (s : Slot V) (k : ℕ) → map.get m p ≡ Some s → live_rows (map.insert m p (record s { readers = k })) ≡ live_rows m
+  pub live-readers : (m : FinMap prefix_cmp (Slot V)) (p : AddressPrefix) (s : Slot V) (k : ℕ) → map.get m p ≡ Some s → live_rows (map.insert m p (record s { readers = k })) ≡ live_rows m
   live-readers m p s k found = live-same _ _ (λ q. ap live_value (get-insert prefixes_total m p _ q) ∙ by_case q (eq_by_cmp prefix_cmp q p) refl)
     where
-      by_case : (q : Network) (b : Bool) → eq_by_cmp prefix_cmp q p ≡ b → live_value (cond b (Some (record s { readers = k })) (map.get m q)) ≡ live_value (map.get m q)
+      by_case : (q : AddressPrefix) (b : Bool) → eq_by_cmp prefix_cmp q p ≡ b → live_value (cond b (Some (record s { readers = k })) (map.get m q)) ≡ live_value (map.get m q)
       by_case q true e = sym (ap live_value (ap (map.get m) (one_prefix q p e) ∙ found))
       by_case q false e = refl
 
-  pub live-gone : (m : FinMap prefix_cmp (Slot V)) (p : Network) (s : Slot V) → map.get m p ≡ Some s → s.value ≡ None → live_rows (map.remove m p) ≡ live_rows m
+  pub live-gone : (m : FinMap prefix_cmp (Slot V)) (p : AddressPrefix) (s : Slot V) → map.get m p ≡ Some s → s.value ≡ None → live_rows (map.remove m p) ≡ live_rows m
   live-gone m p s found none = live-same _ _ (λ q. ap live_value (get-remove prefixes_total m p q) ∙ by_case q (eq_by_cmp prefix_cmp q p) refl)
     where
-      by_case : (q : Network) (b : Bool) → eq_by_cmp prefix_cmp q p ≡ b → live_value (cond b None (map.get m q)) ≡ live_value (map.get m q)
+      by_case : (q : AddressPrefix) (b : Bool) → eq_by_cmp prefix_cmp q p ≡ b → live_value (cond b None (map.get m q)) ≡ live_value (map.get m q)
       by_case q true e = sym (ap live_value (ap (map.get m) (one_prefix q p e) ∙ found) ∙ none)
       by_case q false e = refl
 
@@ -119,7 +119,7 @@ module _ {V : Type 0} where
   some_is s t e = cc
 
   -- what is kept, where one slot is set and the count there is right
-  pub kept_set : (m : FinMap prefix_cmp (Slot V)) (old new : List (Option Place)) (p : Network) (s : Slot V) → IsKept m old → ((q : Network) → (q ≡ p → ⊥) → standing q new ≡ standing q old) → s.readers ≡ standing p new → (s.value ≡ None → 0 < s.readers)
+  pub kept_set : (m : FinMap prefix_cmp (Slot V)) (old new : List (Option Place)) (p : AddressPrefix) (s : Slot V) → IsKept m old → ((q : AddressPrefix) → (q ≡ p → ⊥) → standing q new ≡ standing q old) → s.readers ≡ standing p new → (s.value ≡ None → 0 < s.readers)
       → IsKept (map.insert m p s) new
   kept_set m old new p s kept others here earned =
       record {
@@ -135,7 +135,7 @@ module _ {V : Type 0} where
         ];
       }
 
-  pub kept_removed : (m : FinMap prefix_cmp (Slot V)) (old new : List (Option Place)) (p : Network) → IsKept m old → ((q : Network) → (q ≡ p → ⊥) → standing q new ≡ standing q old) → standing p new ≡ 0 → IsKept (map.remove m p) new
+  pub kept_removed : (m : FinMap prefix_cmp (Slot V)) (old new : List (Option Place)) (p : AddressPrefix) → IsKept m old → ((q : AddressPrefix) → (q ≡ p → ⊥) → standing q new ≡ standing q old) → standing p new ≡ 0 → IsKept (map.remove m p) new
   kept_removed m old new p kept others here =
       record {
         counted = λ q. elim (by_prefix p q) [
@@ -148,11 +148,11 @@ module _ {V : Type 0} where
         ];
       }
 
-  pub kept_same : (m : FinMap prefix_cmp (Slot V)) (old new : List (Option Place)) → IsKept m old → ((q : Network) → standing q new ≡ standing q old) → IsKept m new
+  pub kept_same : (m : FinMap prefix_cmp (Slot V)) (old new : List (Option Place)) → IsKept m old → ((q : AddressPrefix) → standing q new ≡ standing q old) → IsKept m new
   kept_same m old new kept same = record { counted = λ q. kept.counted q ∙ sym (same q); earned = kept.earned }
 
   -- ---- the calls of a table
-  pub has_live : (m : FinMap prefix_cmp (Slot V)) (p : Network) → HasKey (live_rows m) p → HasKey m p
+  pub has_live : (m : FinMap prefix_cmp (Slot V)) (p : AddressPrefix) → HasKey (live_rows m) p → HasKey m p
   has_live m p h = by_case (map.get m p) refl (subst IsSome (get-live m p) h)
     where
       by_case : (o : Option (Slot V)) → map.get m p ≡ o → IsSome (live_value o) → HasKey m p
@@ -160,7 +160,7 @@ module _ {V : Type 0} where
       by_case (Some s) e is = ap is_some e
 
   -- a row is put where iterators stay
-  pub sound_put : (m n : FinMap prefix_cmp (Slot V)) (places : List (Option Place)) (count : ℕ) (p : Network) (v : V) (before : Option V) → IsSound m places count
+  pub sound_put : (m n : FinMap prefix_cmp (Slot V)) (places : List (Option Place)) (count : ℕ) (p : AddressPrefix) (v : V) (before : Option V) → IsSound m places count
       → n ≡ map.insert m p (record { value = Some v; readers = readers_of (map.get m p) }) → before ≡ live_value (map.get m p) → IsSound n places (cond (is_some before) count (count + 1))
   sound_put m n places count p v before sound e was =
       subst (λ x. IsSound x places (cond (is_some before) count (count + 1))) (sym e) (record {
@@ -173,63 +173,63 @@ module _ {V : Type 0} where
         few = sound.few;
       })
 
-  pub rows_put : (m n : FinMap prefix_cmp (Slot V)) (p : Network) (v : V) → n ≡ map.insert m p (record { value = Some v; readers = readers_of (map.get m p) }) → live_rows n ≡ map.insert (live_rows m) p v
+  pub rows_put : (m n : FinMap prefix_cmp (Slot V)) (p : AddressPrefix) (v : V) → n ≡ map.insert m p (record { value = Some v; readers = readers_of (map.get m p) }) → live_rows n ≡ map.insert (live_rows m) p v
   rows_put m n p v e = ap live_rows e ∙ live-insert m p _
 
   -- a row is written where it stands
-  pub sound_set : (m : FinMap prefix_cmp (Slot V)) (places : List (Option Place)) (count : ℕ) (p : Network) (s : Slot V) (v : V) → IsSound m places count → map.get m p ≡ Some s → is_some (live_value (map.get m p)) ≡ true
+  pub sound_set : (m : FinMap prefix_cmp (Slot V)) (places : List (Option Place)) (count : ℕ) (p : AddressPrefix) (s : Slot V) (v : V) → IsSound m places count → map.get m p ≡ Some s → is_some (live_value (map.get m p)) ≡ true
       → IsSound (map.insert m p (record { value = Some v; readers = s.readers })) places count
   sound_set m places count p s v sound found is =
       subst (λ k. IsSound (map.insert m p (record { value = Some v; readers = s.readers })) places k) (ap (λ b. cond b count (count + 1)) is)
       (sound_put m _ places count p v (live_value (map.get m p)) sound (ap (λ k. map.insert m p (record { value = Some v; readers = k })) (sym (ap readers_of found))) refl)
 
-  pub rows_set : (m : FinMap prefix_cmp (Slot V)) (places : List (Option Place)) (p : Network) (k : ℕ) (v : V) → ◌≡◌ {A = Rows V} (record { rows = live_rows (map.insert m p (record { value = Some v; readers = k })); iterators = iterators_of places }) (record { rows = map.insert (live_rows m) p v; iterators = iterators_of places })
+  pub rows_set : (m : FinMap prefix_cmp (Slot V)) (places : List (Option Place)) (p : AddressPrefix) (k : ℕ) (v : V) → ◌≡◌ {A = Rows V} (record { rows = live_rows (map.insert m p (record { value = Some v; readers = k })); iterators = iterators_of places }) (record { rows = map.insert (live_rows m) p v; iterators = iterators_of places })
   rows_set m places p k v = ap (λ (r : FinMap prefix_cmp V). record { rows = r; iterators = iterators_of places }) (live-insert m p _)
 
   -- a row is taken
-  pub record Taken (m n : FinMap prefix_cmp (Slot V)) (p : Network) : Type 0 where
+  pub record Taken (m n : FinMap prefix_cmp (Slot V)) (p : AddressPrefix) : Type 0 where
     pub absent : map.get m p ≡ None → n ≡ m
     pub goes : (s : Slot V) → map.get m p ≡ Some s → s.readers ≡ 0 → n ≡ map.remove m p
     pub stays : (s : Slot V) → map.get m p ≡ Some s → 0 < s.readers → n ≡ map.insert m p (record s { value = None })
 
-  data Case (m n : FinMap prefix_cmp (Slot V)) (p : Network) : Type 0 where
+  data Case (m n : FinMap prefix_cmp (Slot V)) (p : AddressPrefix) : Type 0 where
     absent : map.get m p ≡ None → n ≡ m → Case m n p
     goes : (s : Slot V) → map.get m p ≡ Some s → s.readers ≡ 0 → n ≡ map.remove m p → Case m n p
     stays : (s : Slot V) → map.get m p ≡ Some s → 0 < s.readers → n ≡ map.insert m p (record s { value = None }) → Case m n p
 
-  by_count : (m n : FinMap prefix_cmp (Slot V)) (p : Network) (s : Slot V) → map.get m p ≡ Some s → Taken m n p → (k : ℕ) → s.readers ≡ k → Case m n p
+  by_count : (m n : FinMap prefix_cmp (Slot V)) (p : AddressPrefix) (s : Slot V) → map.get m p ≡ Some s → Taken m n p → (k : ℕ) → s.readers ≡ k → Case m n p
   by_count m n p s found t zero e = goes s found e (t.goes s found e)
   by_count m n p s found t (suc k) e = let lt : 0 < s.readers = omega arith in stays s found lt (t.stays s found lt)
 
-  case_of : (m n : FinMap prefix_cmp (Slot V)) (p : Network) → Taken m n p → Case m n p
+  case_of : (m n : FinMap prefix_cmp (Slot V)) (p : AddressPrefix) → Taken m n p → Case m n p
   case_of m n p t = by_case (map.get m p) refl
     where
       by_case : (o : Option (Slot V)) → map.get m p ≡ o → Case m n p
       by_case None e = absent e (t.absent e)
       by_case (Some s) e = by_count m n p s e t s.readers refl
 
-  none_removed : (m : FinMap prefix_cmp V) (p : Network) → map.get m p ≡ None → m ≡ map.remove m p
+  none_removed : (m : FinMap prefix_cmp V) (p : AddressPrefix) → map.get m p ≡ None → m ≡ map.remove m p
   none_removed m p none = same_map prefixes_total exact_prefixes _ _ (λ q. by_case q (eq_by_cmp prefix_cmp q p) refl ∙ sym (get-remove prefixes_total m p q))
     where
-      by_case : (q : Network) (b : Bool) → eq_by_cmp prefix_cmp q p ≡ b → map.get m q ≡ cond b None (map.get m q)
+      by_case : (q : AddressPrefix) (b : Bool) → eq_by_cmp prefix_cmp q p ≡ b → map.get m q ≡ cond b None (map.get m q)
       by_case q true e = ap (map.get m) (one_prefix q p e) ∙ none
       by_case q false e = refl
 
-  pub rows_taken : (m n : FinMap prefix_cmp (Slot V)) (p : Network) → Taken m n p → live_rows n ≡ map.remove (live_rows m) p
+  pub rows_taken : (m n : FinMap prefix_cmp (Slot V)) (p : AddressPrefix) → Taken m n p → live_rows n ≡ map.remove (live_rows m) p
   rows_taken m n p t = elim (case_of m n p t) [
     | absent none e ↦ ap live_rows e ∙ none_removed (live_rows m) p (get-live m p ∙ ap live_value none)
     | goes s found nobody e ↦ ap live_rows e ∙ live-remove m p
     | stays s found some e ↦ ap live_rows e ∙ live-insert m p _
   ]
 
-  kept_taken : (m n : FinMap prefix_cmp (Slot V)) (places : List (Option Place)) (p : Network) → IsKept m places → Taken m n p → IsKept n places
+  kept_taken : (m n : FinMap prefix_cmp (Slot V)) (places : List (Option Place)) (p : AddressPrefix) → IsKept m places → Taken m n p → IsKept n places
   kept_taken m n places p kept t = elim (case_of m n p t) [
     | absent none e ↦ subst (λ x. IsKept x places) (sym e) kept
     | goes s found nobody e ↦ subst (λ x. IsKept x places) (sym e) (kept_removed m places places p kept (λ q differ. refl) (sym (kept.counted p) ∙ ap readers_of found ∙ nobody))
     | stays s found some e ↦ subst (λ x. IsKept x places) (sym e) (kept_set m places places p _ kept (λ q differ. refl) (sym (ap readers_of found) ∙ kept.counted p) (λ none. some))
   ]
 
-  pub sound_taken : (m n : FinMap prefix_cmp (Slot V)) (places : List (Option Place)) (count : ℕ) (p : Network) (before : Option V) → IsSound m places count → Taken m n p → before ≡ live_value (map.get m p) → IsSound n places (cond (is_some before) (count - 1) count)
+  pub sound_taken : (m n : FinMap prefix_cmp (Slot V)) (places : List (Option Place)) (count : ℕ) (p : AddressPrefix) (before : Option V) → IsSound m places count → Taken m n p → before ≡ live_value (map.get m p) → IsSound n places (cond (is_some before) (count - 1) count)
   sound_taken m n places count p before sound t was =
       record {
         kept = kept_taken m n places p sound.kept t;
@@ -242,7 +242,7 @@ module _ {V : Type 0} where
       }
 
   -- a row that is there counts
-  pub counted_row : (m : FinMap prefix_cmp (Slot V)) (places : List (Option Place)) (count : ℕ) (p : Network) (before : Option V) → IsSound m places count → before ≡ live_value (map.get m p) → is_some before ≡ true → 0 < count
+  pub counted_row : (m : FinMap prefix_cmp (Slot V)) (places : List (Option Place)) (count : ℕ) (p : AddressPrefix) (before : Option V) → IsSound m places count → before ≡ live_value (map.get m p) → is_some before ≡ true → 0 < count
   counted_row m places count p before sound was is = by_zero count refl
     where
       by_zero : (k : ℕ) → count ≡ k → 0 < count
@@ -253,14 +253,14 @@ module _ {V : Type 0} where
       by_zero (suc k) e = omega arith
 
   -- no row, no key
-  pub no_row : (m : FinMap prefix_cmp (Slot V)) (p : Network) → HasKey (live_rows m) p → live_value (map.get m p) ≡ None → ⊥
+  pub no_row : (m : FinMap prefix_cmp (Slot V)) (p : AddressPrefix) → HasKey (live_rows m) p → live_value (map.get m p) ≡ None → ⊥
   no_row m p has none = let clash : is_some {T = V} None ≡ true = ap is_some (sym (get-live m p ∙ none)) ∙ has in absurd (cc)
 
   pub len_of_empty : (rows : FinMap prefix_cmp V) → rows ≡ map.empty → map.len rows ≡ 0
   len_of_empty rows e = ap map.len e ∙ len-empty prefix_cmp V
 
   -- ---- iterators
-  reader_there : (m : FinMap prefix_cmp (Slot V)) (old : List (Option Place)) (p : Network) → IsKept m old → 0 < standing p old → (s : Slot V) × (map.get m p ≡ Some s) × (s.readers ≡ standing p old)
+  reader_there : (m : FinMap prefix_cmp (Slot V)) (old : List (Option Place)) (p : AddressPrefix) → IsKept m old → 0 < standing p old → (s : Slot V) × (map.get m p ≡ Some s) × (s.readers ≡ standing p old)
   reader_there m old p kept some = by_case (map.get m p) refl
     where
       by_case : (o : Option (Slot V)) → map.get m p ≡ o → (s : Slot V) × (map.get m p ≡ Some s) × (s.readers ≡ standing p old)
@@ -268,7 +268,7 @@ module _ {V : Type 0} where
       by_case (Some s) e = (s, e, sym (ap readers_of e) ∙ kept.counted p)
 
   -- something stands where an iterator does
-  pub has_place : (m : FinMap prefix_cmp (Slot V)) (old : List (Option Place)) (id : ℕ) (p : Network) → IsKept m old → get_or old id None ≡ Some (At p) → HasKey m p
+  pub has_place : (m : FinMap prefix_cmp (Slot V)) (old : List (Option Place)) (id : ℕ) (p : AddressPrefix) → IsKept m old → get_or old id None ≡ Some (At p) → HasKey m p
   has_place m old id p kept at = let r = reader_there m old p kept (some_stand p id old (At p) at (stand_here p)) in ap is_some r.1
 
   pub leave_ready : (m : FinMap prefix_cmp (Slot V)) (old new : List (Option Place)) (x : Place) → IsKept m old → LeftBy x old new → MatchPlace x (Unit {0}) (λ p. HasKey m p × ((s : Slot V) → map.get m p ≡ Some s → 0 < s.readers))
@@ -286,7 +286,7 @@ module _ {V : Type 0} where
       let at = left p in
       let one = stand_here p in
       let r = reader_there m old p kept (omega arith) in
-      let others : (q : Network) → (q ≡ p → ⊥) → standing q new ≡ standing q old = λ (q : Network) (differ : q ≡ p → ⊥). let here = left q in let away = stand_away p q differ in omega arith in
+      let others : (q : AddressPrefix) → (q ≡ p → ⊥) → standing q new ≡ standing q old = λ (q : AddressPrefix) (differ : q ≡ p → ⊥). let here = left q in let away = stand_away p q differ in omega arith in
       elim (leaves r.0 r.1) [
         | inl gone ↦ (
           subst (λ x. IsKept x new) (sym gone.0) (kept_removed m old new p kept others (omega (arith, r.2, gone.2))),
@@ -302,13 +302,13 @@ module _ {V : Type 0} where
       more_than_one k some other = omega arith
 
   -- an iterator enters a place
-  pub entered_kept : (m n : FinMap prefix_cmp (Slot V)) (old : List (Option Place)) (p : Network) (s : Slot V) → IsKept m old → map.get m p ≡ Some s → n ≡ map.insert m p (record s { readers = s.readers + 1 }) → IsKept n (Some (At p) ∷ old)
+  pub entered_kept : (m n : FinMap prefix_cmp (Slot V)) (old : List (Option Place)) (p : AddressPrefix) (s : Slot V) → IsKept m old → map.get m p ≡ Some s → n ≡ map.insert m p (record s { readers = s.readers + 1 }) → IsKept n (Some (At p) ∷ old)
   entered_kept m n old p s kept found e =
       let counted : s.readers ≡ standing p old = sym (ap readers_of found) ∙ kept.counted p in
       let one = stand_here p in
       subst (λ x. IsKept x (Some (At p) ∷ old)) (sym e) (kept_set m old (Some (At p) ∷ old) p _ kept (λ q differ. let away = stand_away p q differ in omega arith) (omega arith) (λ none. omega arith))
 
-  pub readers_fit : (m : FinMap prefix_cmp (Slot V)) (old : List (Option Place)) (p : Network) (id : ℕ) (x : Place) → IsKept m old → get_or old id None ≡ Some x → IsBeyond (key_of x) p → count_by is_some old < 2 ^ 32
+  pub readers_fit : (m : FinMap prefix_cmp (Slot V)) (old : List (Option Place)) (p : AddressPrefix) (id : ℕ) (x : Place) → IsKept m old → get_or old id None ≡ Some x → IsBeyond (key_of x) p → count_by is_some old < 2 ^ 32
       → (s : Slot V) → map.get m p ≡ Some s → s.readers + 1 < 2 ^ 32
   readers_fit m old p id x kept at le fits s found =
       let counted : s.readers ≡ standing p old = sym (ap readers_of found) ∙ kept.counted p in
@@ -319,38 +319,38 @@ module _ {V : Type 0} where
       away (At q) le = stand_away q p (λ same. not_before_itself q p le same)
 
   -- what first_live has so far: a prefix beyond the place, where something stands, and no row between
-  pub record Reaches (m : FinMap prefix_cmp (Slot V)) (after : Option Network) (p : Network) : Type 0 where
+  pub record Reaches (m : FinMap prefix_cmp (Slot V)) (after : Option AddressPrefix) (p : AddressPrefix) : Type 0 where
     pub past : IsBeyond after p
     pub has : HasKey m p
-    pub between : (q : Network) → HasKey (live_rows m) q → IsBeyond after q → ComesBefore q p → ⊥
+    pub between : (q : AddressPrefix) → HasKey (live_rows m) q → IsBeyond after q → ComesBefore q p → ⊥
 
   none_there : (o : Option V) → (IsSome o → ⊥) → o ≡ None
   none_there None differ = refl
   none_there (Some v) differ = absurd (differ refl)
 
-  not_none : (m : FinMap prefix_cmp (Slot V)) (q : Network) → HasKey (live_rows m) q → map.get m q ≡ None → ⊥
+  not_none : (m : FinMap prefix_cmp (Slot V)) (q : AddressPrefix) → HasKey (live_rows m) q → map.get m q ≡ None → ⊥
   not_none m q h none = let clash : is_some {T = Slot V} None ≡ true = ap is_some (sym none) ∙ has_live m q h in absurd (cc)
 
-  pub reaches_first : (m : FinMap prefix_cmp (Slot V)) (after : Option Network) (p : Network) → IsNextRow (map.get m) after (Some p) → Reaches m after p
+  pub reaches_first : (m : FinMap prefix_cmp (Slot V)) (after : Option AddressPrefix) (p : AddressPrefix) → IsNextRow (map.get m) after (Some p) → Reaches m after p
   reaches_first m after p next = record { past = next.0; has = next.1; between = λ q has h less. not_none m q has (next.2 q h less) }
 
-  later : (m : FinMap prefix_cmp (Slot V)) (after : Option Network) (p q : Network) → Reaches m after p → (HasKey (live_rows m) p → ⊥) → HasKey (live_rows m) q → IsBeyond after q → ComesBefore p q
+  later : (m : FinMap prefix_cmp (Slot V)) (after : Option AddressPrefix) (p q : AddressPrefix) → Reaches m after p → (HasKey (live_rows m) p → ⊥) → HasKey (live_rows m) q → IsBeyond after q → ComesBefore p q
   later m after p q r dead has h = one_first p q (λ same. dead (subst (HasKey (live_rows m)) (sym same) has)) (λ less. r.between q has h less)
 
-  pub reaches_next : (m : FinMap prefix_cmp (Slot V)) (after : Option Network) (p x : Network) → Reaches m after p → (HasKey (live_rows m) p → ⊥) → IsNextRow (map.get m) (Some p) (Some x) → Reaches m after x
+  pub reaches_next : (m : FinMap prefix_cmp (Slot V)) (after : Option AddressPrefix) (p x : AddressPrefix) → Reaches m after p → (HasKey (live_rows m) p → ⊥) → IsNextRow (map.get m) (Some p) (Some x) → Reaches m after x
   reaches_next m after p x r dead next = record {
     past = further after p x r.past next.0;
     has = next.1;
     between = λ q has h less. not_none m q has (next.2 q (later m after p q r dead has h) less);
   }
 
-  pub live_first : (m : FinMap prefix_cmp (Slot V)) (after : Option Network) (p : Network) → Reaches m after p → HasKey (live_rows m) p → IsNextRow (map.get (live_rows m)) after (Some p)
+  pub live_first : (m : FinMap prefix_cmp (Slot V)) (after : Option AddressPrefix) (p : AddressPrefix) → Reaches m after p → HasKey (live_rows m) p → IsNextRow (map.get (live_rows m)) after (Some p)
   live_first m after p r is = (r.past, is, λ q h less. none_there (map.get (live_rows m) q) (λ has. r.between q has h less))
 
-  pub live_none_more : (m : FinMap prefix_cmp (Slot V)) (after : Option Network) (p : Network) → Reaches m after p → (HasKey (live_rows m) p → ⊥) → IsNextRow (map.get m) (Some p) None → IsNextRow (map.get (live_rows m)) after None
+  pub live_none_more : (m : FinMap prefix_cmp (Slot V)) (after : Option AddressPrefix) (p : AddressPrefix) → Reaches m after p → (HasKey (live_rows m) p → ⊥) → IsNextRow (map.get m) (Some p) None → IsNextRow (map.get (live_rows m)) after None
   live_none_more m after p r dead none q h = none_there (map.get (live_rows m) q) (λ has. not_none m q has (none q (later m after p q r dead has h)))
 
-  pub live_none : (m : FinMap prefix_cmp (Slot V)) (after : Option Network) → IsNextRow (map.get m) after None → IsNextRow (map.get (live_rows m)) after None
+  pub live_none : (m : FinMap prefix_cmp (Slot V)) (after : Option AddressPrefix) → IsNextRow (map.get m) after None → IsNextRow (map.get (live_rows m)) after None
   live_none m after none q h = none_there (map.get (live_rows m) q) (λ has. not_none m q has (none q h))
 
   pub rows_nothing : live_rows {V = V} map.empty ≡ map.empty
@@ -378,7 +378,7 @@ module _ {V : Type 0} where
     pub kept : IsKept m2 new
     pub rows : live_rows m2 ≡ live_rows m
 
-  pub gone_on : (m m1 m2 : FinMap prefix_cmp (Slot V)) (old new : Slab Place) (id : ℕ) (x : Place) (p : Network) → IsKept m old.slots → HasKey m p
+  pub gone_on : (m m1 m2 : FinMap prefix_cmp (Slot V)) (old new : Slab Place) (id : ℕ) (x : Place) (p : AddressPrefix) → IsKept m old.slots → HasKey m p
       → ((s : Slot V) → map.get m p ≡ Some s → m1 ≡ map.insert m p (record s { readers = s.readers + 1 }))
       → get old id ≡ Some x → Updates old new id (Some (At p)) → MatchPlace x (m2 ≡ m1) (λ q. (s : Slot V) → map.get m1 q ≡ Some s → Leaves m1 m2 q s) → Gone m m1 m2 old.slots new.slots
   gone_on m m1 m2 old new id x p kept has enters at updates leaves =
@@ -388,7 +388,7 @@ module _ {V : Type 0} where
       let left = left_kept m1 m2 (Some (At p) ∷ old.slots) new.slots x mid (left_behind old new id x p at updates) leaves in
       record { kept = left.0; rows = left.1 ∙ ap live_rows e ∙ live-readers m p s.0 _ s.1 }
 
-  pub ready_to_leave : (m m1 : FinMap prefix_cmp (Slot V)) (old new : Slab Place) (id : ℕ) (x : Place) (p : Network) → IsKept m old.slots → HasKey m p
+  pub ready_to_leave : (m m1 : FinMap prefix_cmp (Slot V)) (old new : Slab Place) (id : ℕ) (x : Place) (p : AddressPrefix) → IsKept m old.slots → HasKey m p
       → ((s : Slot V) → map.get m p ≡ Some s → m1 ≡ map.insert m p (record s { readers = s.readers + 1 }))
       → get old id ≡ Some x → Updates old new id (Some (At p)) → MatchPlace x (Unit {0}) (λ p. HasKey m1 p × ((s : Slot V) → map.get m1 p ≡ Some s → 0 < s.readers))
   ready_to_leave m m1 old new id x p kept has enters at updates =
@@ -399,12 +399,12 @@ none_counted : (n : ℕ) → (n == 0) ≡ true → n ≡ 0
 none_counted n e = grind (arith, nat_tests)
 
 -- where no iterator is live, none stands at a prefix
-pub none_live : (places : List (Option Place)) (p : Network) → (count_by is_some places == 0) ≡ true → standing p places ≡ 0
+pub none_live : (places : List (Option Place)) (p : AddressPrefix) → (count_by is_some places == 0) ≡ true → standing p places ≡ 0
 none_live places p none =
     let le = standing_le p places in
     let empty : count_by is_some places ≡ 0 = none_counted (count_by is_some places) none in
     omega arith
 
 -- where none stands at a prefix, its slot counts none
-pub unread : {V : Type 0} (rows : FinMap prefix_cmp (Slot V)) (places : List (Option Place)) (p : Network) (s : Slot V) → IsKept rows places → standing p places ≡ 0 → map.get rows p ≡ Some s → s.readers ≡ 0
+pub unread : {V : Type 0} (rows : FinMap prefix_cmp (Slot V)) (places : List (Option Place)) (p : AddressPrefix) (s : Slot V) → IsKept rows places → standing p places ≡ 0 → map.get rows p ≡ Some s → s.readers ≡ 0
 unread rows places p s kept none found = ap readers_of (sym found) ∙ kept.counted p ∙ none

@@ -8,15 +8,15 @@ use Rattle.std.proofs.lemmas.Bool.{cases_eq}
 use Rattle.std.proofs.lemmas.List.Sums.{sum_by-cons, sum_by-set}
 use Rattle.slab.proofs.SlabLemmas.{ContainsKey-within}
 use Rattle.slab.specs.Slab.{Slab, get, slab_len, with_value, Updates, entries_from}
-use Rattle.addr4.specs.Prefixes.{Network, prefix_cmp}
+use Rattle.addr4.specs.Prefixes.{AddressPrefix, prefix_cmp}
 use Rattle.addr4.specs.declared.place.Place.{Place}
 use Rattle.addr4.specs.declared.place.Place.TheVariants.{Before, At}
 use Rattle.safe_table.specs.Fields.{stands_at, standing, iterators_of}
 
-abbrev pub stand : Network → Option Place → ℕ
+abbrev pub stand : AddressPrefix → Option Place → ℕ
 stand p x = cond (stands_at p x) 1 0
 
-pub same_standing : (p : Network) (xs ys : List (Option Place)) → ((k : ℕ) → get_or xs k None ≡ get_or ys k None) → standing p xs ≡ standing p ys
+pub same_standing : (p : AddressPrefix) (xs ys : List (Option Place)) → ((k : ℕ) → get_or xs k None ≡ get_or ys k None) → standing p xs ≡ standing p ys
 same_standing p [] [] same = refl
 same_standing p [] (y ∷ ys) same =
     let here : stand p None ≡ stand p y = ap (stand p) (same 0) in
@@ -31,7 +31,7 @@ same_standing p (x ∷ xs) (y ∷ ys) same =
     let rest : standing p xs ≡ standing p ys = same_standing p xs ys (λ k. same (suc k)) in
     omega arith
 
-pub moved_standing : (p : Network) (key : ℕ) (xs ys : List (Option Place)) → ((k : ℕ) → k ≢ key → get_or xs k None ≡ get_or ys k None)
+pub moved_standing : (p : AddressPrefix) (key : ℕ) (xs ys : List (Option Place)) → ((k : ℕ) → k ≢ key → get_or xs k None ≡ get_or ys k None)
     → standing p ys + stand p (get_or xs key None) ≡ standing p xs + stand p (get_or ys key None)
 moved_standing p zero [] [] same = refl
 moved_standing p zero [] (y ∷ ys) same =
@@ -58,17 +58,17 @@ moved_standing p (suc key) (x ∷ xs) (y ∷ ys) same =
     omega arith
 
 -- no more stand at a prefix than there are
-stand_le : (p : Network) (x : Option Place) → stand p x ≤ cond (is_some x) 1 0
+stand_le : (p : AddressPrefix) (x : Option Place) → stand p x ≤ cond (is_some x) 1 0
 stand_le p None = omega arith
 stand_le p (Some Before) = omega arith
 stand_le p (Some (At q)) = elim (eq_by_cmp prefix_cmp p q) as (λ b. cond b 1 0 ≤ 1) [ true ↦ omega arith | false ↦ omega arith ]
 
-pub standing_le : (p : Network) (xs : List (Option Place)) → standing p xs ≤ count_by is_some xs
+pub standing_le : (p : AddressPrefix) (xs : List (Option Place)) → standing p xs ≤ count_by is_some xs
 standing_le p [] = omega arith
 standing_le p (x ∷ xs) = omega (arith, standing_le p xs, stand_le p x, sum_by-cons (λ o. cond (is_some o) 1 0) x xs)
 
 -- and less where one stands elsewhere
-pub standing_below : (p : Network) (key : ℕ) (xs : List (Option Place)) (x : Place) → get_or xs key None ≡ Some x → stand p (Some x) ≡ 0 → standing p xs < count_by is_some xs
+pub standing_below : (p : AddressPrefix) (key : ℕ) (xs : List (Option Place)) (x : Place) → get_or xs key None ≡ Some x → stand p (Some x) ≡ 0 → standing p xs < count_by is_some xs
 standing_below p key [] x e away = absurd (cc)
 standing_below p zero (y ∷ xs) x e away =
     let here : stand p y ≡ 0 = ap (stand p) e ∙ away in
@@ -83,7 +83,7 @@ standing_below p (suc key) (y ∷ xs) x e away = counted (stand p y) (standing p
     counted a b i n m h lt e = omega arith
 
 -- none stands at a prefix where none of so many does, and there are no more
-pub none_within : (p : Network) (n : ℕ) (xs : List (Option Place)) → length xs ≤ n → ((k : ℕ) → k < n → stands_at p (get_or xs k None) ≡ false) → standing p xs ≡ 0
+pub none_within : (p : AddressPrefix) (n : ℕ) (xs : List (Option Place)) → length xs ≤ n → ((k : ℕ) → k < n → stands_at p (get_or xs k None) ≡ false) → standing p xs ≡ 0
 none_within p n [] le none = refl
 none_within p zero (x ∷ xs) le none = absurd (omega arith)
 none_within p (suc n) (x ∷ xs) le none =
@@ -92,7 +92,7 @@ none_within p (suc n) (x ∷ xs) le none =
     omega arith
 
 -- one that stands there counts
-pub some_stand : (p : Network) (key : ℕ) (xs : List (Option Place)) (x : Place) → get_or xs key None ≡ Some x → stand p (Some x) ≡ 1 → 0 < standing p xs
+pub some_stand : (p : AddressPrefix) (key : ℕ) (xs : List (Option Place)) (x : Place) → get_or xs key None ≡ Some x → stand p (Some x) ≡ 1 → 0 < standing p xs
 some_stand p key [] x e here = absurd (cc)
 some_stand p zero (y ∷ xs) x e here = let one : stand p y ≡ 1 = ap (stand p) e ∙ here in omega arith
 some_stand p (suc key) (y ∷ xs) x e here = omega (arith, some_stand p key xs x e here)
@@ -156,7 +156,7 @@ count_kept places id x y at =
     omega (arith, sum_by-set counts places.slots id (Some y) None within)
 
 -- an iterator goes from a place to another
-pub moved_by : (old new : Slab Place) (id : ℕ) (x : Place) (slot : Option Place) (q : Network) → get old id ≡ Some x → Updates old new id slot → standing q new.slots + stand q (Some x) ≡ standing q old.slots + stand q slot
+pub moved_by : (old new : Slab Place) (id : ℕ) (x : Place) (slot : Option Place) (q : AddressPrefix) → get old id ≡ Some x → Updates old new id slot → standing q new.slots + stand q (Some x) ≡ standing q old.slots + stand q slot
 moved_by old new id x slot q at updates =
     let m = moved_standing q id old.slots new.slots (λ k differ. sym (updates.others k differ)) in
     let a : stand q (get_or old.slots id None) ≡ stand q (Some x) = ap (stand q) at in

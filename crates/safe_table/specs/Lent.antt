@@ -2,7 +2,7 @@
 use Rattle.std.specs.Prelude.{Option, Some}
 use Rattle.std.specs.FinMap as map
 use Rattle.std.specs.Borrow.{Lends, LendsIf, Fml, RattleType, MutBor}
-use Rattle.addr4.specs.Prefixes.{Network}
+use Rattle.addr4.specs.Prefixes.{AddressPrefix}
 use Rattle.safe_table.specs.declared.slot.Slot.{Slot}
 use Rattle.safe_table.specs.declared.slot.Kept.{Kept}
 use Rattle.safe_table.specs.declared.slot.Kept.TheVariants.{Row, Removed}
@@ -24,5 +24,5 @@ abbrev pub lends_slot : (V : RattleType) → MutBor (Slot V.Denot) → MutBor V.
 lends_slot V s r = Lends (slot.the_row V) V s r (λ v. record s.now { value = Some v })
 
 -- once the borrow r ends, the last value written through r stands at the prefix, and at `None` the table stays as it is
-abbrev pub lends_get : (V : RattleType) → MutBor (Table V.Denot) → Network → Option (MutBor V.Denot) → Fml
+abbrev pub lends_get : (V : RattleType) → MutBor (Table V.Denot) → AddressPrefix → Option (MutBor V.Denot) → Fml
 lends_get V s p r = LendsIf (table.the_row V) V s r (λ v. record s.now { rows = map.insert s.now.rows p v }) s.now

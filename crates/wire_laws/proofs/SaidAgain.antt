@@ -3,7 +3,7 @@ use Rattle.std.proofs.Common.{◌≡◌, ℕ, ◌+◌, ◌≤◌, ◌<◌, Bool,
 use Rattle.std.specs.Prelude.{All}
 use Rattle.std.proofs.lemmas.List.{length-append, length-take}
 use Rattle.byteorder.specs.Endian.{big_bytes}
-use Rattle.addr4.specs.Prefixes.{Network}
+use Rattle.addr4.specs.Prefixes.{AddressPrefix}
 use Rattle.bgp_attr.specs.declared.attrs.Attrs.{Attrs}
 use Rattle.bgp_attr.specs.declared.speaker.Profile.{Profile}
 use Rattle.bgp_wire.specs.declared.message.Update.{Update}
@@ -13,7 +13,7 @@ use Rattle.bgp_wire.specs.Routes.{AreAttrs}
 use Rattle.bgp_wire.specs.Updates.{Reading}
 use Rattle.bgp_wire.specs.Grammar.{IsReading, AreAttrsFor, IsUpdateBy, Reads}
 use Rattle.bgp_wire.specs.Spelling.{update_octets}
-use Rattle.bgp_wire.specs.Readable.{IsNetwork, IsReadable, IsReadableUpdate, AreOctets, HasOnePrefix, announcement}
+use Rattle.bgp_wire.specs.Readable.{IsAddressPrefix, IsReadable, IsReadableUpdate, AreOctets, HasOnePrefix, announcement}
 use Rattle.bgp_wire.specs.Lengths.{attributes_length, announcement_length}
 use Rattle.bgp_wire.proofs.SpelledLengths.{length-announcement}
 use Rattle.wire_laws.proofs.SpelledMessages.{withdrawal_is_read, announcement_is_read}
@@ -22,13 +22,13 @@ use Rattle.wire_laws.proofs.LengthLaws.{attributes_no_longer}
 use Rattle.bgp_wire.proofs.ReadableMessages.{field_octets, read_is_readable}
 
 -- an announcement's octets, by the attributes'
-pub announced_length : (as4 : Bool) (n : Network) (a : Attrs) → n.length ≤ 32 → announcement_length as4 n a ≡ 24 + attributes_length as4 a + octets_for n.length
+pub announced_length : (as4 : Bool) (n : AddressPrefix) (a : Attrs) → n.length ≤ 32 → announcement_length as4 n a ≡ 24 + attributes_length as4 a + octets_for n.length
 announced_length as4 n a short = omega (arith, length-announcement as4 n a, length-take (octets_for n.length) (big_bytes 4 n.address))
 
-one_announced : (bytes : List ℕ) (n : Network) → ArePrefixes bytes (n ∷ []) → (length bytes ≡ 1 + octets_for n.length) × (n.length ≤ 32)
+one_announced : (bytes : List ℕ) (n : AddressPrefix) → ArePrefixes bytes (n ∷ []) → (length bytes ≡ 1 + octets_for n.length) × (n.length ≤ 32)
 one_announced bytes n are = (omega (arith, ap length are.2, length-append are.0 are.1, ap length are.3.spelled, are.3.fewest, ap length are.4), are.3.short)
 
-announced_again : (p : Profile) (external : Bool) (bytes : List ℕ) (r : Reading) (is : IsReading p external bytes r) → Octets bytes → (n : Network) (a : Attrs) → IsNetwork n → IsReadable p external a → ArePrefixes is.announced (n ∷ []) → AreAttrs p external r.kept a
+announced_again : (p : Profile) (external : Bool) (bytes : List ℕ) (r : Reading) (is : IsReading p external bytes r) → Octets bytes → (n : AddressPrefix) (a : Attrs) → IsAddressPrefix n → IsReadable p external a → ArePrefixes is.announced (n ∷ []) → AreAttrs p external r.kept a
     → Reads p external (update_octets p.as4 (announcement n a)) (messages.Update (announcement n a))
 announced_again p external bytes r is octets n a network readable prefix are =
     let f = field_octets p external bytes r is octets in
@@ -38,7 +38,7 @@ announced_again p external bytes r is octets n a network readable prefix are =
     (omega (arith, announced_length p.as4 n a one.1, shorter, one.0, f.whole, is.frame.top))
 
 -- by the lists of prefixes
-withdrawn_again : (p : Profile) (external : Bool) (ws ns : List Network) (attrs : Option Attrs) → ns ≡ [] → attrs ≡ None → All IsNetwork ws → length ws + length ns ≡ 1
+withdrawn_again : (p : Profile) (external : Bool) (ws ns : List AddressPrefix) (attrs : Option Attrs) → ns ≡ [] → attrs ≡ None → All IsAddressPrefix ws → length ws + length ns ≡ 1
     → Reads p external (update_octets p.as4 (record { withdrawn = ws; announced = ns; attrs = attrs })) (messages.Update (record { withdrawn = ws; announced = ns; attrs = attrs }))
 withdrawn_again p external [] [] attrs none nothing networks one = absurd (omega arith)
 withdrawn_again p external ws (n ∷ ns) attrs none nothing networks one = absurd (omega (arith, ap length none))
@@ -46,7 +46,7 @@ withdrawn_again p external (w ∷ v ∷ ws) [] attrs none nothing networks one =
 withdrawn_again p external (w ∷ []) [] (Some a) none nothing networks one = absurd (cc)
 withdrawn_again p external (w ∷ []) [] None none nothing networks one = withdrawal_is_read p external w (networks 0 w (omega arith))
 
-plain_again : (p : Profile) (external : Bool) (bytes : List ℕ) (r : Reading) (is : IsReading p external bytes r) → Octets bytes → (ws ns : List Network) (attrs : Option Attrs)
+plain_again : (p : Profile) (external : Bool) (bytes : List ℕ) (r : Reading) (is : IsReading p external bytes r) → Octets bytes → (ws ns : List AddressPrefix) (attrs : Option Attrs)
     → ArePrefixes is.announced ns → AreAttrsFor p external r.kept ns attrs → IsReadableUpdate p external (record { withdrawn = ws; announced = ns; attrs = attrs }) → length ws + length ns ≡ 1
     → Reads p external (update_octets p.as4 (record { withdrawn = ws; announced = ns; attrs = attrs })) (messages.Update (record { withdrawn = ws; announced = ns; attrs = attrs }))
 plain_again p external bytes r is octets ws [] attrs prefixes are readable one = withdrawn_again p external ws [] attrs refl are readable.withdrawn one

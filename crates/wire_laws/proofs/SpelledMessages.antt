@@ -4,7 +4,7 @@ use Rattle.std.specs.Prelude.{All}
 use Rattle.std.specs.List.{flat_map}
 use Rattle.std.proofs.lemmas.List.{length-append}
 use Rattle.byteorder.specs.Endian.{big_bytes}
-use Rattle.addr4.specs.Prefixes.{Network}
+use Rattle.addr4.specs.Prefixes.{AddressPrefix}
 use Rattle.bgp_attr.specs.declared.attrs.Attrs.{Attrs}
 use Rattle.bgp_attr.specs.declared.speaker.Profile.{Profile}
 use Rattle.bgp_attr.specs.declared.unrecognized.Unrecognized.{Unrecognized}
@@ -16,7 +16,7 @@ use Rattle.bgp_wire.specs.Updates.{has_kind, missing, lack}
 use Rattle.bgp_wire.specs.Grammar.{IsFrame, IsReading, Reads}
 use Rattle.bgp_wire.specs.Spelling.{path_octets, spelled, is_long, spelled_octets, optional, unrecognized_attribute, mandatory_attributes, clusters_attributes, sent_attributes, octets_of, prefixes_octets, fields_octets, framed, update_octets}
 use Rattle.bgp_wire.specs.Lengths.{announcement_length}
-use Rattle.bgp_wire.specs.Readable.{IsNetwork, IsReadable, withdrawal, announcement}
+use Rattle.bgp_wire.specs.Readable.{IsAddressPrefix, IsReadable, withdrawal, announcement}
 use Rattle.bgp_wire.proofs.SpelledLengths.{length-framed, fields_parts, length-fields, length-octets-append, length-spelled, length-first, length-sent}
 use Rattle.bgp_wire.proofs.SpellingLemmas.{alone}
 use Rattle.wire_laws.proofs.SpelledNumbers.{all_cons, spelled_prefixes}
@@ -37,10 +37,10 @@ fields_frame w a n top = subst (IsFrame (framed 2 (fields_octets w a n)) 2) (fie
 
 -- ---- one prefix is withdrawn
 
-withdrawn_length : (n : Network) → length (update_octets false (withdrawal n)) ≤ 4096
+withdrawn_length : (n : AddressPrefix) → length (update_octets false (withdrawal n)) ≤ 4096
 withdrawn_length n = omega (arith, length-fields (prefixes_octets (n ∷ [])) [] [], alone n, length-framed 2 (fields_octets (prefixes_octets (n ∷ [])) [] []))
 
-pub withdrawal_is_read : (p : Profile) (external : Bool) (n : Network) → IsNetwork n → Reads p external (update_octets p.as4 (withdrawal n)) (messages.Update (withdrawal n))
+pub withdrawal_is_read : (p : Profile) (external : Bool) (n : AddressPrefix) → IsAddressPrefix n → Reads p external (update_octets p.as4 (withdrawal n)) (messages.Update (withdrawal n))
 withdrawal_is_read p external n is =
     let w = prefixes_octets (n ∷ []) in
     let size : length w < 65536 = omega (arith, alone n) in
@@ -107,7 +107,7 @@ fit_lengths as4 a fits =
 nothing_lacks : (p : Profile) (kept : List Attribute) → has_kind 1 kept ≡ true → has_kind 2 kept ≡ true → has_kind 3 kept ≡ true → lack p (missing kept) ≡ Ok false
 nothing_lacks p kept a b c = rw (a, b, c) refl
 
-pub announcement_is_read : (p : Profile) (external : Bool) (n : Network) (a : Attrs) → IsNetwork n → IsReadable p external a → announcement_length p.as4 n a ≤ 4096
+pub announcement_is_read : (p : Profile) (external : Bool) (n : AddressPrefix) (a : Attrs) → IsAddressPrefix n → IsReadable p external a → announcement_length p.as4 n a ≤ 4096
     → Reads p external (update_octets p.as4 (announcement n a)) (messages.Update (announcement n a))
 unfolding announcement_length
 announcement_is_read p external n a is readable top =

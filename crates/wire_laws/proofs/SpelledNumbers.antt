@@ -6,14 +6,14 @@ use Rattle.std.proofs.lemmas.List.{length-take, drop_at}
 use Rattle.byteorder.specs.Endian.{big_number, big_bytes}
 use Rattle.byteorder.specs.Numbers.{big_number-reads_back, length-bytes_high_first}
 use Rattle.addr4.specs.Blocks.{size_of_length, masked_to}
-use Rattle.addr4.specs.Prefixes.{Network, IsMasked}
+use Rattle.addr4.specs.Prefixes.{AddressPrefix, IsMasked}
 use Rattle.addr4.proofs.BlockLemmas.{finer, size_splits, size_pos}
 use Rattle.bgp_attr.specs.declared.path.Segment.{Segment}
 use Rattle.bgp_wire.specs.Prefixes.{octets_for, IsPrefix, ArePrefixes}
 use Rattle.bgp_wire.specs.Paths.{width_of, numbers_at, IsSegment, IsPath}
 use Rattle.bgp_wire.specs.Spelling.{prefix_octets, prefixes_octets, segment_octets, path_octets}
 use Rattle.bgp_wire.proofs.SpelledLengths.{length-numbers}
-use Rattle.bgp_wire.specs.Readable.{IsNetwork, IsReadableSegment}
+use Rattle.bgp_wire.specs.Readable.{IsAddressPrefix, IsReadableSegment}
 
 pub all_first : {A : Type 0} (P : A → Type 0) (x : A) (xs : List A) → All P (x ∷ xs) → P x
 all_first P x xs all = all 0 x (omega arith)
@@ -28,7 +28,7 @@ all_cons P x xs first later (suc k) d lt = later k d (omega arith)
 -- ---- prefixes
 
 -- the low octets of a masked prefix are zero
-low_zeros : (p : Network) (k : ℕ) → IsMasked 32 p → p.length ≤ 8 * k → k ≤ 4 → p.address % size_of_length 32 (8 * k) ≡ 0
+low_zeros : (p : AddressPrefix) (k : ℕ) → IsMasked 32 p → p.length ≤ 8 * k → k ≤ 4 → p.address % size_of_length 32 (8 * k) ≡ 0
 low_zeros p k is le top =
     finer (2 ^ (8 * k - p.length)) (size_of_length 32 (8 * k)) p.address (size_pos 32 (8 * k))
     (subst (λ s. p.address % s ≡ 0) (size_splits 32 p.length (8 * k) le (omega arith)) is.1)
@@ -57,7 +57,7 @@ back n (suc (suc (suc zero))) fits le e = back_3 n fits e
 back n (suc (suc (suc (suc zero)))) fits le e = back_4 n fits
 back n (suc (suc (suc (suc (suc k))))) fits le e = absurd (omega arith)
 
-pub spelled_prefix : (p : Network) → IsNetwork p → IsPrefix (prefix_octets p) p
+pub spelled_prefix : (p : AddressPrefix) → IsAddressPrefix p → IsPrefix (prefix_octets p) p
 spelled_prefix p is =
     let k = octets_for p.length in
     let top : k ≤ 4 = omega (arith, is.masked.0) in
@@ -72,7 +72,7 @@ spelled_prefix p is =
       value = λ i. record { address = (value ∙ ap (λ n. masked_to 32 n p.length) (sym whole)) i; length = p.length };
     }
 
-pub spelled_prefixes : (p : Network) → IsNetwork p → ArePrefixes (prefixes_octets (p ∷ [])) (p ∷ [])
+pub spelled_prefixes : (p : AddressPrefix) → IsAddressPrefix p → ArePrefixes (prefixes_octets (p ∷ [])) (p ∷ [])
 spelled_prefixes p is = (prefix_octets p, [], refl, spelled_prefix p is, refl)
 
 -- ---- paths

@@ -1,6 +1,6 @@
 use Rattle.std.proofs.Common.{rules, ◌≡◌, false, Some, subst}
 use Rattle.std.specs.Ordering.{eq_by_cmp}
-use Rattle.addr4.specs.Prefixes.{Network, prefix_cmp}
+use Rattle.addr4.specs.Prefixes.{AddressPrefix, prefix_cmp}
 use Rattle.addr4.proofs.PrefixOrder.{one_prefix}
 use Rattle.fanout_queue.specs.Index.{IsFirstKey}
 use Rattle.fanout_queue.proofs.IndexLemmas.{no_number, other_number, this_number}
@@ -13,7 +13,7 @@ pub returns-then-eq : goal.returns-then-eq
 returns-then-eq c =
     let same = one_prefix c.in-Some.key.0 c.args.prefix (search rules) in
     this_number c.args.index.now c.args.prefix c.args.from c.in-Some.key.1
-    (subst (λ (q : Network). IsFirstKey c.args.index.now (c.args.prefix, c.args.from) (Some (q, c.in-Some.key.1))) same c.in-Some.ensures)
+    (subst (λ (q : AddressPrefix). IsFirstKey c.args.index.now (c.args.prefix, c.args.from) (Some (q, c.in-Some.key.1))) same c.in-Some.ensures)
 
 pub returns-else-eq : goal.returns-else-eq
 returns-else-eq c =

@@ -1,6 +1,6 @@
 use Rattle.std.proofs.Common.{◌≡◌, ◌∙◌, ◌<◌, Some, None, sym, ap, subst, arith}
-use Rattle.addr4.specs.Prefixes.{Network}
-use Rattle.addr4.proofs.HalfLemmas.{one_network}
+use Rattle.addr4.specs.Prefixes.{AddressPrefix}
+use Rattle.addr4.proofs.HalfLemmas.{one_address_prefix}
 use Rattle.nibble_trie.specs.Keys.{prefix_in, IsNextOf}
 use Rattle.nibble_trie.proofs.Chains.{one_found}
 use Rattle.nibble_trie.proofs.Rows.{prefix_found, row_none}
@@ -38,7 +38,7 @@ take_behind-requires-clause-below g c =
     let at = subst (λ l. IsNextOf keys p.address 0 l) c.in-Some.is c.first_leaf-entry.ensures.head in
     let n = c.index-node.result.now in
     let found = prefix_found c.args.leaves.now first n c.index-node.ensures in
-    λ q there. (head_address keys p.address first q at there, omega (arith, ap (λ (x : Network). x.length) (one_found keys first q n.prefix there found), c.length-length.ensures.value, c.length.ensures.value, c.if-length.true))
+    λ q there. (head_address keys p.address first q at there, omega (arith, ap (λ (x : AddressPrefix). x.length) (one_found keys first q n.prefix there found), c.length-length.ensures.value, c.length.ensures.value, c.if-length.true))
 
 pub returns-then-length-clause-whole : goal.returns-then-length-clause-whole
 returns-then-length-clause-whole g c = whole_joined c.args.leaves.now c.take_behind.new.leaves c.args.index.now c.args.prefix None c.requires c.take_behind.ensures.joins (c.known.ensures.fits, c.known.ensures.masked.0)
@@ -59,7 +59,7 @@ take_first-requires-clause-found g c =
     let at = subst (λ l. IsNextOf keys p.address 0 l) c.in-Some.is c.first_leaf-entry.ensures.head in
     let n = c.index-node.result.now in
     let found = prefix_found c.args.leaves.now first n c.index-node.ensures in
-    let same : n.prefix ≡ p = one_network n.prefix p (head_address keys p.address first n.prefix at found) (omega (arith, c.length-length.ensures.value, c.length-2.ensures.value, c.if-length-2.true)) in
+    let same : n.prefix ≡ p = one_address_prefix n.prefix p (head_address keys p.address first n.prefix at found) (omega (arith, c.length-length.ensures.value, c.length-2.ensures.value, c.if-length-2.true)) in
     found ∙ ap Some same
 
 pub returns-clause-before : goal.returns-clause-before

@@ -1,5 +1,5 @@
 use Rattle.std.proofs.lemmas.Result.{IfOk-weaker}
-use Rattle.bgp_wire.specs.Readable.{IsNetwork}
+use Rattle.bgp_wire.specs.Readable.{IsAddressPrefix}
 use Rattle.peer_out.specs.Changes.{CanBeRead}
 use Rattle.peer_out.proofs.SentLemmas.{can_be_read, announcement_said, sent_fits}
 use Rattle.peer_out.proofs.octets.announcement.Goals as goal
@@ -18,7 +18,7 @@ announce-requires-clause-short c =
 
 pub returns-clause-reads : goal.returns-clause-reads
 returns-clause-reads c =
-    let network : IsNetwork c.args.prefix = record { masked = c.known.ensures.masked; fits = c.known.ensures.fits } in
+    let network : IsAddressPrefix c.args.prefix = record { masked = c.known.ensures.masked; fits = c.known.ensures.fits } in
     let can : CanBeRead c.args.profile c.args.external c.args.prefix c.lent-attrs.result =
     can_be_read c.args.profile c.args.external c.args.prefix c.args.sent.now c.lent-attrs.result c.lent-attrs.ensures c.known_numbers.ensures c.requires in
     IfOk-weaker c.announce.result _ _

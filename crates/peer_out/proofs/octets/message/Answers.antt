@@ -1,7 +1,7 @@
 use Rattle.std.proofs.Common.{ℕ, List, Option, ap, sym, subst, ◌∙◌}
 use Rattle.std.proofs.lemmas.Result.{IfOk-weaker}
 use Rattle.bgp_attr.specs.declared.attrs.Attrs.{Attrs}
-use Rattle.bgp_wire.specs.Readable.{IsNetwork}
+use Rattle.bgp_wire.specs.Readable.{IsAddressPrefix}
 use Rattle.bgp_wire.specs.Spelling.{update_octets}
 use Rattle.peer_out.specs.Changes.{saying, IsReadAs}
 use Rattle.peer_out.proofs.SentLemmas.{said, no_longer, none_can}
@@ -27,7 +27,7 @@ returns-in-None-clause-octets c =
 pub returns-in-None-clause-reads : goal.returns-in-None-clause-reads
 returns-in-None-clause-reads c =
     let change = c.args.change.now in
-    let network : IsNetwork change.prefix = record { masked = c.known.ensures.masked; fits = c.known.ensures.fits } in
+    let network : IsAddressPrefix change.prefix = record { masked = c.known.ensures.masked; fits = c.known.ensures.fits } in
     let can = none_can c.args.profile c.args.external change.prefix change.after c.in-None.is in
     IfOk-weaker c.write_withdrawal.result _ _
     (λ octets is. said c.args.profile c.args.external change octets.items network can (is ∙ sym (ap (λ o. update_octets c.args.profile.as4 (saying change.prefix o)) c.in-None.is)))
@@ -36,7 +36,7 @@ returns-in-None-clause-reads c =
 pub returns-in-None-clause-short : goal.returns-in-None-clause-short
 returns-in-None-clause-short c =
     let change = c.args.change.now in
-    let network : IsNetwork change.prefix = record { masked = c.known.ensures.masked; fits = c.known.ensures.fits } in
+    let network : IsAddressPrefix change.prefix = record { masked = c.known.ensures.masked; fits = c.known.ensures.fits } in
     let can = none_can c.args.profile c.args.external change.prefix change.after c.in-None.is in
     IfOk-weaker c.write_withdrawal.result _ _
     (λ octets is. no_longer c.args.profile c.args.external octets.items (saying change.prefix change.after)

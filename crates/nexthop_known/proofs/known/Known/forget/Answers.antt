@@ -1,7 +1,7 @@
 use Rattle.std.proofs.Common.{Option, subst, ◌∙◌}
 use Rattle.std.specs.FinMap.{nat_cmp-IsAntisymmetric}
 use Rattle.std.specs.Cmp.{nat_cmp_total}
-use Rattle.addr4.specs.Prefixes.{Network}
+use Rattle.addr4.specs.Prefixes.{AddressPrefix}
 use Rattle.link_change.proofs.MapLemmas.{map_removed}
 use Rattle.nexthop_known.specs.Ties.{IsFreed}
 use Rattle.nexthop_known.proofs.KnownLemmas.{freed, came_of_known}
@@ -13,4 +13,4 @@ returns-clause-removed g c = map_removed nat_cmp_total nat_cmp-IsAntisymmetric c
 pub returns-clause-answer : goal.returns-clause-answer
 returns-clause-answer g c = λ h e.
     freed c.take_out-came.new.hops c.take_out-came.new.stale c.take_out-came.new.held h.came c.unshared.result c.take_out-came.ensures.tied
-    (subst (λ (x : Option Network). IsFreed c.take_out-came.new.held x c.unshared.result) (c.take_out-came.ensures.came ∙ came_of_known c.self.inside.hops c.args.self.now c.args.hop h c.self.view_is e) c.unshared.ensures)
+    (subst (λ (x : Option AddressPrefix). IsFreed c.take_out-came.new.held x c.unshared.result) (c.take_out-came.ensures.came ∙ came_of_known c.self.inside.hops c.args.self.now c.args.hop h c.self.view_is e) c.unshared.ensures)

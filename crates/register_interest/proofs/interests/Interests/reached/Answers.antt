@@ -1,6 +1,6 @@
 use Rattle.std.proofs.Common.{◌≡◌, arith, subst, ap, ◌∙◌}
 use Rattle.std.specs.FinMap as map
-use Rattle.addr4.specs.Prefixes.{Network, block}
+use Rattle.addr4.specs.Prefixes.{AddressPrefix, block}
 use Rattle.register_interest.specs.Width.{width}
 use Rattle.register_interest.specs.Interests.{Appends}
 use Rattle.register_interest.proofs.InterestLemmas.{above_first, above_more, above_all, none_reached}
@@ -13,7 +13,7 @@ pub loop-length-preserved : goal.loop-length-preserved
 loop-length-preserved c =
     let lt = c.loop-length-test.true in
     let s_is = c.block.ensures ∙ ap (λ a. block width a c.loop-length.length) c.address.ensures in
-    let at = subst (λ (s : Network). Appends width c.args.prefix (map.get c.args.self.now) (λ k. k.subnet ≡ s) c.loop-length.out.items c.push_at.new.out.items) s_is c.in_ok-push_at.ensures in
+    let at = subst (λ (s : AddressPrefix). Appends width c.args.prefix (map.get c.args.self.now) (λ k. k.subnet ≡ s) c.loop-length.out.items c.push_at.new.out.items) s_is c.in_ok-push_at.ensures in
     above_more width c.loop-length.length c.args.prefix c.args.self.now c.loop-length.out.items c.push_at.new.out.items c.known.ensures.masked (let v = c.length-length-end.ensures.value in omega arith) c.requires c.loop-length.invariant at
 
 pub returns : goal.returns

@@ -1,4 +1,4 @@
-use Rattle.router_moments.proofs.Common.{sym, subst, List, take, Network, Attrs, Profile, Pushes, AreHeard, HaveFed}
+use Rattle.router_moments.proofs.Common.{sym, subst, List, take, AddressPrefix, Attrs, Profile, Pushes, AreHeard, HaveFed}
 use Rattle.std.specs.Prelude.{Option}
 use Rattle.router_moments.proofs.FeedLemmas.{fed_profile, pushed_more, take_pair, heard_at}
 use Rattle.router_core.proofs.network.Network.feed.Goals as goal
@@ -6,7 +6,7 @@ use Rattle.router_core.proofs.network.Network.feed.Goals as goal
 pub loop-change-preserved : goal.loop-change-preserved
 loop-change-preserved c =
     let more = take_pair c.args.changes.now c.loop-change.change-index c.change-item.result c.in_ok-row.row c.loop-change-test.true c.change-item.is c.in_ok-row.ensures in
-    subst (λ (xs : List (Network × Option Attrs)). Pushes (HaveFed c.args.number xs c.args.self.now c.feed_one.new.self) c.args.journal.now c.feed_one.new.journal) (sym more)
+    subst (λ (xs : List (AddressPrefix × Option Attrs)). Pushes (HaveFed c.args.number xs c.args.self.now c.feed_one.new.self) c.args.journal.now c.feed_one.new.journal) (sym more)
     (pushed_more c.args.number (take c.loop-change.change-index c.args.changes.now) (c.change-item.result.0, c.in_ok-row.row) c.args.self.now c.loop-change.self c.feed_one.new.self
     c.args.journal.now c.loop-change.journal c.feed_one.new.journal c.loop-change.invariant c.in_ok-feed_one.ensures)
 
