@@ -7,7 +7,8 @@ exactly one row, and each dependency on a crate of this repository must be reach
 rooms must have each crate once. The longest chain of crates is computed; the one that is written must be as long, and each
 crate in it must depend on the one before.
 
-Numbers that documents state of the repository (COUNTS) must be what is counted, and must be stated.
+Numbers that documents state of the repository (COUNTS) must be what is counted, and must be stated. No crate has more than
+one edit in must-fail/: the others stand in wrong-bodies/ (CONTRIBUTING.md).
 """
 import functools
 import glob
@@ -128,6 +129,9 @@ def faults():
         if not said:
             yield page, 'states no number by the pattern %s, which should be %s' % (pattern, count())
         yield from ((page, 'says %s, and it is %s (%s)' % (it, count(), pattern)) for it in said if it != count())
+    tried = {crate: counted('crates/%s/must-fail/*.edit' % crate) for crate in deps}
+    yield from (('CONTRIBUTING.md', 'says that the gate tries one edit of a crate, and %s has %d' % it)
+                for it in sorted(tried.items()) if it[1] > 1)
 
 
 if __name__ == '__main__':
