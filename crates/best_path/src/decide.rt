@@ -2,6 +2,7 @@
 
 ghost use Rattle.std.specs.Prelude.{◌≡◌, ◌≤◌, if◌then◌else◌, true, [], List, length, map, MatchOption, IfSome};
 ghost use Rattle.std.specs.List.{list_any};
+ghost use Rattle.std.specs.Option.{option_copied};
 ghost use Rattle.bgp_attr.specs.declared.route.Route.{Route};
 ghost use Rattle.best_path.specs.Keys.{is_local, candidate_of};
 ghost use Rattle.best_path.specs.Steps.{beats_by, kept_by, unbeaten_by, is_level, IsPlaceOfBest};
@@ -15,26 +16,30 @@ use crate::step::{Step, beats};
 pub const MOST: usize = 65;
 
 // A marked candidate that no marked one beats.
-fn leader(step: Step, candidates: &[Candidate], marks: &[bool; MOST]) -> Option<Candidate>
+fn leader<'a>(
+    step: Step,
+    candidates: &'a [Candidate],
+    marks: &[bool; MOST],
+) -> Option<&'a Candidate>
     requires { length candidates.now ≤ 65 }
-    ensures { MatchOption result (marked candidates.now marks.now ≡ []) (Leads step (marked candidates.now marks.now)) }
+    ensures { MatchOption (option_copied result) (marked candidates.now marks.now ≡ []) (Leads step (marked candidates.now marks.now)) }
 {
-    let mut leader: Option<Candidate> = None;
+    let mut leader: Option<&'a Candidate> = None;
     for (i, one) in candidates.iter().enumerate() {
         if marks[i] {
-            leader = Some(better(step, leader, *one));
+            leader = Some(better(step, leader, one));
         }
     }
     leader
 }
 
 // The one that leads, once one more is known.
-fn better(step: Step, leader: Option<Candidate>, one: Candidate) -> Candidate
-    ensures { MatchOption leader (result ≡ one) (λ best. result ≡ (if beats_by step one best then one else best)) }
+fn better<'a>(step: Step, leader: Option<&'a Candidate>, one: &'a Candidate) -> &'a Candidate
+    ensures { MatchOption (option_copied leader.entry) (result.now ≡ one.now) (λ best. result.now ≡ (if beats_by step one.now best then one.now else best)) }
 {
     match leader {
         None => one,
-        Some(best) => { if beats(step, &one, &best) { one } else { best } }
+        Some(best) => { if beats(step, one, best) { one } else { best } }
     }
 }
 
@@ -62,7 +67,7 @@ fn keep_level(step: Step, candidates: &[Candidate], marks: &[bool; MOST]) -> [bo
     ensures { Keeps (kept_by step) candidates.now marks.now result }
 {
     match leader(step, candidates, marks) {
-        Some(best) => keep_unbeaten_by(&best, step, candidates, marks),
+        Some(best) => keep_unbeaten_by(best, step, candidates, marks),
         None => *marks,
     }
 }

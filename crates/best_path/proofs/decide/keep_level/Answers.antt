@@ -7,8 +7,8 @@ use Rattle.best_path.proofs.decide.keep_level.Goals as goal
 pub returns-in-Some : goal.returns-in-Some
 returns-in-Some c = λ routes is.
     c.keep_unbeaten_by.ensures routes is
-    ∙ level_kept c.args.step c.requires.level (marked routes c.args.marks.now) c.in-Some.best
-    (subst (λ l. Leads c.args.step l c.in-Some.best) (marked_of routes c.args.candidates.now is c.args.marks.now) c.in-Some.ensures)
+    ∙ level_kept c.args.step c.requires.level (marked routes c.args.marks.now) c.in-Some.best.now
+    (subst (λ l. Leads c.args.step l c.in-Some.best.now) (marked_of routes c.args.candidates.now is c.args.marks.now) c.in-Some.ensures)
 
 pub returns-in-None : goal.returns-in-None
 returns-in-None c = λ routes is.
