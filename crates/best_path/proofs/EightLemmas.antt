@@ -1,5 +1,5 @@
 -- Where no route is reflected, the eight steps of RFC 4271 leave what the nine leave.
-use Rattle.std.proofs.Common.{◌≡◌, ℕ, Bool, true, not, nat_lt, List, [], ◌∷◌, ◌++◌, refl, ◌∙◌, ap, subst, inl, inr}
+use Rattle.std.proofs.Common.{◌≡◌, ℕ, Bool, not, nat_lt, List, [], ◌∷◌, ◌++◌, refl, ◌∙◌, ap, subst, inl, inr}
 use Rattle.std.specs.Prelude.{filter}
 use Rattle.std.specs.List.{list_any}
 use Rattle.bgp_attr.specs.Reflections.{not_reflected}
@@ -11,7 +11,7 @@ use Rattle.best_path.specs.Steps.{keep_least, lowest_identifier, lowest_peer_ide
 use Rattle.best_path.specs.Laws.{NoneIsReflected, EightStepsLeaveTheSame, EightStepsPickTheSame}
 use Rattle.best_path.proofs.StepLemmas.{Has, left_by}
 use Rattle.best_path.proofs.LawLemmas.{has_contains, left_of}
-use Rattle.best_path.proofs.LeaderLemmas.{none_of, same_test}
+use Rattle.best_path.proofs.LeaderLemmas.{none_of, same_test, all_pass}
 
 same_any : {X : Type 0} → (p q : X → Bool) (xs : List X) → ((u : X) → Has xs u → p u ≡ q u) → list_any p xs ≡ list_any q xs
 same_any p q [] h = refl
@@ -24,10 +24,6 @@ least_by_same key other list e =
     same_test (λ u. not (list_any (λ one. nat_lt (key one) (key u)) list)) (λ u. not (list_any (λ one. nat_lt (other one) (other u)) list)) list
     (λ u h. ap not
     (same_any (λ one. nat_lt (key one) (key u)) (λ one. nat_lt (other one) (other u)) list (λ one k. rw (e one k) (rw (e u h) refl))))
-
-all_pass : {X : Type 0} → (p : X → Bool) (xs : List X) → ((u : X) → p u ≡ true) → filter p xs ≡ xs
-all_pass p [] h = refl
-all_pass p (x ∷ xs) h = rw (h x) (rw (all_pass p xs h) refl)
 
 -- where all have one key, all are the least
 least_by_none : (list : List Route) → keep_least (λ r. 0) list ≡ list

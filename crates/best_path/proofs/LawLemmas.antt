@@ -8,7 +8,7 @@ use Rattle.bgp_attr.specs.declared.route.Route.{Route}
 use Rattle.best_path.specs.declared.step.Step.{Step}
 use Rattle.best_path.specs.declared.step.Step.TheVariants.{Address}
 use Rattle.best_path.specs.Keys.{is_local, peer_address, candidate_of}
-use Rattle.best_path.specs.Marks.{first_of}
+use Rattle.best_path.specs.Places.{first_of}
 use Rattle.best_path.specs.Steps.{beats_by, kept_by, left_by_all, local_or, pick, IsPlaceOfBest}
 use Rattle.best_path.specs.Laws.{PickIsOneOfThem, NoneOnlyOfNothing, OneIsItsOwnBest, AtMostOneIsLeft, OrderDoesNotMatter}
 use Rattle.best_path.proofs.StepLemmas.{Has, passed, passes, left_by, steps_before_last, all_steps}
@@ -150,7 +150,7 @@ found_case : {X : Type 0} → (p : X → Bool) (x : X) (xs : List X) (b : Bool) 
 found_case p x xs true e t k = (x, (inl refl, e))
 found_case p x xs false e t k = let r = k t in (r.0, (inr r.1.0, r.1.1))
 
-found : {X : Type 0} → (p : X → Bool) (xs : List X) → list_any p xs ≡ true → (u : X) × (Has xs u × (p u ≡ true))
+pub found : {X : Type 0} → (p : X → Bool) (xs : List X) → list_any p xs ≡ true → (u : X) × (Has xs u × (p u ≡ true))
 found p [] t = grind (arith, t)
 found p (x ∷ xs) t = found_case p x xs (p x) refl t (λ k. found p xs k)
 

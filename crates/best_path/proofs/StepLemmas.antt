@@ -166,34 +166,20 @@ keeps_one step list h =
       along = λ r s t h k. (strict step).along (candidate_of r) (candidate_of s) (candidate_of t) h k;
     }) list h
 
--- a step keeps one alone
-pub keeps_alone : (step : Step) (r : Route) → kept_by step (r ∷ []) ≡ r ∷ []
-keeps_alone step r = rw ((strict step).never_itself (candidate_of r)) refl
-
 -- ---- steps one after the other
 abbrev pub left_by : List Step → List Route → List Route
 left_by [] list = list
 left_by (step ∷ steps) list = left_by steps (kept_by step list)
 
--- the steps of the decision: the first two, after which one may be left, those between, and the last one
-abbrev pub steps_between : List Step
-steps_between = Origin ∷ Med ∷ External ∷ InteriorMetric ∷ Identifier ∷ ClusterCount ∷ []
-
-abbrev pub later_steps : List Step
-later_steps = steps_between ++ Address ∷ []
-
+-- the steps of the decision
 abbrev pub steps_before_last : List Step
-steps_before_last = Preference ∷ PathLength ∷ steps_between
+steps_before_last =
+    Preference ∷ PathLength ∷ Origin ∷ Med ∷ External ∷ InteriorMetric ∷ Identifier ∷ ClusterCount ∷ []
 
 abbrev pub all_steps : List Step
-all_steps = Preference ∷ PathLength ∷ later_steps
+all_steps = steps_before_last ++ Address ∷ []
 
 -- they take out no last one
 pub leave_one : (steps : List Step) (list : List Route) → left_by steps list ≡ [] → list ≡ []
 leave_one [] list h = h
 leave_one (step ∷ steps) list h = keeps_one step list (leave_one steps (kept_by step list) h)
-
--- they keep one alone
-pub leave_alone : (steps : List Step) (r : Route) → left_by steps (r ∷ []) ≡ r ∷ []
-leave_alone [] r = refl
-leave_alone (step ∷ steps) r = ap (left_by steps) (keeps_alone step r) ∙ leave_alone steps r

@@ -1,5 +1,5 @@
 pub mod Keys
 pub mod Steps
-pub mod Marks
+pub mod Places
 pub mod Laws
 pub mod Leaders

@@ -7,7 +7,7 @@ use Rattle.best_path.specs.declared.candidate.Candidate.{Candidate}
 use Rattle.best_path.specs.declared.step.Step.{Step}
 use Rattle.best_path.specs.declared.step.Step.TheVariants.{Preference, PathLength, Origin, Med, External, InteriorMetric, Identifier, ClusterCount, Address}
 use Rattle.best_path.specs.Keys.{is_local, path_length, origin_rank, neighbour_as, med, is_internal, interior_metric, peer_identifier, identifier, cluster_count, peer_address, candidate_of}
-use Rattle.best_path.specs.Marks.{first_of}
+use Rattle.best_path.specs.Places.{first_of}
 
 -- those that no one in the list beats
 abbrev pub unbeaten : (Route → Route → Bool) → List Route → List Route
@@ -103,10 +103,6 @@ beats_by InteriorMetric one other = nat_lt one.igp other.igp
 beats_by Identifier one other = nat_lt one.id other.id
 beats_by ClusterCount one other = nat_lt one.clusters other.clusters
 beats_by Address one other = nat_lt one.addr other.addr
-
--- the routes whose candidates this one does not beat
-abbrev pub unbeaten_by : Step → Candidate → List Route → List Route
-unbeaten_by step best list = filter (λ other. not (beats_by step best (candidate_of other))) list
 
 -- what a step keeps
 abbrev pub kept_by : Step → List Route → List Route

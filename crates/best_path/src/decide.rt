@@ -1,130 +1,92 @@
-//! The best candidate.
+//! The best candidate, in two passes that copy and mark none.
+//!
+//! The first pass finds one that leads in the steps before MULTI_EXIT_DISC (1 to 3). Whom it does not leave behind there is as
+//! good as it in each of them. The second pass goes over those: it passes by whom MULTI_EXIT_DISC takes out (step 4), and keeps
+//! the first one that leads in the steps behind it (5 to 9).
 
-ghost use Rattle.std.specs.Prelude.{◌≡◌, ◌≤◌, if◌then◌else◌, true, [], List, length, map, MatchOption, IfSome};
-ghost use Rattle.std.specs.List.{list_any};
-ghost use Rattle.std.specs.Option.{option_copied};
+ghost use Rattle.std.specs.Prelude.{◌≡◌, ◌≤◌, ◌<◌, ◌&&◌, true, List, None, length, map, MatchOption};
+ghost use Rattle.std.specs.Option.{option_copied, option_map_or};
 ghost use Rattle.bgp_attr.specs.declared.route.Route.{Route};
-ghost use Rattle.best_path.specs.Keys.{is_local, candidate_of};
-ghost use Rattle.best_path.specs.Steps.{beats_by, kept_by, unbeaten_by, is_level, IsPlaceOfBest};
-ghost use Rattle.best_path.specs.Leaders.{Leads};
-ghost use Rattle.best_path.specs.Marks.{marked, Keeps, FindsFirst, FindsOnly, those_marked, those_local};
+ghost use Rattle.best_path.specs.Keys.{candidate_of};
+ghost use Rattle.best_path.specs.Steps.{left_by_all, IsPlaceOfBest};
+ghost use Rattle.best_path.specs.Leaders.{Leads, first_steps, last_steps, goes_before, is_taken_out, is_left, has_local};
+ghost use Rattle.best_path.specs.Places.{FindsFirst, those_local};
 
 use crate::candidate::Candidate;
-use crate::step::{Step, beats};
+use crate::step::{Step, beats, is_ahead, is_nearer};
 
 /// At most how many candidates there are: those of 64 peers, and the local one.
 pub const MOST: usize = 65;
 
-// A marked candidate that no marked one beats.
-fn leader<'a>(
-    step: Step,
-    candidates: &'a [Candidate],
-    marks: &[bool; MOST],
-) -> Option<&'a Candidate>
-    requires { length candidates.now ≤ 65 }
-    ensures { MatchOption (option_copied result) (marked candidates.now marks.now ≡ []) (Leads step (marked candidates.now marks.now)) }
+// One that leads in steps 1 to 3, where none is local; else none.
+fn leader(candidates: &[Candidate]) -> Option<&Candidate>
+    requires { 0 < length candidates.now }
+    ensures lead { MatchOption (option_copied result) (has_local candidates.now ≡ true) (Leads first_steps candidates.now) }
+    ensures local { MatchOption (option_copied result) (has_local candidates.now ≡ true) (λ lead. FindsFirst those_local candidates.now None) }
 {
-    let mut leader: Option<&'a Candidate> = None;
+    let mut lead = &candidates[0];
     for (i, one) in candidates.iter().enumerate() {
-        if marks[i] {
-            leader = Some(better(step, leader, one));
+        if one.local {
+            return None;
+        }
+        if is_ahead(one, lead) {
+            lead = one;
         }
     }
-    leader
+    Some(lead)
 }
 
-// The one that leads, once one more is known.
-fn better<'a>(step: Step, leader: Option<&'a Candidate>, one: &'a Candidate) -> &'a Candidate
-    ensures { MatchOption (option_copied leader.entry) (result.now ≡ one.now) (λ best. result.now ≡ (if beats_by step one.now best then one.now else best)) }
-{
-    match leader {
-        None => one,
-        Some(best) => { if beats(step, one, best) { one } else { best } }
-    }
-}
-
-// The marks of those that this one does not beat.
-fn keep_unbeaten_by(
-    best: &Candidate,
-    step: Step,
-    candidates: &[Candidate],
-    marks: &[bool; MOST],
-) -> [bool; MOST]
-    requires { length candidates.now ≤ 65 }
-    ensures { Keeps (unbeaten_by step best.now) candidates.now marks.now result }
-{
-    let mut kept = *marks;
-    for (i, candidate) in candidates.iter().enumerate() {
-        kept[i] = marks[i] && !beats(step, best, candidate);
-    }
-    kept
-}
-
-// The marks of those that a step by a key keeps: two passes are enough.
-fn keep_level(step: Step, candidates: &[Candidate], marks: &[bool; MOST]) -> [bool; MOST]
-    requires few { length candidates.now ≤ 65 }
-    requires level { is_level step ≡ true }
-    ensures { Keeps (kept_by step) candidates.now marks.now result }
-{
-    match leader(step, candidates, marks) {
-        Some(best) => keep_unbeaten_by(best, step, candidates, marks),
-        None => *marks,
-    }
-}
-
-// Whether one of the marked candidates takes this one out.
-fn is_beaten(step: Step, candidates: &[Candidate], marks: &[bool; MOST], other: &Candidate) -> bool
-    requires { length candidates.now ≤ 65 }
-    ensures { result ≡ list_any (λ one. beats_by step one other.now) (marked candidates.now marks.now) }
+// Whether MULTI_EXIT_DISC takes a candidate out (step 4): whether one of those that the lead does not leave behind has the same
+// neighbour AS and a lower one.
+fn is_taken_out(candidates: &[Candidate], lead: &Candidate, other: &Candidate) -> bool
+    ensures { result ≡ is_taken_out candidates.now lead.now other.now }
 {
     for (i, one) in candidates.iter().enumerate() {
-        if marks[i] && beats(step, one, other) {
+        if beats(Step::Med, one, other) && !is_ahead(lead, one) {
             return true;
         }
     }
     false
 }
 
-// The marks of those that any step keeps: each pair is compared.
-fn keep_pairwise(step: Step, candidates: &[Candidate], marks: &[bool; MOST]) -> [bool; MOST]
-    requires { length candidates.now ≤ 65 }
-    ensures { Keeps (kept_by step) candidates.now marks.now result }
+// Whether a candidate is left by steps 1 to 4, and goes before the best so far in steps 5 to 9. Step 4 is asked last: only of
+// whom it may still matter.
+fn takes_over(
+    candidates: &[Candidate],
+    lead: &Candidate,
+    best: Option<&Candidate>,
+    one: &Candidate,
+) -> bool
+    ensures { result ≡ (is_left candidates.now lead.now one.now && option_map_or (λ other. goes_before last_steps one.now other) (option_copied best.entry) true) }
 {
-    let mut kept = *marks;
-    for (i, candidate) in candidates.iter().enumerate() {
-        kept[i] = marks[i] && !is_beaten(step, candidates, marks, candidate);
+    if is_ahead(lead, one) {
+        return false;
     }
-    kept
-}
-
-// The place of the first marked candidate.
-fn first_marked(candidates: &[Candidate], marks: &[bool; MOST]) -> Option<usize>
-    requires { length candidates.now ≤ 65 }
-    ensures { FindsFirst (those_marked marks.now) candidates.now result }
-{
-    for (i, _) in candidates.iter().enumerate() {
-        if marks[i] {
-            return Some(i);
+    if let Some(other) = best {
+        if !is_nearer(one, other) {
+            return false;
         }
     }
-    None
+    !is_taken_out(candidates, lead, one)
 }
 
-// The place of the one marked candidate, where just one is marked.
-fn only_marked(candidates: &[Candidate], marks: &[bool; MOST]) -> Option<usize>
-    requires { length candidates.now ≤ 65 }
-    ensures { IfSome result (FindsOnly (those_marked marks.now) candidates.now) }
+// The place of the first one that the nine steps leave, where this one leads in the first three.
+fn first_left(candidates: &[Candidate], lead: &Candidate) -> Option<usize>
+    requires { Leads first_steps candidates.now lead.now }
+    ensures { FindsFirst left_by_all candidates.now result }
 {
-    let mut only = None;
-    for (i, _) in candidates.iter().enumerate() {
-        if marks[i] {
-            if only.is_some() {
-                return None;
-            }
-            only = Some(i);
+    let mut best: Option<&Candidate> = None;
+    let mut place = 0;
+    for (i, one) in candidates.iter().enumerate() {
+        if takes_over(candidates, lead, best, one) {
+            best = Some(one);
+            place = i;
         }
     }
-    only
+    match best {
+        None => None,
+        Some(_) => Some(place),
+    }
 }
 
 // The place of the first local candidate.
@@ -141,26 +103,13 @@ fn first_local(candidates: &[Candidate]) -> Option<usize>
 
 // The same of any number of candidates: the steps are needed only where there are several.
 fn best_by_steps(candidates: &[Candidate]) -> Option<usize>
-    requires { length candidates.now ≤ 65 }
+    requires { 0 < length candidates.now }
     ensures { (routes : List Route) → map candidate_of routes ≡ candidates.now → IsPlaceOfBest routes result }
 {
-    if let Some(place) = first_local(candidates) {
-        return Some(place);
+    match leader(candidates) {
+        None => first_local(candidates),
+        Some(lead) => first_left(candidates, lead),
     }
-    let preferred = keep_level(Step::Preference, candidates, &[true; MOST]);
-    let shortest = keep_level(Step::PathLength, candidates, &preferred);
-    // The steps behind keep the only one that is left.
-    if let Some(place) = only_marked(candidates, &shortest) {
-        return Some(place);
-    }
-    let originated = keep_level(Step::Origin, candidates, &shortest);
-    let discriminated = keep_pairwise(Step::Med, candidates, &originated);
-    let external = keep_level(Step::External, candidates, &discriminated);
-    let nearest = keep_level(Step::InteriorMetric, candidates, &external);
-    let identified = keep_level(Step::Identifier, candidates, &nearest);
-    let reflected = keep_level(Step::ClusterCount, candidates, &identified);
-    let left = keep_level(Step::Address, candidates, &reflected);
-    first_marked(candidates, &left)
 }
 
 /// The place of the best candidate: of any routes whose candidates these are, that of the route which the decision process

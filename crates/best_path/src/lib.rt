@@ -7,10 +7,14 @@
 //! counts between routes of one neighbour AS alone: a decision that compares a new route with the former best one only
 //! would depend on the order in which routes came.
 //!
+//! The steps before MULTI_EXIT_DISC are each by a key, and so are those behind it: where one leads in several such steps,
+//! one after the other, they leave whom it does not go before in the first of them in which both differ. So three
+//! comparisons do for nine filters, and two passes over the list are enough (`decide.rt`).
+//!
 //! What is kept true: the definitions (`specs/Steps.antt`) speak of routes, in the words of the standard, and the place
-//! that [`best`] answers is that of the route which they pick. No memory is taken: who is left is a row of marks. The laws
-//! say that the best is one of the list, that there is one wherever there is a route, that the order of the list does not
-//! matter, and that the eight steps of RFC 4271 decide where no route was reflected. The stage `decision` uses this crate.
+//! that [`best`] answers is that of the route which they pick. No memory is taken. The laws say that the best is one of the
+//! list, that there is one wherever there is a route, that the order of the list does not matter, and that the eight steps
+//! of RFC 4271 decide where no route was reflected. The stage `decision` uses this crate.
 #![tactic(auto)]
 
 mod candidate;

@@ -2,6 +2,7 @@
 
 ghost use Rattle.std.specs.Prelude.{◌≡◌};
 ghost use Rattle.best_path.specs.Steps.{beats_by};
+ghost use Rattle.best_path.specs.Leaders.{first_steps, last_steps, goes_before};
 
 use crate::candidate::Candidate;
 
@@ -35,4 +36,38 @@ pub(crate) fn beats(step: Step, one: &Candidate, other: &Candidate) -> bool
         Step::ClusterCount => one.clusters < other.clusters,
         Step::Address => one.addr < other.addr,
     }
+}
+
+/// Whether a candidate goes before the other one in the steps before MULTI_EXIT_DISC: the first of them in which they differ
+/// decides.
+pub(crate) fn is_ahead(one: &Candidate, other: &Candidate) -> bool
+    ensures { result ≡ goes_before first_steps one.now other.now }
+{
+    if one.pref != other.pref {
+        return beats(Step::Preference, one, other);
+    }
+    if one.hops != other.hops {
+        return beats(Step::PathLength, one, other);
+    }
+    beats(Step::Origin, one, other)
+}
+
+/// Whether a candidate goes before the other one in the steps behind MULTI_EXIT_DISC: the first of them in which they differ
+/// decides.
+pub(crate) fn is_nearer(one: &Candidate, other: &Candidate) -> bool
+    ensures { result ≡ goes_before last_steps one.now other.now }
+{
+    if one.internal != other.internal {
+        return beats(Step::External, one, other);
+    }
+    if one.igp != other.igp {
+        return beats(Step::InteriorMetric, one, other);
+    }
+    if one.id != other.id {
+        return beats(Step::Identifier, one, other);
+    }
+    if one.clusters != other.clusters {
+        return beats(Step::ClusterCount, one, other);
+    }
+    beats(Step::Address, one, other)
 }

@@ -1,6 +1,6 @@
 use Rattle.std.proofs.Common.{◌∙◌}
 use Rattle.best_path.specs.Keys.{candidate_of}
-use Rattle.best_path.proofs.MarkLemmas.{as_many}
+use Rattle.best_path.proofs.PlaceLemmas.{as_many}
 use Rattle.best_path.proofs.LawLemmas.{picked_only}
 use Rattle.best_path.proofs.decide.best.Goals as goal
 

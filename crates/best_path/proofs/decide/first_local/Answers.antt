@@ -1,7 +1,7 @@
 use Rattle.std.proofs.Common.{◌≡◌, [], arith, subst}
 use Rattle.best_path.specs.Keys.{candidate_of}
-use Rattle.best_path.specs.Marks.{those_local}
-use Rattle.best_path.proofs.MarkLemmas.{filter_first_of, filter_none_more_of, up_to_all}
+use Rattle.best_path.specs.Places.{those_local}
+use Rattle.best_path.proofs.PlaceLemmas.{filter_first_of, filter_none_more_of, up_to_all}
 use Rattle.best_path.proofs.decide.first_local.Goals as goal
 
 pub returns-then-candidate : goal.returns-then-candidate

@@ -1,7 +1,7 @@
 use Rattle.std.proofs.Common.{◌≡◌, take, map, List, []}
 use Rattle.bgp_attr.specs.declared.route.Route.{Route}
 use Rattle.best_path.specs.Keys.{candidate_of}
-use Rattle.best_path.specs.Marks.{those_local}
+use Rattle.best_path.specs.Places.{those_local}
 use Rattle.best_path.proofs.decide.first_local.Given as goal
 
 abbrev pub invariant-loop-i : goal.invariant-loop-i

@@ -1,6 +1,12 @@
-use Rattle.std.specs.Option.{option_copied}
-use Rattle.best_path.proofs.LeaderLemmas.{LeadsFront}
+use Rattle.std.proofs.Common.{◌≡◌, take, map, List, []}
+use Rattle.bgp_attr.specs.declared.route.Route.{Route}
+use Rattle.best_path.specs.Keys.{candidate_of}
+use Rattle.best_path.specs.Places.{those_local}
+use Rattle.best_path.proofs.NearestLemmas.{LeadsFront}
 use Rattle.best_path.proofs.decide.leader.Given as goal
 
 abbrev pub invariant-loop-i : goal.invariant-loop-i
-invariant-loop-i l = LeadsFront l.step l.candidates l.marks l.i (option_copied l.leader)
+invariant-loop-i l = record {
+  lead : LeadsFront l.candidates l.i l.lead;
+  local : (routes : List Route) → map candidate_of routes ≡ l.candidates → those_local (take l.i routes) ≡ [];
+}

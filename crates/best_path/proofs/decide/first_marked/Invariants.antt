@@ -1,8 +1,0 @@
-use Rattle.std.proofs.Common.{◌≡◌, take, map, List, []}
-use Rattle.bgp_attr.specs.declared.route.Route.{Route}
-use Rattle.best_path.specs.Keys.{candidate_of}
-use Rattle.best_path.specs.Marks.{marked}
-use Rattle.best_path.proofs.decide.first_marked.Given as goal
-
-abbrev pub invariant-loop-i : goal.invariant-loop-i
-invariant-loop-i l = (routes : List Route) → map candidate_of routes ≡ l.candidates → marked (take l.i routes) l.marks ≡ []
