@@ -5,33 +5,37 @@ ghost use Rattle.best_path.specs.Keys.{neighbour_as, origin_rank, candidate_of};
 
 use addr4::Addr;
 use bgp_attr::{Origin, Route};
+use std::mem::size_of;
 
 /// What the decision compares of a route; made of one by [`Candidate::of`]. That a route is local decides alone: of a local
 /// one the rest counts nowhere.
 #[derive(Clone, Copy, PartialEq, Eq)]
 pub struct Candidate {
-    /// Whether this speaker made the route: it came from no peer.
-    pub(crate) local: bool,
-    /// The degree of preference (RFC 4271, section 9.1.1).
-    pub(crate) pref: u32,
     /// How many AS numbers the path has, an AS_SET counting 1 (section 9.1.2.2 a).
     pub(crate) hops: u128,
-    pub(crate) origin: Origin,
+    /// How many clusters the route went through (RFC 4456, section 9).
+    pub(crate) clusters: u64,
+    /// The degree of preference (RFC 4271, section 9.1.1).
+    pub(crate) pref: u32,
     /// The AS within which MULTI_EXIT_DISC is compared (section 9.1.2.2 c).
     pub(crate) neighbour_as: u32,
     /// MULTI_EXIT_DISC, 0 where there is none.
     pub(crate) med: u32,
-    /// Whether an internal peer sent the route.
-    pub(crate) internal: bool,
     /// The interior metric of the next hop, 0 where it isn't known.
     pub(crate) igp: u32,
     /// ORIGINATOR_ID, or the peer's BGP identifier where there is none (RFC 4456, section 9).
     pub(crate) id: Addr,
-    /// How many clusters the route went through (RFC 4456, section 9).
-    pub(crate) clusters: u64,
     /// The peer's address.
     pub(crate) addr: Addr,
+    pub(crate) origin: Origin,
+    /// Whether this speaker made the route: it came from no peer.
+    pub(crate) local: bool,
+    /// Whether an internal peer sent the route.
+    pub(crate) internal: bool,
 }
+
+// Lines of candidates are kept, so none is to grow.
+const _: () = prove!(size_of::<Candidate>() <= 64);
 
 impl Candidate {
     /// The candidate that a route is.
