@@ -94,6 +94,23 @@ chain_lags c (Del k s) p = k == c.incoming.number && has_row (table_of s c.incom
 chain_lags c (Fin k) p = k == c.incoming.number && row_lags c.filter p (in_rows c.incoming p)
 chain_lags c other p = false
 
+-- The next turn of the stage of a session takes the row at this prefix: the stage stands, and this is its least row.
+pub record TakesNext (c : Chained) (session : ℕ) (p : AddressPrefix) : Type 0 where
+  pub row : Attrs
+  pub table : FinMap prefix_cmp Attrs
+  pub stands : table_of session c.incoming.tables.deletions ≡ Some table
+  pub least : IsLeastRow (tables.get table) p (Some row)
+
+-- the next turn of a task takes the row at this prefix: only a stage's does
+abbrev pub IsNextLost : Chained → Task → AddressPrefix → Type 0
+IsNextLost c (Del k s) p = (k ≡ c.incoming.number) × TakesNext c s p
+IsNextLost c other p = ⊥
+
+-- the answer is the prefix whose row the next turn of the task takes; None where its next turn takes none
+abbrev pub FindsNextLost : Chained → Task → Option AddressPrefix → Type 0
+FindsNextLost c task None = (p : AddressPrefix) → IsNextLost c task p → ⊥
+FindsNextLost c task (Some p) = IsNextLost c task p
+
 -- a turn of a task of the chain
 abbrev pub Turned : Chained → Chained → Task → Option (Change Route) → List (Entry Value) → Type 0
 Turned old new (Del k s) sent entries = (k ≡ old.incoming.number) × Sweeps old new s sent entries

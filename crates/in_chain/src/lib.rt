@@ -22,6 +22,10 @@
 
 mod chain;
 mod laws;
+mod lookups;
 
 pub use chain::Chain;
-pub use laws::{candidates_are_counted, turns_are_bounded};
+pub use laws::{
+    candidates_are_counted, candidates_cover_rows, candidates_stay, turns_are_bounded,
+    turns_take_candidates,
+};
