@@ -31,6 +31,9 @@ TOPICS = [
     ('The decision', 'docs/BGP.md, "The decision".',
      'each_step med_within_an_as six_orders neighbour_as best_is_lost best_hop_is_lost best_in_walks best_without_routes '
      'quiet_below sixty_four_peers'),
+    ('Many senders of one prefix', 'docs/BGP.md, "The decision"; docs/LANGUAGE.md, "What peers are sent".',
+     'one_is_left best_gets_worse rejected_one_by_one metrics_of_three own_route_over_three lost_from_three '
+     'sixty_four_better_ones passed_without_a_row passed_once_for_all gone_under_a_walk deleted_under_a_walk'),
     ('What peers are sent', 'docs/BGP.md, "What is sent".',
      'quiet_exits unseen_outside slow_and_fast rules_edited_in_the_middle rules_of_a_down_peer same_rules_again '
      'too_long_to_send one_octet_too_long'),
