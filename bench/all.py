@@ -36,11 +36,11 @@ STEPS = ['puts', 'gets', 'matches', 'walk', 'removals']
 PACKAGES = {'bird': 'bird2', 'frr': 'frr', 'openbgpd': 'openbgpd'}
 QUIET = ['run', '--quiet']
 
-# a row of an event file: its kind, how many peers there are (of `senders`: that send), the share of the routes that one of them
-# announces, and the words of the program
+# a row of an event file: its kind, how many peers there are (of `senders` and `many`: that send), the share of the routes that one of
+# them announces, and the words of the program
 Row = collections.namedtuple('Row', 'kind number share words')
 SEVERAL = {'peers': [('peers', 8, 8)], 'best_lost': [('best_lost', 8, 8)], 'senders': [('senders_8', 8, 8), ('senders_32', 32, 32)],
-           'exits': [('exits', 64, 20)]}
+           'many': [('many_8', 8, 8), ('many_32', 32, 32)], 'exits': [('exits', 64, 20)]}
 ROWS = {name: Row(kind, number, share, QUIET) for kind in events.KINDS for name, number, share in SEVERAL.get(kind, [(kind, 1, 1)])}
 ROWS['journal'] = Row('table', 1, 1, ['run'])
 

@@ -19,6 +19,8 @@ Kinds:
   peers     so many peers announce the same prefixes, peer 1 by the shorter path; then `idle`
   best_lost the same, then peer 1's session is lost, and `idle`: another route becomes the best at every prefix
   senders   so many peers announce the same prefixes as in `peers`, and a rule keeps all from each of them; one more is sent all
+  many      so many peers announce the same prefixes, each by its own AS and next hop and with paths of one length, so their identifiers
+            decide; they are sent the best routes, too, and one more that announces nothing
   exits     so many peers are up, peer 1 announces the prefixes, and `idle` sends them to all others
   asked     peer 1 announces half so many prefixes, and nobody reads them; then in turn it announces another one and what peer 2's
             reader has there is asked, a twentieth so many times: at 200,000 a change and `ask` 10,000 times, over 100,000 unread ones
@@ -41,7 +43,7 @@ LOCAL = 'local 65000 192.0.2.254 192.0.2.254'
 PEERS = ['peer 1 65001 192.0.2.1 192.0.2.1', 'peer 2 65002 192.0.2.2 192.0.2.2',
          'route add connected 192.0.2.0/24 direct eth0 1', 'up 1', 'up 2']
 KINDS = ('table', 'as4', 'alone', 'rejected', 'paced', 'edit', 'rules', 'refresh', 'loss', 'interior', 'lost', 'hops', 'kept', 'moved',
-         'peers', 'best_lost', 'senders', 'exits', 'own', 'asked')
+         'peers', 'best_lost', 'senders', 'many', 'exits', 'own', 'asked')
 READ = ['work rd.rib 99', 'work out.1 99', 'work out.2 99']
 # an event that looks at nothing but the register, and the line that it gives: how far the program has come
 LOOK, LOOKED = b'cover 192.0.2.1\n', b'cover 192.0.2.1 192.0.2.0/24 192.0.2.0/24\n'
@@ -71,8 +73,8 @@ def text(addr):
     return '.'.join(str(octet) for octet in addr)
 
 
-def attributes(rand, transit, hop, via, width):
-    path = via + [65001] + [rand.choice(transit) for _ in range(rand.randrange(5))] + [rand.randrange(1, 64000)]
+def attributes(rand, transit, hop, via, width, asn=65001):
+    path = via + [asn] + [rand.choice(transit) for _ in range(rand.randrange(5))] + [rand.randrange(1, 64000)]
     if width == 4:
         path = path[:1] + [WIDE + asn for asn in path[1:]]
     out = bytes([0x40, 1, 1, 0 if rand.random() < .9 else 2])
@@ -94,9 +96,9 @@ def update(said, announced):
     return MARKER + (19 + len(body)).to_bytes(2, 'big') + b'\2' + body
 
 
-def updates(count, hops=(NEAR,), via=(), width=2):
-    """UPDATE messages that announce so many prefixes in all; the next hops take turns; paths begin with these numbers, each of so
-    many octets."""
+def updates(count, hops=(NEAR,), via=(), width=2, asn=65001):
+    """UPDATE messages that announce so many prefixes in all; the next hops take turns; paths begin with these numbers and this AS, each
+    number of so many octets."""
     rand = random.Random(1)
     transit = [rand.randrange(1, 64000) for _ in range(40)]
     left, coming, turns = count, prefixes(count, rand), itertools.cycle(hops)
@@ -105,7 +107,7 @@ def updates(count, hops=(NEAR,), via=(), width=2):
         while here < min(left, 60) and rand.random() < .8:
             here += 1
         left -= here
-        said = attributes(rand, transit, next(turns), list(via), width)
+        said = attributes(rand, transit, next(turns), list(via), width, asn)
         announced = b''
         for _ in range(here):
             bits, length = next(coming)
@@ -143,17 +145,30 @@ def own(count):
     yield from ('route add static 10.%d.%d.0/24 via 192.0.2.9 eth0 1' % (place // 250, place % 250) for place in range(count))
 
 
-def peers(number, count, senders, is_told=True):
-    """The events of so many peers, of which some announce the same prefixes; those are sent what the others announce, or nothing."""
+def declared(number, untold=0):
+    """The events that bring so many peers up, of which the first ones, so many, are sent nothing."""
     yield 'route add connected 192.0.2.0/24 direct eth0 1'
     for k in range(1, number + 1):
         yield 'peer %d %d 192.0.2.%d 192.0.2.%d' % (k, 65000 + k, k, k)
-        if k <= senders and not is_told:
+        if k <= untold:
             yield 'filter out %d any reject' % k
         yield 'up %d' % k
+
+
+def peers(number, count, senders, is_told=True):
+    """The events of so many peers, of which some announce the same prefixes; those are sent what the others announce, or nothing."""
+    yield from declared(number, 0 if is_told else senders)
     for k in range(1, senders + 1):
         via = [] if k == 1 else [65000 + k]
         yield from ('bgp %d %s' % (k, message.hex()) for message in updates(count, via=via))
+
+
+def many(count, senders):
+    """The events of so many peers that announce the same prefixes, each by its own AS and next hop, and of one more."""
+    yield from declared(senders + 1)
+    for k in range(1, senders + 1):
+        said = updates(count, [bytes([192, 0, 2, k])], asn=65000 + k)
+        yield from ('bgp %d %s' % (k, message.hex()) for message in said)
 
 
 def events(kind, count, number=8):
@@ -167,6 +182,8 @@ def events(kind, count, number=8):
         yield from peers(number, count, number)
     elif kind == 'senders':
         yield from peers(number + 1, count, number, False)
+    elif kind == 'many':
+        yield from many(count, number)
     elif kind == 'exits':
         yield from peers(number, count, 1)
     elif kind == 'asked':
