@@ -1,6 +1,6 @@
 #!/usr/bin/env python3
 """Refuses a run each of its requests for memory in turn: refused.py [FILE..] [--every K] [--from N] [--most COUNT]
-[--built [--onwards]] [--words 'gen 7 40']
+[--built [--onwards] [--program FILE]] [--words 'gen 7 40']
 
 An event file (NAME.events) is run, a journal (NAME.journal) is checked; with no FILE some of the longest stories of examples/ are,
 or the command that --words names, with nothing to read. Request 1, 2, .. of a run is refused, until three runs in a row end as
@@ -11,7 +11,7 @@ written; WRONG stands before any other end, and then the exit status is 1.
   rt try   refuses (`--fail-alloc`), and needs nothing that was built; but it builds for each run, so take --every
   --built  takes the program that `(cd crates/replay_main && rt run -- run < /dev/null)` built, and puts before the C library's
            functions two that refuse, which `cc` builds: some milliseconds a run, so each request is tried, also behind one whose
-           run ended as if it was granted. --onwards refuses all that follow, too
+           run ended as if it was granted. --onwards refuses all that follow, too; --program takes another program
 
 The program reads 65,536 bytes at once, and writes what they gave before it reads on. So each line of an event file gets blanks up
 to 16,384 bytes, and three comments of that size behind it: then one read gives one event, and what was written tells where the
@@ -69,8 +69,8 @@ class Try:
 
 class Built:
     """A run of the built program, with a library before the C library."""
-    def __init__(self, folder, onwards):
-        self.library, self.onwards = os.path.join(folder, 'refuser.so'), onwards
+    def __init__(self, folder, onwards, program):
+        self.library, self.onwards, self.program = os.path.join(folder, 'refuser.so'), onwards, program
         source = os.path.join(folder, 'refuser.c')
         with open(source, 'w', encoding='ascii') as file:
             file.write(REFUSER)
@@ -79,7 +79,7 @@ class Built:
     def run(self, words, text, refused):
         env = {'LD_PRELOAD': self.library, 'REFUSED_REQUEST': str(refused), 'REFUSED_ONWARDS': str(int(self.onwards))}
         with given(text) as file:
-            done = subprocess.run([BUILT] + words, stdin=file, stdout=subprocess.PIPE, stderr=subprocess.PIPE, env=env)
+            done = subprocess.run([self.program] + words, stdin=file, stdout=subprocess.PIPE, stderr=subprocess.PIPE, env=env)
         counted = re.findall(rb'^requests=(\d+)$', done.stderr, re.M)
         return done.returncode, done.stdout, int(counted[-1]) if counted else None
 
@@ -190,10 +190,11 @@ def main():
     parser.add_argument('--most', type=int, default=sys.maxsize, metavar='COUNT', help='at most so many runs of each file')
     parser.add_argument('--built', action='store_true')
     parser.add_argument('--onwards', action='store_true')
+    parser.add_argument('--program', default=BUILT, metavar='FILE', help='for --built, another program than the built one')
     parser.add_argument('--words')
     args = parser.parse_args()
-    if args.built and not os.path.exists(BUILT):
-        sys.exit('not built: ' + BUILT)
+    if args.built and not os.path.exists(args.program):
+        sys.exit('not built: ' + args.program)
     if args.words:
         works = [(os.devnull, args.words.split(), [])]
     else:
@@ -201,7 +202,7 @@ def main():
         works = [(os.path.basename(path),) + work(path) for path in paths]
     end = args.first + args.every * args.most
     with tempfile.TemporaryDirectory() as folder:
-        tool = Built(folder, args.onwards) if args.built else Try()
+        tool = Built(folder, args.onwards, args.program) if args.built else Try()
         wrong = sum(refuse(tool, *each, range(args.first, end, args.every)) for each in works)
     sys.exit(1 if wrong else 0)
 
