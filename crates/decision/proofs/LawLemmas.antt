@@ -1,16 +1,13 @@
 -- The laws of the best rows.
-use Rattle.std.proofs.Common.{◌≡◌, ℕ, zero, suc, ◌+◌, ◌<◌, ◌≤◌, ◌⊎◌, nat_lt, Bool, true, false, is_some, List, [], ◌∷◌, ◌++◌, Option, Some, None, refl, sym, ◌∙◌, ap, subst, arith, inl, inr}
+use Rattle.std.proofs.Common.{◌≡◌, ℕ, zero, suc, ◌+◌, ◌<◌, ◌⊎◌, List, [], ◌∷◌, ◌++◌, Option, Some, None, refl, sym, ◌∙◌, ap, subst, arith, inl, inr}
 use Rattle.std.specs.List.{cons_option}
-use Rattle.std.proofs.lemmas.Bool.Decides.{nat_tests}
-use Rattle.addr4.specs.Prefixes.{AddressPrefix}
 use Rattle.bgp_attr.specs.declared.route.Route.{Route}
-use Rattle.decision.specs.Branches.{AllRows, best_rows}
 use Rattle.best_path.specs.Steps.{pick}
 use Rattle.best_path.proofs.StepLemmas.{Has}
 use Rattle.best_path.proofs.LawLemmas.{contains_has, pick_is_one_of_them, none_only_of_nothing}
 use Rattle.decision.specs.Lineups.{at_prefix, routes_of}
 use Rattle.decision.specs.Laws.{BestIsPicked, BestIsABranchs, NoBestOnlyWithoutRoutes, BestIsOfItsPrefix}
-use Rattle.decision.proofs.LineupLemmas.{by_number, routes_more, routes_none, same_routes}
+use Rattle.decision.proofs.LineupLemmas.{by_number, routes_more, same_routes}
 use Rattle.decision.proofs.BestLemmas.{best_is}
 
 pub best_is_picked : BestIsPicked
@@ -45,7 +42,7 @@ ends_empty [] None e = (refl, refl)
 ends_empty [] (Some r) e = absurd (let f : r ∷ [] ≡ [] = e in cc)
 ends_empty (r ∷ rs) row e = absurd (let f : r ∷ (rs ++ cons_option row []) ≡ [] = e in cc)
 
-no_row : (n : ℕ) (here : ℕ → Option Route) → routes_of n here ≡ [] → (b : ℕ) → b < n → here b ≡ None
+pub no_row : (n : ℕ) (here : ℕ → Option Route) → routes_of n here ≡ [] → (b : ℕ) → b < n → here b ≡ None
 no_row zero here none b below = absurd (omega (arith, below))
 no_row (suc n) here none b below =
     let e : n + 1 ≡ suc n = omega arith in
@@ -60,28 +57,3 @@ no_best_only_without_routes rows p none b below =
 pub best_is_of_its_prefix : BestIsOfItsPrefix
 best_is_of_its_prefix rows other p same =
     best_is rows p ∙ ap pick (same_routes 65 (at_prefix rows p) (at_prefix other p) same) ∙ sym (best_is other p)
-
--- ---- whether there is one
-by_below_case : (b n : ℕ) (P : Type 0) (t : Bool) → nat_lt b n ≡ t → (b < n → P) → (n ≤ b → P) → P
-by_below_case b n P true e below past = below (grind (arith, nat_tests, e))
-by_below_case b n P false e below past = past (grind (arith, nat_tests, e))
-
-by_below : (b n : ℕ) (P : Type 0) → (b < n → P) → (n ≤ b → P) → P
-by_below b n P below past = by_below_case b n P (nat_lt b n) refl below past
-
-pub some_best : (rows : AllRows) (p : AddressPrefix) (b : ℕ) → b < 65 → is_some (rows b p) ≡ true → true ≡ is_some (best_rows rows p)
-some_best rows p b below some = by_best (best_rows rows p) refl
-  where
-    by_best : (o : Option Route) → best_rows rows p ≡ o → true ≡ is_some o
-    by_best (Some route) is = refl
-    by_best None is = absurd (let none = no_best_only_without_routes rows p is b below in let clash : true ≡ false = sym some ∙ ap is_some none in cc)
-
-pub no_best : (rows : AllRows) (p : AddressPrefix) (n : ℕ) → ((b : ℕ) → b < n → is_some (rows b p) ≡ false) → ((b : ℕ) → n ≤ b → rows b p ≡ None) → false ≡ is_some (best_rows rows p)
-no_best rows p n few none = sym (ap is_some (best_is rows p ∙ ap pick (routes_none 65 (at_prefix rows p) each)))
-  where
-    by_row : (o : Option Route) → is_some o ≡ false → o ≡ None
-    by_row None e = refl
-    by_row (Some r) e = absurd (let clash : true ≡ false = e in cc)
-
-    each : (b : ℕ) → b < 65 → rows b p ≡ None
-    each b below = by_below b n (rows b p ≡ None) (λ less. by_row (rows b p) (few b less)) (none b)

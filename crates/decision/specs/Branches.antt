@@ -1,5 +1,5 @@
 -- The rows of all branches, the best of them, and what the decision makes of a change.
-use Rattle.std.specs.Prelude.{◌≡◌, ℕ, ◌≤◌, List, Option, Some, None, false, ◌≢◌}
+use Rattle.std.specs.Prelude.{◌≡◌, ℕ, List, Option, Some, ◌≢◌}
 use Rattle.std.specs.List.{filter_map, range_with_len, list_any}
 use Rattle.addr4.specs.Prefixes.{AddressPrefix}
 use Rattle.link_change.specs.Rows.{Rows, Candidates}
@@ -11,10 +11,6 @@ use Rattle.best_path.specs.Steps.{pick}
 -- the rows of each branch, by its number
 abbrev pub AllRows : Type 0
 AllRows = ℕ → Rows Route
-
--- no branch with this number or a greater one has a row or a candidate
-abbrev pub NoneFrom : ℕ → AllRows → (ℕ → Candidates) → Type 0
-NoneFrom n rows candidates = (b : ℕ) (q : AddressPrefix) → n ≤ b → (rows b q ≡ None) × (candidates b q ≡ false)
 
 -- the routes that the branches below n have at a prefix, in the order of branches
 abbrev pub routes_below : ℕ → AllRows → AddressPrefix → List Route
@@ -28,7 +24,7 @@ best_rows rows q = pick (routes_below 65 rows q)
 abbrev pub candidates_below : ℕ → (ℕ → Candidates) → Candidates
 candidates_below n candidates q = list_any (λ b. candidates b q) (range_with_len 0 n)
 
--- those of all branches
+-- those of all branches, 0 to 64
 unfoldable pub best_candidates : (ℕ → Candidates) → Candidates
 best_candidates candidates = candidates_below 65 candidates
 

@@ -1,18 +1,12 @@
--- The candidates of the branches at one prefix.
-use Rattle.std.specs.Prelude.{◌≡◌, ◌≤◌, ◌<◌, ℕ, ◌==◌, if◌then◌else◌, List, [], ◌∷◌, ◌++◌, map, length, Option, Some, None, option_and_then, MatchOption}
+-- The rows of the branches at one prefix, and their candidates.
+use Rattle.std.specs.Prelude.{◌≡◌, ℕ, ◌==◌, if◌then◌else◌, List, length, Option, None, option_and_then}
 use Rattle.std.specs.List.{filter_map, range_with_len}
 use Rattle.std.specs.Option.{option_map}
 use Rattle.addr4.specs.Prefixes.{AddressPrefix}
-use Rattle.link_change.specs.declared.change.Change.{Change}
 use Rattle.bgp_attr.specs.declared.route.Route.{Route}
 use Rattle.best_path.specs.declared.candidate.Candidate.{Candidate}
 use Rattle.best_path.specs.Keys.{candidate_of}
-use Rattle.best_path.specs.Steps.{pick}
 use Rattle.decision.specs.declared.lineup.Lineup.{Lineup}
-use Rattle.decision.specs.declared.lineup.Others.{Others}
-use Rattle.decision.specs.declared.lineup.Winners.{Winners}
-use Rattle.decision.specs.declared.heard.Said.{Said}
-use Rattle.decision.specs.declared.heard.Heard.{Heard}
 use Rattle.decision.specs.Branches.{AllRows}
 
 -- the row of each branch at a prefix
@@ -34,51 +28,29 @@ chosen here winner = option_and_then here winner
 abbrev pub candidate_at : Option Route → Option Candidate
 candidate_at row = option_map candidate_of row
 
--- the lineup has the candidates of the routes of the branches below n, and beside each the branch whose route it is
-pub record LinesUp (n : ℕ) (here : ℕ → Option Route) (line : Lineup) : Type 0 where
-  pub keys : map candidate_of (routes_of n here) ≡ line.candidates.items
-  pub numbers : map here line.branches.items ≡ map Some (routes_of n here)
+-- the number of a branch that has this row, if it is one
+abbrev pub number_at : Option Route → ℕ → Option ℕ
+number_at row b = option_map (λ _. b) row
 
--- these are the candidates of all branches but one, and that one's own would stand behind those of the branches before it
-pub record Beside (branch : ℕ) (here : ℕ → Option Route) (others : Others) : Type 0 where
-  pub lined : LinesUp 65 (with_own branch None here) others.line
-  pub place : others.place ≡ length (routes_of branch (with_own branch None here))
+-- its candidate
+abbrev pub key_at : Option Route → ℕ → Option Candidate
+key_at row b = candidate_at row
 
--- one candidate more may stand at its place
-pub record HasRoom (others : Others) : Type 0 where
-  pub place : others.place ≤ length others.line.candidates.items
-  pub few : length others.line.candidates.items ≤ 64
-  pub beside : length others.line.branches.items ≡ length others.line.candidates.items
+-- what is made of the rows of so many branches from one on, in their order
+abbrev pub made_from : {X : Type 0} → (Option Route → ℕ → Option X) → (ℕ → Option Route) → ℕ → ℕ → List X
+made_from make here a n = filter_map (λ b. make (here b) b) (range_with_len a n)
 
--- where one branch has this row, this is the one whose row is the best
-abbrev pub WinsWith : ℕ → (ℕ → Option Route) → Option Route → Option ℕ → Type 0
-WinsWith branch here own winner = chosen (with_own branch own here) winner ≡ pick (routes_of 65 (with_own branch own here))
+-- the line has the candidates of all branches that have a row, and the numbers of these, in the order of branches
+pub record IsLine (here : ℕ → Option Route) (line : Lineup) : Type 0 where
+  pub keys : made_from key_at here 0 65 ≡ line.candidates.items
+  pub numbers : made_from number_at here 0 65 ≡ line.branches.items
 
--- no other branch has a row: whatever the branch has is the best
-abbrev pub StandsAlone : ℕ → (ℕ → Option Route) → Type 0
-StandsAlone branch here = (own : Option Route) → own ≡ pick (routes_of 65 (with_own branch own here))
+-- it has those of all branches but one, whose own would stand behind those of the branches before it
+pub record Parts (branch : ℕ) (here : ℕ → Option Route) (line : Lineup) (place : ℕ) : Type 0 where
+  pub lined : IsLine (with_own branch None here) line
+  pub behind : place ≡ length (made_from number_at here 0 branch)
 
--- these have the best row before a branch's change and after it
-pub record WinBoth (branch : ℕ) (here : ℕ → Option Route) (change : Change Route) (winners : Winners) : Type 0 where
-  pub former : WinsWith branch here change.before winners.former
-  pub latter : WinsWith branch here change.after winners.latter
-
--- the same, but nobody where no other branch has a row
-abbrev pub Win : ℕ → (ℕ → Option Route) → Change Route → Option Winners → Type 0
-Win branch here change winners = MatchOption winners (StandsAlone branch here) (WinBoth branch here change)
-
--- none of the branches below n has a row
-pub record HearsNone (n : ℕ) (here : ℕ → Option Route) (line : Lineup) : Type 0 where
-  pub none : routes_of n here ≡ []
-  pub lined : LinesUp 0 here line
-
--- this is the last row of the branches below n, and these are the candidates of the branches before it
-pub record HearsLast (n : ℕ) (here : ℕ → Option Route) (line : Lineup) (said : Said) : Type 0 where
-  pub below : said.branch < n
-  pub row : here said.branch ≡ Some said.route
-  pub lined : LinesUp said.branch here line
-  pub all : routes_of n here ≡ routes_of said.branch here ++ said.route ∷ []
-
--- what the branches below n have said
-abbrev pub Hears : ℕ → (ℕ → Option Route) → Heard → Type 0
-Hears n here heard = MatchOption heard.last (HearsNone n here heard.line) (HearsLast n here heard.line)
+-- it has those of some rows, of which this is the branch's own
+pub record InLine (branch : ℕ) (own : Option Route) (line : Lineup) : Type 0 where
+  pub here : ℕ → Option Route
+  pub lined : IsLine (with_own branch own here) line

@@ -1,22 +1,26 @@
 //! The link below the decision, as the next stage sees it.
 
+ghost use Rattle.std.specs.Prelude.{◌≡◌};
+ghost use Rattle.decision.specs.Branches.{best_rows, best_candidates};
+ghost use Rattle.decision.specs.Contests.{won_rows, kept};
+
 use crate::branches::Branches;
-use crate::decision::{asked, next_candidate};
+use crate::contests::Contests;
 use addr4::{Memory, Place, Prefix};
 use bgp_attr::Route;
 use link_change::Upstream;
-use std::alloc::Global;
 
-/// The link `best`: the best route at each prefix over these branches.
+/// The link `best`: the best route at each prefix over these branches, by what is known of them. The branch whose row it is is
+/// asked for it, and no other; a walk asks none. [`Contests::best`] makes it.
 #[derive(Drop)]
 pub struct Best<'a, B: Branches> {
-    pub alloc: Global,
     pub all: &'a B,
+    pub(crate) contests: &'a Contests,
+    ghost known: { won_rows contests.now (B.rows all.now) ≡ best_rows (B.rows all.now) },
+    ghost counted: { kept contests.now ≡ best_candidates (B.candidates all.now) },
 }
 
 impl<'a, B: Branches> Upstream for Best<'a, B> {
-    ghost use Rattle.decision.specs.Branches.{best_rows, best_candidates};
-
     type Row = Route;
 
     ghost rows = { λ s. best_rows (B.rows s.all.now) };
@@ -24,10 +28,13 @@ impl<'a, B: Branches> Upstream for Best<'a, B> {
     ghost candidates = { λ s. best_candidates (B.candidates s.all.now) };
 
     fn asked(&self, p: &Prefix) -> Result<Option<Route>, Memory> {
-        asked(self.alloc, self.all, p)
+        match self.contests.winner(p) {
+            None => Ok(None),
+            Some(number) => self.all.asked(number, p),
+        }
     }
 
     fn next_candidate(&self, after: &Place) -> Option<Prefix> {
-        next_candidate(self.all, after)
+        self.contests.next_kept(after)
     }
 }

@@ -1,9 +1,9 @@
 //! Candidates in line.
 
-ghost use Rattle.std.specs.Prelude.{◌≡◌, ◌≢◌, ◌≤◌, ◌<◌, ◌+◌, ℕ, Option, Some, [], true, length, OnOk, IfOk};
-ghost use Rattle.std.specs.List.{insert, remove};
+ghost use Rattle.std.specs.Prelude.{◌≡◌, ◌≤◌, ◌<◌, ℕ, Option, Some, [], ◌∷◌, not, nat_lt, length, OnOk, IfOk};
+ghost use Rattle.std.specs.List.{insert, remove, position, position_or_len};
 ghost use Rattle.bgp_attr.specs.declared.route.Route.{Route};
-ghost use Rattle.decision.specs.Lineups.{LinesUp, Beside, HasRoom, Win, candidate_at, routes_of, chosen, with_own};
+ghost use Rattle.decision.specs.Lineups.{IsLine, InLine, Parts, candidate_at, routes_of, chosen, with_own};
 ghost use Rattle.best_path.specs.Steps.{pick};
 
 use addr4::Memory;
@@ -12,7 +12,7 @@ use bgp_attr::Route;
 use link_change::Change;
 use std::alloc::Global;
 
-/// The candidates of the branches at one prefix, in the order of branches.
+/// The candidates of the branches that have a row at one prefix, in the order of branches.
 #[derive(Drop)]
 pub(crate) struct Lineup {
     candidates: Vec<Candidate>,
@@ -30,25 +30,38 @@ pub(crate) fn candidate(row: &Option<Route>) -> Option<Candidate>
     }
 }
 
+// The place of the first number from a branch on.
+fn first_from(numbers: &[u8], branch: u8) -> Option<usize>
+    ensures { result ≡ position (λ n. not (nat_lt n branch)) numbers.now }
+{
+    numbers.iter().position(|number| !(*number < branch))
+}
+
 impl Lineup {
-    /// No branch yet. Takes no memory.
-    pub(crate) fn new(alloc: Global) -> Lineup
-        ensures { (here : ℕ → Option Route) → LinesUp 0 here result }
+    /// The candidate of one branch alone, and room for that of another.
+    pub(crate) fn of_one(alloc: Global, branch: u8, candidate: Candidate) -> Result<Lineup, Memory>
+        ensures candidates { IfOk result (λ line. line.candidates.items ≡ candidate ∷ []) }
+        ensures branches { IfOk result (λ line. line.branches.items ≡ branch ∷ []) }
     {
-        Lineup {
-            candidates: Vec::new(alloc),
-            branches: Vec::new(alloc),
-        }
+        let mut candidates = Vec::with_capacity(alloc, 2)?;
+        candidates.push(candidate)?;
+        let mut branches = Vec::with_capacity(alloc, 2)?;
+        branches.push(branch)?;
+        Ok(Lineup {
+            candidates,
+            branches,
+        })
     }
 
-    /// The next branch has this candidate.
-    pub(crate) fn enter(&mut self, branch: u8, candidate: Option<Candidate>) -> Result<(), Memory>
-        ensures few { OnOk result (length self.new.candidates.items ≤ length self.old.candidates.items + 1) }
-        ensures lines { OnOk result ((here : ℕ → Option Route) → candidate ≡ candidate_at (here branch) → LinesUp branch here self.old → LinesUp (branch + 1) here self.new) }
+    /// A branch's row changes: the candidate of the one before goes, and that of the one after comes. Memory only for want of it.
+    pub(crate) fn take_in(&mut self, branch: u8, change: &Change<Route>) -> Result<(), Memory>
+        requires small { branch < 65 }
+        requires lined { InLine branch change.now.before self.old }
+        ensures { OnOk result ((here : ℕ → Option Route) → IsLine (with_own branch change.now.before here) self.old → IsLine (with_own branch change.now.after here) self.new) }
     {
-        if let Some(candidate) = candidate {
-            self.candidates.push(candidate)?;
-            self.branches.push(branch)?;
+        let place = self.leave(branch, &change.before);
+        if let Some(candidate) = candidate(&change.after) {
+            self.put(place, branch, candidate)?;
         }
         Ok(())
     }
@@ -56,27 +69,42 @@ impl Lineup {
     /// The branch whose candidate is the best; none where there is no candidate.
     pub(crate) fn winner(&self) -> Option<u8>
         requires { length self.now.candidates.items ≤ 65 }
-        ensures { (n : ℕ) (here : ℕ → Option Route) → LinesUp n here self.now → chosen here result ≡ pick (routes_of n here) }
+        ensures best { (here : ℕ → Option Route) → IsLine here self.now → chosen here result ≡ pick (routes_of 65 here) }
+        ensures listed { (only b : ℕ) → self.now.branches.items ≡ only ∷ [] → result ≡ Some b → b ≡ only }
     {
         let place = best(self.candidates.as_slice())?;
         self.branches.get(place).copied()
     }
 
-    /// Whether there is no candidate.
-    pub(crate) fn is_empty(&self) -> bool
-        ensures { result ≡ true → self.now.candidates.items ≡ [] }
+    /// Whether a single candidate is left, or none.
+    pub(crate) fn is_short(&self) -> bool
+        ensures { result ≡ nat_lt (length self.now.branches.items) 2 }
     {
-        self.candidates.is_empty()
+        self.branches.len() < 2
     }
 
-    /// How many candidates there are.
-    pub(crate) fn len(&self) -> usize
-        ensures { result ≡ length self.now.candidates.items }
+    // The candidate of a branch goes, if it has this row; the place where it stood, or would stand.
+    fn leave(&mut self, branch: u8, row: &Option<Route>) -> usize
+        requires small { branch < 65 }
+        requires lined { InLine branch row.now self.old }
+        ensures { (here : ℕ → Option Route) → IsLine (with_own branch row.now here) self.old → Parts branch here self.new result }
     {
-        self.candidates.len()
+        let place = self.place(branch);
+        if row.is_some() {
+            self.cut(place);
+        }
+        place
     }
 
-    /// A branch has this candidate, which comes before those from a place on.
+    // The place of a branch: behind the candidates of those before it.
+    fn place(&self, branch: u8) -> usize
+        ensures { result ≡ position_or_len (λ n. not (nat_lt n branch)) self.now.branches.items }
+    {
+        let end = self.branches.len();
+        first_from(self.branches.as_slice(), branch).unwrap_or(end)
+    }
+
+    // A branch has this candidate, which comes before those from a place on.
     fn put(&mut self, place: usize, branch: u8, candidate: Candidate) -> Result<(), Memory>
         requires place { place ≤ length self.old.candidates.items }
         requires beside { place ≤ length self.old.branches.items }
@@ -88,7 +116,7 @@ impl Lineup {
         Ok(())
     }
 
-    /// Takes the candidate at a place out.
+    // Takes the candidate at a place out.
     fn cut(&mut self, place: usize)
         requires place { place < length self.old.candidates.items }
         requires beside { place < length self.old.branches.items }
@@ -97,76 +125,5 @@ impl Lineup {
     {
         self.candidates.remove(place);
         self.branches.remove(place);
-    }
-}
-
-/// The branches that have the best row before a change of one branch's row, and after it.
-#[derive(Clone, Copy)]
-pub(crate) struct Winners {
-    pub(crate) former: Option<u8>,
-    pub(crate) latter: Option<u8>,
-}
-
-impl Winners {
-    /// Whether the best row is the same other branch's before and after.
-    pub(crate) fn is_another(self, branch: u8) -> bool
-        ensures { result ≡ true → (self.former ≡ self.latter) × (self.latter ≢ Some branch) }
-    {
-        self.former == self.latter && self.latter != Some(branch)
-    }
-}
-
-/// The candidates of all branches but one, and the place among them where that one's own would stand.
-#[derive(Drop)]
-pub(crate) struct Others {
-    pub(crate) line: Lineup,
-    pub(crate) place: usize,
-}
-
-impl Others {
-    /// Whether no other branch has a candidate.
-    pub(crate) fn is_empty(&self) -> bool
-        ensures { result ≡ true → self.now.line.candidates.items ≡ [] }
-    {
-        self.line.is_empty()
-    }
-
-    /// The branch whose candidate is the best where the one left out has this one; none where there is no candidate.
-    pub(crate) fn winner_with(
-        &mut self,
-        branch: u8,
-        own: Option<Candidate>,
-    ) -> Result<Option<u8>, Memory>
-        requires { HasRoom self.old }
-        ensures best { IfOk result (λ winner. (here : ℕ → Option Route) (row : Option Route) → branch < 65 → own ≡ candidate_at row → Beside branch here self.old → chosen (with_own branch row here) winner ≡ pick (routes_of 65 (with_own branch row here))) }
-        ensures stays { OnOk result ((here : ℕ → Option Route) → Beside branch here self.old → Beside branch here self.new) }
-        ensures room { OnOk result (HasRoom self.new) }
-    {
-        let Some(own) = own else {
-            return Ok(self.line.winner());
-        };
-        self.line.put(self.place, branch, own)?;
-        let winner = self.line.winner();
-        self.line.cut(self.place);
-        Ok(winner)
-    }
-
-    /// Who wins before a change of the row of the one left out and after it; nobody is named where no other branch has a
-    /// candidate.
-    pub(crate) fn winners(
-        &mut self,
-        branch: u8,
-        change: &Change<Route>,
-    ) -> Result<Option<Winners>, Memory>
-        requires room { HasRoom self.old }
-        requires branch { branch < 65 }
-        ensures { IfOk result (λ winners. (here : ℕ → Option Route) → Beside branch here self.old → Win branch here change.now winners) }
-    {
-        if self.is_empty() {
-            return Ok(None);
-        }
-        let former = self.winner_with(branch, candidate(&change.before))?;
-        let latter = self.winner_with(branch, candidate(&change.after))?;
-        Ok(Some(Winners { former, latter }))
     }
 }

@@ -53,10 +53,10 @@ none_decided m own stands first none = best_none (all_at own m.chains m.hops) by
     by_branch (suc k) = by_resolver (suc k) (resolver_at (suc k) m.hops) refl
 
 -- nothing is redistributed before it, and so nothing at first
-own_before : (m : Moment) → m.declared.speaker ≡ None → own_of m ≡ no_rows
+pub own_before : (m : Moment) → m.declared.speaker ≡ None → own_of m ≡ no_rows
 own_before m first = ap (λ (s : Option Speaker). own_rows s m.redist (int_rows m.tree)) first
 
-own_then : (m : Moment) (words : Speaker) → Stands m → m.declared.speaker ≡ None → own_rows (Some words) m.redist (int_rows m.tree) ≡ no_rows
+pub own_then : (m : Moment) (words : Speaker) → Stands m → m.declared.speaker ≡ None → own_rows (Some words) m.redist (int_rows m.tree) ≡ no_rows
 own_then m words stands first = ap (λ (s : Passed Protos). own_rows (Some words) s (int_rows m.tree)) (stands.waits.own first) ∙ nothing_at_first words (int_rows m.tree)
 
 -- a link of external routes without rows

@@ -19,7 +19,7 @@ put_in s Ospf on other = elim other as (λ o. has (with_proto s Ospf on) o ≡ c
 put_in s Rip on other = elim other as (λ o. has (with_proto s Rip on) o ≡ cond (same_protocol o Rip) on (has s o)) [ Connected ↦ refl | Static ↦ refl | Ospf ↦ refl | Rip ↦ refl ]
 
 -- rows of this speaker's own, where the sets are edited
-own_edited : (speaker : Option Speaker) (s : Passed Protos) (latest : Protos) (int : Rows Interior) → own_rows speaker (edited s latest) int ≡ own_rows speaker s int
+pub own_edited : (speaker : Option Speaker) (s : Passed Protos) (latest : Protos) (int : Rows Interior) → own_rows speaker (edited s latest) int ≡ own_rows speaker s int
 own_edited None s latest int = refl
 own_edited (Some me) s latest int = an_edit_keeps_the_rows (redistributed me) s latest int
 

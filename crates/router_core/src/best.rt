@@ -9,12 +9,15 @@ ghost use Rattle.exit_side.specs.Exits.{IsExits};
 ghost use Rattle.router_moments.specs.Works.{Decides};
 ghost use Rattle.rib_tree.specs.Trees.{int_rows};
 ghost use Rattle.router_moments.specs.Bests.{own_rows, lent_chain, lent_resolved, candidates_by};
+ghost use Rattle.peer_side.specs.Peers.{chain_at};
 ghost use Rattle.router_moments.specs.Moments.{best_of, candidates_of};
+ghost use Rattle.decision.specs.Contests.{Knows};
+ghost use Rattle.router_core.specs.Informed.{Informed, KnowsBut, KeepsCounts, branch_rows};
 
 use crate::network::Network;
 use addr4::{Addr, Memory, Place, Prefix};
 use bgp_attr::Route;
-use decision::{Branches, asked, next_candidate, take_in};
+use decision::{Branches, Contests};
 use event_text::Declared;
 use hop_side::{Named, NextHops};
 use in_chain::Chain;
@@ -87,15 +90,6 @@ impl<'a> Lent<'a> {
         };
         self.hops.has(u32::from(branch), chain.next_hop(*p), *p)
     }
-
-    /// Where the next row of `res.K` may stand, beyond a place.
-    fn next_resolved(&self, branch: u8, after: &Place) -> Option<Prefix>
-        ensures next { IsNextCandidate (candidates_by (lent_chain self.now.chains.now branch)) (key_of after.now) result }
-        ensures covers { CoversRows (candidates_by (lent_chain self.now.chains.now branch)) (lent_resolved self.now.chains.now self.now.hops.now branch) }
-    {
-        let chain = self.chain(branch)?;
-        self.hops.next_candidate(u32::from(branch), chain, *after)
-    }
 }
 
 impl<'a> Branches for Lent<'a> {
@@ -105,15 +99,6 @@ impl<'a> Branches for Lent<'a> {
     ghost rows = { λ l. lent_rows (own_rows l.declared.now.speaker l.redist.now (int_rows l.tree.now)) l.chains.now l.hops.now };
 
     ghost candidates = { λ l. lent_candidates (int_candidates l.tree.now) l.chains.now };
-
-    // No number beyond the greatest one of a peer.
-    fn count(&self) -> u8 {
-        let last = self.chains.last();
-        if last < u32::from(MOST) {
-            return last as u8 + 1;
-        }
-        MOST
-    }
 
     fn asked(&self, branch: u8, p: &Prefix) -> Result<Option<Route>, Memory> {
         if branch == 0 {
@@ -128,13 +113,6 @@ impl<'a> Branches for Lent<'a> {
         }
         self.has_resolved(branch, p)
     }
-
-    fn next_candidate(&self, branch: u8, after: &Place) -> Option<Prefix> {
-        if branch == 0 {
-            return self.redist.next_candidate(self.tree, *after);
-        }
-        self.next_resolved(branch, after)
-    }
 }
 
 impl<'a> Named for Lent<'a> {
@@ -148,37 +126,66 @@ impl<'a> Named for Lent<'a> {
 }
 
 impl Network {
+    /// Whether a peer has a candidate at a prefix: a row of its `in.K`. Takes no memory.
+    pub(crate) fn has_candidate(&self, number: u32, p: Prefix) -> bool
+        ensures { result ≡ candidates_by (chain_at number self.now.chains) p }
+    {
+        match self.chains.chain(number) {
+            Some(chain) => chain.has(p),
+            None => false,
+        }
+    }
+
     /// What follows a change of `res.K` of a peer, or of `red` (number 0), if one came: the change of `best`, if there is one.
     pub(crate) fn decide(
         &mut self,
         number: u32,
         sent: Option<Change<Route>>,
+        contests: &mut Contests,
         journal: &mut Journal,
     ) -> Result<(), Memory>
         requires small { number ≤ 64 }
         requires exits { IsExits self.old.exits }
-        ensures { OnOk result (Adds (Decides number sent self.old self.new) journal.old journal.new) }
+        requires known { KnowsBut number sent contests.old self.old }
+        ensures decides { OnOk result (Adds (Decides number sent self.old self.new) journal.old journal.new) }
+        ensures known { OnOk result (Knows contests.new (branch_rows self.new)) }
+        ensures counts { OnOk result (KeepsCounts contests.old contests.new) }
     {
         let Some(change) = sent else {
             return Ok(());
         };
-        let best = take_in(self.alloc, number as u8, change, &self.lent())?;
+        let best = contests.take_in(number as u8, change, &self.lent())?;
         self.queue(best, journal)
     }
 
     /// The best route at a prefix; None where neither a peer nor this speaker has one.
-    pub(crate) fn best(&self, p: Prefix) -> Result<Option<Route>, Memory>
+    pub(crate) fn best(&self, p: Prefix, contests: &Contests) -> Result<Option<Route>, Memory>
+        requires informed { Informed contests.now self.now }
         ensures { IfOk result (λ row. row ≡ best_of self.now p) }
     {
-        asked(self.alloc, &self.lent(), &p)
+        contests.asked(&self.lent(), &p)
+    }
+
+    /// Whether there is a best route at a prefix: each branch is asked, whatever is known. Takes no memory.
+    pub(crate) fn has_best(&self, p: Prefix) -> bool
+        ensures { result ≡ is_some (best_of self.now p) }
+    {
+        let lent = self.lent();
+        for number in 0..MOST {
+            if lent.has(number, &p) {
+                return true;
+            }
+        }
+        false
     }
 
     /// Where the next best route may stand, beyond a place.
-    pub(crate) fn next_best(&self, after: Place) -> Option<Prefix>
+    pub(crate) fn next_best(&self, after: Place, contests: &Contests) -> Option<Prefix>
+        requires informed { Informed contests.now self.now }
         ensures next { IsNextCandidate (candidates_of self.now) (key_of after) result }
         ensures covers { CoversRows (candidates_of self.now) (best_of self.now) }
     {
-        next_candidate(&self.lent(), &after)
+        contests.next_candidate(&after)
     }
 
     pub(crate) fn lent(&self) -> Lent<'_>

@@ -19,13 +19,14 @@ ghost use Rattle.router_moments.specs.Lookups.{IsNextPlace};
 ghost use Rattle.router_moments.specs.Turns.{has_work, next_task};
 ghost use Rattle.router_moments.specs.Blocks.{refreshed};
 ghost use Rattle.router_moments.specs.Works.{TakesTurn, Forwards, HasStepped, JoinsQueue, BeginsReading, BeginsSession, SendsAs};
+ghost use Rattle.router_core.specs.Informed.{Informed};
 
 use crate::best::Lent;
 use crate::network::Network;
 use addr4::{Memory, Place, Prefix};
 use bgp_attr::Route;
 use bgp_wire::RouteRefresh;
-use decision::Best;
+use decision::Contests;
 use exit_side::Exits;
 use exit_side::laws::a_stranger_reads;
 use fanout_queue::Reader;
@@ -169,8 +170,14 @@ impl Network {
     }
 
     /// One turn of a peer's exit, and the text of its lines.
-    pub(crate) fn turn_exit(&mut self, number: u32, journal: &mut Journal) -> Result<Done, Memory>
-        requires { Stands self.old }
+    pub(crate) fn turn_exit(
+        &mut self,
+        number: u32,
+        contests: &Contests,
+        journal: &mut Journal,
+    ) -> Result<Done, Memory>
+        requires stands { Stands self.old }
+        requires informed { Informed contests.now self.old }
         ensures { IfOk result (TakesTurn (tasks.Out number) self.old self.new journal.old journal.new) }
     {
         let lent = Lent {
@@ -180,10 +187,7 @@ impl Network {
             chains: &self.chains,
             hops: &self.hops,
         };
-        let best = Best {
-            alloc: self.alloc,
-            all: &lent,
-        };
+        let best = contests.best(&lent);
         let turn = self.exits.turn(number, &best, journal)?;
         if rested(turn) {
             return Ok(Done::Nothing);
@@ -292,19 +296,17 @@ impl Network {
     }
 
     /// The row at a prefix of `read.rib`.
-    pub(crate) fn read(&self, p: Prefix) -> Result<Option<Value>, Memory>
+    pub(crate) fn read(&self, p: Prefix, contests: &Contests) -> Result<Option<Value>, Memory>
         requires readers { HaveReaders self.now }
         requires live { IsSome (read_links self.now.exits.queue self.now.reader (best_of self.now) links.ReadRib) }
+        requires informed { Informed contests.now self.now }
         ensures { IfOk result (HasRow (read_links self.now.exits.queue self.now.reader (best_of self.now)) links.ReadRib p) }
     {
         let Some(reader) = &self.reader else {
             return Ok(None);
         };
         let lent = self.lent();
-        let best = Best {
-            alloc: self.alloc,
-            all: &lent,
-        };
+        let best = contests.best(&lent);
         match self.exits.read(reader, &best, p)? {
             Some(route) => Ok(Some(Value::Route(route))),
             None => Ok(None),
@@ -312,47 +314,46 @@ impl Network {
     }
 
     /// Where the next row of `read.rib` may stand, beyond a place.
-    pub(crate) fn next_read(&self, after: Place) -> Option<Prefix>
+    pub(crate) fn next_read(&self, after: Place, contests: &Contests) -> Option<Prefix>
         requires readers { HaveReaders self.now }
         requires live { IsSome (read_links self.now.exits.queue self.now.reader (best_of self.now) links.ReadRib) }
+        requires informed { Informed contests.now self.now }
         ensures { IsNextPlace (read_links self.now.exits.queue self.now.reader (best_of self.now) links.ReadRib) (key_of after) result }
     {
         let Some(reader) = &self.reader else {
             return None;
         };
         let lent = self.lent();
-        let best = Best {
-            alloc: self.alloc,
-            all: &lent,
-        };
+        let best = contests.best(&lent);
         self.exits.next_read(reader, &best, after)
     }
 
     /// The row at a prefix of a link of a peer's exit.
-    pub(crate) fn sent(&self, link: Link, p: Prefix) -> Result<Option<Value>, Memory>
+    pub(crate) fn sent(
+        &self,
+        link: Link,
+        p: Prefix,
+        contests: &Contests,
+    ) -> Result<Option<Value>, Memory>
         requires readers { HaveReaders self.now }
         requires live { IsSome (exit_links self.now.exits (best_of self.now) link) }
+        requires informed { Informed contests.now self.now }
         ensures { IfOk result (HasRow (exit_links self.now.exits (best_of self.now)) link p) }
     {
         let lent = self.lent();
-        let best = Best {
-            alloc: self.alloc,
-            all: &lent,
-        };
+        let best = contests.best(&lent);
         self.exits.asked(link, &best, p)
     }
 
     /// Where the next row of a link of a peer's exit may stand, beyond a place.
-    pub(crate) fn next_sent(&self, link: Link, after: Place) -> Option<Prefix>
+    pub(crate) fn next_sent(&self, link: Link, after: Place, contests: &Contests) -> Option<Prefix>
         requires readers { HaveReaders self.now }
         requires live { IsSome (exit_links self.now.exits (best_of self.now) link) }
+        requires informed { Informed contests.now self.now }
         ensures { IsNextPlace (exit_links self.now.exits (best_of self.now) link) (key_of after) result }
     {
         let lent = self.lent();
-        let best = Best {
-            alloc: self.alloc,
-            all: &lent,
-        };
+        let best = contests.best(&lent);
         self.exits.next_candidate(link, &best, after)
     }
 }

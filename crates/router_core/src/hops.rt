@@ -1,6 +1,6 @@
 //! What follows a change in a peer's chain: its resolver takes the change in. And turns of chains and resolvers.
 
-ghost use Rattle.std.specs.Prelude.{◌≡◌, IfOk, OnOk, IsSome};
+ghost use Rattle.std.specs.Prelude.{◌≡◌, IfOk, OnOk, IsSome, Some};
 ghost use Rattle.journal_text.specs.declared.link.Task.TheVariants as tasks;
 ghost use Rattle.journal_text.specs.Journals.{Adds};
 ghost use Rattle.hop_side.specs.Resolvers.{resolver_at, IsHops, AllAgree};
@@ -8,10 +8,17 @@ ghost use Rattle.router_moments.specs.Moments.{with_hops};
 ghost use Rattle.router_moments.specs.Stands.{Stands};
 ghost use Rattle.router_moments.specs.Turns.{IsOfPeers, ResolvesOn, sent_of};
 ghost use Rattle.router_moments.specs.Works.{TakesTurn, MaySettle, SettlesPeer};
+ghost use Rattle.decision.specs.Contests.{Knows};
+ghost use Rattle.in_chain.specs.Chains.{Chained};
+ghost use Rattle.in_chain.specs.Steps.{FindsNextLost};
+ghost use Rattle.peer_side.specs.Peers.{chain_at, peer_of};
+ghost use Rattle.router_core.specs.Informed.{Informed, KnowsAbove, KeepsCounts, branch_rows};
 
+use crate::candidates::forget;
 use crate::network::Network;
-use addr4::Memory;
+use addr4::{Memory, Prefix};
 use bgp_attr::Route;
+use decision::Contests;
 use journal_text::{Journal, Task};
 use link_change::{Change, Turn};
 use peer_side::peer_of;
@@ -24,13 +31,17 @@ impl Network {
         &mut self,
         number: u32,
         sent: Option<Change<Route>>,
+        contests: &mut Contests,
         journal: &mut Journal,
     ) -> Result<(), Memory>
-        requires { MaySettle number self.old }
-        ensures { OnOk result (Adds (SettlesPeer number sent self.old self.new) journal.old journal.new) }
+        requires may { MaySettle number self.old }
+        requires above { KnowsAbove number sent contests.old self.old }
+        ensures settles { OnOk result (Adds (SettlesPeer number sent self.old self.new) journal.old journal.new) }
+        ensures known { OnOk result (Knows contests.new (branch_rows self.new)) }
+        ensures counts { OnOk result (KeepsCounts contests.old contests.new) }
     {
         let passed = self.resolve(number, sent, journal)?;
-        self.decide(number, passed, journal)?;
+        self.decide(number, passed, contests, journal)?;
         self.chains.weld(number, journal)
     }
 
@@ -55,25 +66,51 @@ impl Network {
             .take_in(number, change, &mut self.registry, journal)
     }
 
+    /// The prefix whose row of `in.K` the next turn of a peer's task takes; None where it takes none. Takes no memory.
+    fn next_lost(&self, task: Task) -> Option<Prefix>
+        ensures { (chain : Chained) → chain_at (peer_of task) self.now.chains ≡ Some chain → FindsNextLost chain task result }
+    {
+        match self.chains.chain(peer_of(task)) {
+            Some(chain) => chain.next_lost(task),
+            None => None,
+        }
+    }
+
     /// One turn of a task of a peer's chain, and the text of its lines.
-    pub(crate) fn turn_peer(&mut self, task: Task, journal: &mut Journal) -> Result<Done, Memory>
+    pub(crate) fn turn_peer(
+        &mut self,
+        task: Task,
+        contests: &mut Contests,
+        journal: &mut Journal,
+    ) -> Result<Done, Memory>
         requires stands { Stands self.old }
         requires peers { IsOfPeers task }
-        ensures { IfOk result (TakesTurn task self.old self.new journal.old journal.new) }
+        requires informed { Informed contests.old self.old }
+        ensures taken { IfOk result (TakesTurn task self.old self.new journal.old journal.new) }
+        ensures informed { OnOk result (Informed contests.new self.new) }
     {
+        let lost = self.next_lost(task);
         let turn = self.chains.turn(task, journal)?;
         if let Turn::Nothing = turn {
             return Ok(Done::Nothing);
         }
-        self.settle_peer(peer_of(task), sent_of(turn), journal)?;
+        self.settle_peer(peer_of(task), sent_of(turn), contests, journal)?;
+        forget(contests, lost)?;
         journal.flush()?;
         Ok(Done::Taken)
     }
 
     /// One turn of the next hops of a peer, and the text of its lines.
-    pub(crate) fn turn_hops(&mut self, number: u32, journal: &mut Journal) -> Result<Done, Memory>
-        requires { Stands self.old }
-        ensures { IfOk result (TakesTurn (tasks.Nh number) self.old self.new journal.old journal.new) }
+    pub(crate) fn turn_hops(
+        &mut self,
+        number: u32,
+        contests: &mut Contests,
+        journal: &mut Journal,
+    ) -> Result<Done, Memory>
+        requires stands { Stands self.old }
+        requires informed { Informed contests.old self.old }
+        ensures taken { IfOk result (TakesTurn (tasks.Nh number) self.old self.new journal.old journal.new) }
+        ensures informed { OnOk result (Informed contests.new self.new) }
     {
         let Some(chain) = self.chains.chain(number) else {
             return Ok(Done::Nothing);
@@ -82,7 +119,7 @@ impl Network {
         if let Turn::Nothing = turn {
             return Ok(Done::Nothing);
         }
-        self.decide(number, sent_of(turn), journal)?;
+        self.decide(number, sent_of(turn), contests, journal)?;
         journal.flush()?;
         Ok(Done::Taken)
     }

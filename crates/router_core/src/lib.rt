@@ -20,6 +20,7 @@
 #![tactic(auto)]
 
 mod best;
+mod candidates;
 mod exits;
 mod hops;
 mod lookups;

@@ -13,9 +13,11 @@ ghost use Rattle.router_moments.specs.Stands.{HaveReaders};
 ghost use Rattle.router_moments.specs.Blocks.{answer_lines, Shows};
 ghost use Rattle.router_moments.specs.Lookups.{Counts, ShowsRow, IsCountOf, IsNextPlace};
 ghost use Rattle.router_moments.specs.Works.{Pushes};
+ghost use Rattle.router_core.specs.Informed.{Informed};
 
 use crate::network::Network;
 use addr4::{Memory, Place, Prefix};
+use decision::Contests;
 use journal_text::{Entry, Journal, Line, Link, Value};
 use link_region::{Region, region_of};
 
@@ -67,38 +69,40 @@ impl Network {
     }
 
     /// The row at a prefix of a live link; None where it has none.
-    fn asked(&self, link: Link, p: Prefix) -> Result<Option<Value>, Memory>
+    fn asked(&self, link: Link, p: Prefix, contests: &Contests) -> Result<Option<Value>, Memory>
         requires readers { HaveReaders self.now }
         requires live { IsSome (router_links self.now link) }
+        requires informed { Informed contests.now self.now }
         ensures { IfOk result (HasRow (router_links self.now) link p) }
     {
         match region_of(link) {
             Region::Inward => self.chains.asked(link, p),
             Region::Resolved => self.resolved(link, p),
-            Region::Decided => self.decided(link, p),
+            Region::Decided => self.decided(link, p, contests),
             Region::InteriorRoutes => self.tree.asked(link, p),
             Region::Redistributed => self.own(link, p),
-            Region::External => self.read(p),
+            Region::External => self.read(p, contests),
             Region::Forward => self.rib.asked(link, &self.tree, p),
-            Region::Outward => self.sent(link, p),
+            Region::Outward => self.sent(link, p, contests),
         }
     }
 
     /// Where the next row of a live link may stand, beyond a place.
-    fn next_candidate(&self, link: Link, after: Place) -> Option<Prefix>
+    fn next_candidate(&self, link: Link, after: Place, contests: &Contests) -> Option<Prefix>
         requires readers { HaveReaders self.now }
         requires live { IsSome (router_links self.now link) }
+        requires informed { Informed contests.now self.now }
         ensures { IsNextPlace (router_links self.now link) (key_of after) result }
     {
         match region_of(link) {
             Region::Inward => self.chains.next_candidate(link, after),
             Region::Resolved => self.next_resolved(link, after),
-            Region::Decided => self.next_best(after),
+            Region::Decided => self.next_best(after, contests),
             Region::InteriorRoutes => self.tree.next_candidate(link, after),
             Region::Redistributed => self.redist.next_candidate(&self.tree, after),
-            Region::External => self.next_read(after),
+            Region::External => self.next_read(after, contests),
             Region::Forward => self.rib.next_candidate(link, &self.tree, after),
-            Region::Outward => self.next_sent(link, after),
+            Region::Outward => self.next_sent(link, after, contests),
         }
     }
 
@@ -130,11 +134,12 @@ impl Network {
     }
 
     /// The row at a prefix of `best`; None where it has none.
-    fn decided(&self, link: Link, p: Prefix) -> Result<Option<Value>, Memory>
-        requires { IsSome (best_links self.now.declared.speaker (best_of self.now) link) }
+    fn decided(&self, link: Link, p: Prefix, contests: &Contests) -> Result<Option<Value>, Memory>
+        requires live { IsSome (best_links self.now.declared.speaker (best_of self.now) link) }
+        requires informed { Informed contests.now self.now }
         ensures { IfOk result (HasRow (best_links self.now.declared.speaker (best_of self.now)) link p) }
     {
-        match self.best(p)? {
+        match self.best(p, contests)? {
             Some(route) => Ok(Some(Value::Route(route))),
             None => Ok(None),
         }
@@ -166,39 +171,58 @@ impl Network {
     }
 
     /// Appends the answer of a lookup: the row at the prefix or none, or `absent` where the link isn't live.
-    pub(crate) fn ask(&self, link: Link, p: Prefix, journal: &mut Journal) -> Result<(), Memory>
-        requires { HaveReaders self.now }
+    pub(crate) fn ask(
+        &self,
+        link: Link,
+        p: Prefix,
+        contests: &Contests,
+        journal: &mut Journal,
+    ) -> Result<(), Memory>
+        requires readers { HaveReaders self.now }
+        requires informed { Informed contests.now self.now }
         ensures { OnOk result (journal.new ≡ with_lines journal.old (answer_lines link p (router_links self.now link))) }
     {
         if !self.live(link) {
             return journal.push_line(Line::Absent);
         }
-        let row = self.asked(link, p)?;
+        let row = self.asked(link, p, contests)?;
         journal.push_line(Line::Journal(Entry::Asked(link, p, row)))
     }
 
     /// Appends all rows of a link by prefix, and their number; or `absent` where the link isn't live.
-    pub(crate) fn show(&self, link: Link, journal: &mut Journal) -> Result<(), Memory>
-        requires { HaveReaders self.now }
+    pub(crate) fn show(
+        &self,
+        link: Link,
+        contests: &Contests,
+        journal: &mut Journal,
+    ) -> Result<(), Memory>
+        requires readers { HaveReaders self.now }
+        requires informed { Informed contests.now self.now }
         ensures { OnOk result (Pushes (Shows link (router_links self.now link)) journal.old journal.new) }
     {
         if !self.live(link) {
             return journal.push_line(Line::Absent);
         }
-        self.show_rows(link, journal)
+        self.show_rows(link, contests, journal)
     }
 
     /// All rows of a live link, and their number.
-    fn show_rows(&self, link: Link, journal: &mut Journal) -> Result<(), Memory>
+    fn show_rows(
+        &self,
+        link: Link,
+        contests: &Contests,
+        journal: &mut Journal,
+    ) -> Result<(), Memory>
         requires readers { HaveReaders self.now }
         requires live { IsSome (router_links self.now link) }
+        requires informed { Informed contests.now self.now }
         ensures { OnOk result (Pushes (Shows link (router_links self.now link)) journal.old journal.new) }
     {
         let mut count: u128 = 0;
         let mut place = Place::Before;
-        'rows: while let Some(p) = self.next_candidate(link, place) {
+        'rows: while let Some(p) = self.next_candidate(link, place, contests) {
             p.known();
-            let shown = self.show_row(link, p, journal)?;
+            let shown = self.show_row(link, p, contests, journal)?;
             count += shown;
             place = Place::At(p);
         }
@@ -206,13 +230,20 @@ impl Network {
     }
 
     /// The row at a prefix, if there is one; answers how many there are.
-    fn show_row(&self, link: Link, p: Prefix, journal: &mut Journal) -> Result<u128, Memory>
+    fn show_row(
+        &self,
+        link: Link,
+        p: Prefix,
+        contests: &Contests,
+        journal: &mut Journal,
+    ) -> Result<u128, Memory>
         requires readers { HaveReaders self.now }
         requires live { IsSome (router_links self.now link) }
+        requires informed { Informed contests.now self.now }
         ensures shows { IfOk result (ShowsRow (router_links self.now) link p journal.old journal.new) }
         ensures few { IfOk result (λ count. count ≤ 1) }
     {
-        match self.asked(link, p)? {
+        match self.asked(link, p, contests)? {
             None => Ok(0),
             Some(value) => {
                 journal.push_line(Line::Row(link, p, value))?;
@@ -222,27 +253,29 @@ impl Network {
     }
 
     /// How many rows a link has; None where it isn't live.
-    pub(crate) fn count(&self, link: Link) -> Result<Option<u128>, Memory>
-        requires { HaveReaders self.now }
+    pub(crate) fn count(&self, link: Link, contests: &Contests) -> Result<Option<u128>, Memory>
+        requires readers { HaveReaders self.now }
+        requires informed { Informed contests.now self.now }
         ensures { IfOk result (IsCountOf (router_links self.now link)) }
     {
         if !self.live(link) {
             return Ok(None);
         }
-        Ok(Some(self.count_rows(link)?))
+        Ok(Some(self.count_rows(link, contests)?))
     }
 
     /// How many rows a live link has.
-    fn count_rows(&self, link: Link) -> Result<u128, Memory>
+    fn count_rows(&self, link: Link, contests: &Contests) -> Result<u128, Memory>
         requires readers { HaveReaders self.now }
         requires live { IsSome (router_links self.now link) }
+        requires informed { Informed contests.now self.now }
         ensures { IfOk result (λ count. IsCountOf (router_links self.now link) (Some count)) }
     {
         let mut count: u128 = 0;
         let mut place = Place::Before;
-        'rows: while let Some(p) = self.next_candidate(link, place) {
+        'rows: while let Some(p) = self.next_candidate(link, place, contests) {
             p.known();
-            let held = self.count_row(link, p)?;
+            let held = self.count_row(link, p, contests)?;
             count += held;
             place = Place::At(p);
         }
@@ -250,13 +283,14 @@ impl Network {
     }
 
     /// How many rows stand at a prefix: one or none.
-    fn count_row(&self, link: Link, p: Prefix) -> Result<u128, Memory>
+    fn count_row(&self, link: Link, p: Prefix, contests: &Contests) -> Result<u128, Memory>
         requires readers { HaveReaders self.now }
         requires live { IsSome (router_links self.now link) }
+        requires informed { Informed contests.now self.now }
         ensures counts { IfOk result (Counts (router_links self.now) link p) }
         ensures few { IfOk result (λ count. count ≤ 1) }
     {
-        match self.asked(link, p)? {
+        match self.asked(link, p, contests)? {
             None => Ok(0),
             Some(_) => Ok(1),
         }

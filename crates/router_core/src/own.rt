@@ -10,11 +10,14 @@ ghost use Rattle.router_moments.specs.declared.tasks.Phase.TheVariants as phases
 ghost use Rattle.router_moments.specs.Stands.{Stands};
 ghost use Rattle.router_moments.specs.Turns.{next_task};
 ghost use Rattle.router_moments.specs.Works.{TakesTurn, HasStepped, Redistributes, SendsOwn};
+ghost use Rattle.decision.specs.Contests.{Knows};
+ghost use Rattle.router_core.specs.Informed.{Informed, KnowsBut, KnowsOver, KeepsCounts, branch_rows};
 
 use crate::hops::sent_of;
 use crate::network::Network;
 use addr4::Memory;
 use bgp_attr::Route;
+use decision::Contests;
 use journal_text::{Journal, Link, Task};
 use link_change::{Change, Turn};
 use rib_route::{Interior, Proto};
@@ -34,32 +37,50 @@ impl Network {
     pub(crate) fn redistribute(
         &mut self,
         change: &Change<Interior>,
+        contests: &mut Contests,
         journal: &mut Journal,
     ) -> Result<(), Memory>
         requires exits { IsExits self.old.exits }
         requires since { IsSome self.old.declared.speaker }
-        ensures { OnOk result (Adds (Redistributes change.now self.old self.new) journal.old journal.new) }
+        requires known { KnowsOver change.now contests.old self.old }
+        ensures redistributes { OnOk result (Adds (Redistributes change.now self.old self.new) journal.old journal.new) }
+        ensures known { OnOk result (Knows contests.new (branch_rows self.new)) }
+        ensures counts { OnOk result (KeepsCounts contests.old contests.new) }
     {
         let Some(me) = self.declared.speaker() else {
             unreachable!()
         };
         let sent = self.redist.take_in(change.copy()?, &me)?;
-        self.send_own(sent, journal)
+        self.send_own(sent, contests, journal)
     }
 
     /// What redistribution sends, if it sends something: its entry is pushed, and the best route is decided anew.
-    fn send_own(&mut self, sent: Option<Change<Route>>, journal: &mut Journal) -> Result<(), Memory>
-        requires { IsExits self.old.exits }
-        ensures { OnOk result (Adds (SendsOwn sent self.old self.new) journal.old journal.new) }
+    fn send_own(
+        &mut self,
+        sent: Option<Change<Route>>,
+        contests: &mut Contests,
+        journal: &mut Journal,
+    ) -> Result<(), Memory>
+        requires exits { IsExits self.old.exits }
+        requires known { KnowsBut 0 sent contests.old self.old }
+        ensures sends { OnOk result (Adds (SendsOwn sent self.old self.new) journal.old journal.new) }
+        ensures known { OnOk result (Knows contests.new (branch_rows self.new)) }
+        ensures counts { OnOk result (KeepsCounts contests.old contests.new) }
     {
         journal.push_sent(Link::Red, &sent)?;
-        self.decide(0, sent, journal)
+        self.decide(0, sent, contests, journal)
     }
 
     /// One turn of the walk of redistribution, and the text of its lines.
-    pub(crate) fn turn_own(&mut self, journal: &mut Journal) -> Result<Done, Memory>
-        requires { Stands self.old }
-        ensures { IfOk result (TakesTurn tasks.Red self.old self.new journal.old journal.new) }
+    pub(crate) fn turn_own(
+        &mut self,
+        contests: &mut Contests,
+        journal: &mut Journal,
+    ) -> Result<Done, Memory>
+        requires stands { Stands self.old }
+        requires informed { Informed contests.old self.old }
+        ensures taken { IfOk result (TakesTurn tasks.Red self.old self.new journal.old journal.new) }
+        ensures informed { OnOk result (Informed contests.new self.new) }
     {
         let Some(me) = self.declared.speaker() else {
             return Ok(Done::Nothing);
@@ -68,7 +89,7 @@ impl Network {
         if let Turn::Nothing = turn {
             return Ok(Done::Nothing);
         }
-        self.send_own(sent_of(turn), journal)?;
+        self.send_own(sent_of(turn), contests, journal)?;
         journal.flush()?;
         Ok(Done::Taken)
     }

@@ -19,6 +19,7 @@ ghost use Rattle.router_moments.specs.Works.{Comes, HaveDrained, HasIdled};
 
 use crate::network::Network;
 use addr4::{Memory, Prefix};
+use decision::Contests;
 use event_text::{Declared, Event};
 use in_chain::Chain;
 use journal_text::{Journal, Link, Task};
@@ -33,6 +34,8 @@ use std::marker::Model;
 #[derive(Drop)]
 pub struct Core {
     network: Network,
+    /// What the decision knows at each prefix. No part of the moment: it says nothing that the rows of the branches don't.
+    contests: Contests,
     events: u64,
     failed: bool,
 }
@@ -40,6 +43,7 @@ pub struct Core {
 impl Model for Core {
     ghost use Rattle.std.specs.Prelude.{◌≡◌, false};
     ghost use Rattle.std.specs.Coded.{coded_option};
+    ghost use Rattle.router_core.specs.Informed.{Informed};
     ghost use Rattle.router_moments.specs.Stands.{HaveReaders};
     ghost use Rattle.router_moments.specs.Moments.{Cored, cored_code, moment_code};
     ghost use Rattle.router_core.specs.contracts.exits.Policies as policies_row;
@@ -65,7 +69,7 @@ impl Model for Core {
 
     ghost view = { λ c. record { moment = c.network; events = c.events; failed = c.failed } };
 
-    ghost invariant = { λ c. c.failed ≡ false → HaveReaders c.network };
+    ghost invariant = { λ c. c.failed ≡ false → HaveReaders c.network × Informed c.contests c.network };
 }
 
 impl Core {
@@ -77,6 +81,7 @@ impl Core {
         a_new_tree_stands();
         Core {
             network: Network::new(alloc),
+            contests: Contests::new(alloc),
             events: 0,
             failed: false,
         }
@@ -135,7 +140,7 @@ impl Core {
         ensures { Tells self.now.moment p result }
     {
         the_first_task_tells();
-        self.network.first_held(p)
+        self.network.first_held(p, self.network.has_best(p))
     }
 
     /// How many rows a link has; None exactly where it isn't live. Memory for want of memory: each row of `filt.K` is judged.
@@ -147,7 +152,7 @@ impl Core {
         if self.failed {
             return Err(Memory);
         }
-        self.network.count(link)
+        self.network.count(link, &self.contests)
     }
 
     /// Steps an event: its lines go into the text of the journal. Answers how many turns `work` or `idle` took, and 0 for
@@ -173,7 +178,7 @@ impl Core {
         rows_at_rest_are_exact();
         declarations_follow();
         self.failed = true;
-        let turns = self.network.step(event, journal)?;
+        let turns = self.network.step(event, &mut self.contests, journal)?;
         self.events += 1;
         self.failed = false;
         Ok(turns)
@@ -197,7 +202,7 @@ impl Core {
         }
         rows_at_rest_are_exact();
         self.failed = true;
-        let done = self.network.turn(task, journal)?;
+        let done = self.network.turn(task, &mut self.contests, journal)?;
         self.failed = false;
         Ok(done)
     }
@@ -222,7 +227,7 @@ impl Core {
         }
         rows_at_rest_are_exact();
         self.failed = true;
-        let turns = self.network.drain(phase, journal)?;
+        let turns = self.network.drain(phase, &mut self.contests, journal)?;
         self.failed = false;
         Ok(turns)
     }
@@ -243,7 +248,7 @@ impl Core {
         }
         rows_at_rest_are_exact();
         self.failed = true;
-        let idle = self.network.idle(journal)?;
+        let idle = self.network.idle(&mut self.contests, journal)?;
         self.failed = false;
         Ok(idle)
     }

@@ -6,7 +6,7 @@ ghost use Rattle.event_text.specs.Declarations.{refusal};
 ghost use Rattle.journal_text.specs.declared.link.Task.TheVariants as tasks;
 ghost use Rattle.register_interest.specs.Covers.{matched};
 ghost use Rattle.register_interest.specs.Matches.{lent_match};
-ghost use Rattle.rib_tree.specs.Trees.{branch_of, AreNumbered, IsTree, IsFullBut};
+ghost use Rattle.rib_tree.specs.Trees.{branch_of, int_rows, AreNumbered, IsTree, IsFullBut};
 ghost use Rattle.rib_tree.specs.Steps.{fed_tree, tree_overdue};
 ghost use Rattle.rib_tree.specs.Falls.{way_of_route};
 ghost use Rattle.hop_side.specs.Resolvers.{IsHops};
@@ -19,10 +19,13 @@ ghost use Rattle.router_moments.specs.Lives.{live_state};
 ghost use Rattle.router_moments.specs.Stands.{Stands};
 ghost use Rattle.router_moments.specs.Turns.{Registers};
 ghost use Rattle.router_moments.specs.Works.{TakesTurn, Informs, MayFollow, Follows, Settles, Turned, SetsRoute, HasProtocolRoom, EndsProtocol, HasStepped, Pushes};
+ghost use Rattle.router_core.specs.Informed.{Informed, InformedOver};
 
+use crate::candidates::{enter, leave};
 use crate::network::Network;
 use crate::steps::ignored;
 use addr4::{Addr, Memory, Prefix};
+use decision::Contests;
 use journal_text::{Journal, Line, Task};
 use link_change::{Change, Turn};
 use register_interest::{Interest, Register};
@@ -36,13 +39,16 @@ impl Network {
         &mut self,
         p: Prefix,
         row: Interior,
+        contests: &mut Contests,
         journal: &mut Journal,
     ) -> Result<u128, Memory>
         requires admitted { refusal self.old.declared (events.RouteAdd p row) ≡ None }
         requires stands { Stands self.old }
-        ensures { IfOk result (λ turns. Gives (HasStepped self.old (events.RouteAdd p row) turns self.new) journal.old journal.new) }
+        requires informed { Informed contests.old self.old }
+        ensures steps { IfOk result (λ turns. Gives (HasStepped self.old (events.RouteAdd p row) turns self.new) journal.old journal.new) }
+        ensures informed { OnOk result (Informed contests.new self.new) }
     {
-        self.route(row.proto, p, Some(row), journal)?;
+        self.route(row.proto, p, Some(row), contests, journal)?;
         journal.flush()?;
         Ok(0)
     }
@@ -52,16 +58,19 @@ impl Network {
         &mut self,
         proto: Proto,
         p: Prefix,
+        contests: &mut Contests,
         journal: &mut Journal,
     ) -> Result<u128, Memory>
         requires admitted { refusal self.old.declared (events.RouteDel proto p) ≡ None }
         requires stands { Stands self.old }
-        ensures { IfOk result (λ turns. Gives (HasStepped self.old (events.RouteDel proto p) turns self.new) journal.old journal.new) }
+        requires informed { Informed contests.old self.old }
+        ensures steps { IfOk result (λ turns. Gives (HasStepped self.old (events.RouteDel proto p) turns self.new) journal.old journal.new) }
+        ensures informed { OnOk result (Informed contests.new self.new) }
     {
         if !self.tree.has(proto, p) {
             return ignored(journal);
         }
-        self.route(proto, p, None, journal)?;
+        self.route(proto, p, None, contests, journal)?;
         journal.flush()?;
         Ok(0)
     }
@@ -71,14 +80,17 @@ impl Network {
     pub(crate) fn lose_protocol(
         &mut self,
         proto: Proto,
+        contests: &mut Contests,
         journal: &mut Journal,
     ) -> Result<u128, Memory>
         requires admitted { refusal self.old.declared (events.Lose proto) ≡ None }
         requires few { AreNumbered 4294967294 self.old.tree }
         requires stands { Stands self.old }
-        ensures { IfOk result (λ turns. Gives (HasStepped self.old (events.Lose proto) turns self.new) journal.old journal.new) }
+        requires informed { Informed contests.old self.old }
+        ensures steps { IfOk result (λ turns. Gives (HasStepped self.old (events.Lose proto) turns self.new) journal.old journal.new) }
+        ensures informed { OnOk result (Informed contests.new self.new) }
     {
-        self.make_protocol_room(proto, journal)?;
+        self.make_protocol_room(proto, contests, journal)?;
         self.lose_protocol_with_room(proto, journal)?;
         journal.flush()?;
         Ok(0)
@@ -97,13 +109,20 @@ impl Network {
     }
 
     /// Makes room for one more deletion stage of a protocol.
-    fn make_protocol_room(&mut self, proto: Proto, journal: &mut Journal) -> Result<(), Memory>
+    fn make_protocol_room(
+        &mut self,
+        proto: Proto,
+        contests: &mut Contests,
+        journal: &mut Journal,
+    ) -> Result<(), Memory>
         requires stands { Stands self.old }
-        ensures { OnOk result (Gives (HasProtocolRoom proto self.old self.new) journal.old journal.new) }
+        requires informed { Informed contests.old self.old }
+        ensures makes { OnOk result (Gives (HasProtocolRoom proto self.old self.new) journal.old journal.new) }
+        ensures informed { OnOk result (Informed contests.new self.new) }
     {
         match self.tree.overdue(proto) {
             Some(task) => {
-                self.drain_task(task, journal)?;
+                self.drain_task(task, contests, journal)?;
                 Ok(())
             }
             None => journal.flush(),
@@ -115,7 +134,8 @@ impl Network {
         requires free { tree_overdue proto self.old.tree ≡ None }
         requires few { AreNumbered 4294967294 self.old.tree }
         requires since { IsSome self.old.declared.speaker }
-        ensures { OnOk result (Pushes (EndsProtocol proto self.old self.new) journal.old journal.new) }
+        ensures ends { OnOk result (Pushes (EndsProtocol proto self.old self.new) journal.old journal.new) }
+        ensures rows { OnOk result (int_rows self.new.tree ≡ int_rows self.old.tree) }
     {
         self.tree.lose(proto, journal)?;
         Ok(())
@@ -127,22 +147,25 @@ impl Network {
         proto: Proto,
         p: Prefix,
         new: Option<Interior>,
+        contests: &mut Contests,
         journal: &mut Journal,
     ) -> Result<(), Memory>
         requires stands { Stands self.old }
         requires own { IfSome new (λ row. row.proto ≡ proto) }
         requires since { IsSome self.old.declared.speaker }
-        ensures { OnOk result (Pushes (λ said. SetsRoute self.old proto p new said self.new) journal.old journal.new) }
+        requires informed { Informed contests.old self.old }
+        ensures sets { OnOk result (Pushes (λ said. SetsRoute self.old proto p new said self.new) journal.old journal.new) }
+        ensures informed { OnOk result (Informed contests.new self.new) }
     {
         // By cases: the prover asks for a route in sight where one is passed on.
         match new {
             None => {
                 let sent = self.tree.feed(proto, p, None, journal)?;
-                self.settle(proto, sent, journal)
+                self.settle(proto, sent, contests, journal)
             }
             Some(row) => {
                 let sent = self.tree.feed(proto, p, Some(row), journal)?;
-                self.settle(proto, sent, journal)
+                self.settle(proto, sent, contests, journal)
             }
         }
     }
@@ -152,14 +175,17 @@ impl Network {
         &mut self,
         proto: Proto,
         sent: Option<Change<Interior>>,
+        contests: &mut Contests,
         journal: &mut Journal,
     ) -> Result<(), Memory>
         requires tree { IsTree self.old.tree }
         requires full { IsFullBut proto self.old.tree }
         requires follow { MayFollow self.old }
-        ensures { OnOk result (Adds (Settles proto sent self.old self.new) journal.old journal.new) }
+        requires informed { InformedOver sent contests.old self.old }
+        ensures settles { OnOk result (Adds (Settles proto sent self.old self.new) journal.old journal.new) }
+        ensures informed { OnOk result (Informed contests.new self.new) }
     {
-        self.follow(sent, journal)?;
+        self.follow(sent, contests, journal)?;
         self.tree.weld(proto, journal)?;
         Ok(())
     }
@@ -169,24 +195,38 @@ impl Network {
     fn follow(
         &mut self,
         sent: Option<Change<Interior>>,
+        contests: &mut Contests,
         journal: &mut Journal,
     ) -> Result<(), Memory>
-        requires { MayFollow self.old }
-        ensures { OnOk result (Adds (Follows sent self.old self.new) journal.old journal.new) }
+        requires follow { MayFollow self.old }
+        requires informed { InformedOver sent contests.old self.old }
+        ensures follows { OnOk result (Adds (Follows sent self.old self.new) journal.old journal.new) }
+        ensures informed { OnOk result (Informed contests.new self.new) }
     {
         match sent {
             None => Ok(()),
-            Some(change) => self.pass_on(&change, journal),
+            Some(change) => self.pass_on(&change, contests, journal),
         }
     }
 
     /// What follows a change that came out on `int`, in its order.
-    fn pass_on(&mut self, change: &Change<Interior>, journal: &mut Journal) -> Result<(), Memory>
-        requires { MayFollow self.old }
-        ensures { OnOk result (Adds (Follows (Some change.now) self.old self.new) journal.old journal.new) }
+    fn pass_on(
+        &mut self,
+        change: &Change<Interior>,
+        contests: &mut Contests,
+        journal: &mut Journal,
+    ) -> Result<(), Memory>
+        requires follow { MayFollow self.old }
+        requires informed { InformedOver (Some change.now) contests.old self.old }
+        ensures follows { OnOk result (Adds (Follows (Some change.now) self.old self.new) journal.old journal.new) }
+        ensures informed { OnOk result (Informed contests.new self.new) }
     {
+        let had = change.before.is_some();
+        let has = change.after.is_some();
+        enter(contests, change.prefix, had, has)?;
         self.inform(change)?;
-        self.redistribute(change, journal)?;
+        self.redistribute(change, contests, journal)?;
+        leave(contests, change.prefix, had, has)?;
         // By cases: rattle's borrow checker can't plan a `?` on a value that holds a forwarding row.
         match self.rib.take_interior(change, journal) {
             Ok(_) => Ok(()),
@@ -211,15 +251,18 @@ impl Network {
         &mut self,
         proto: Proto,
         loss: u32,
+        contests: &mut Contests,
         journal: &mut Journal,
     ) -> Result<Done, Memory>
-        requires { Stands self.old }
-        ensures { IfOk result (TakesTurn (tasks.Rdel proto loss) self.old self.new journal.old journal.new) }
+        requires stands { Stands self.old }
+        requires informed { Informed contests.old self.old }
+        ensures taken { IfOk result (TakesTurn (tasks.Rdel proto loss) self.old self.new journal.old journal.new) }
+        ensures informed { OnOk result (Informed contests.new self.new) }
     {
         match self.tree.unit(Task::Rdel(proto, loss), journal)? {
             Turn::Nothing => Ok(Done::Nothing),
-            Turn::Quiet => self.turned(proto, None, journal),
-            Turn::Sent(change) => self.turned(proto, Some(change), journal),
+            Turn::Quiet => self.turned(proto, None, contests, journal),
+            Turn::Sent(change) => self.turned(proto, Some(change), contests, journal),
         }
     }
 
@@ -228,14 +271,17 @@ impl Network {
         &mut self,
         proto: Proto,
         sent: Option<Change<Interior>>,
+        contests: &mut Contests,
         journal: &mut Journal,
     ) -> Result<Done, Memory>
         requires tree { IsTree self.old.tree }
         requires full { IsFullBut proto self.old.tree }
         requires follow { MayFollow self.old }
-        ensures { IfOk result (Turned proto sent self.old self.new journal.old journal.new) }
+        requires informed { InformedOver sent contests.old self.old }
+        ensures turned { IfOk result (Turned proto sent self.old self.new journal.old journal.new) }
+        ensures informed { OnOk result (Informed contests.new self.new) }
     {
-        self.settle(proto, sent, journal)?;
+        self.settle(proto, sent, contests, journal)?;
         journal.flush()?;
         Ok(Done::Taken)
     }

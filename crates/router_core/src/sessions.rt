@@ -8,11 +8,14 @@ ghost use Rattle.exit_side.specs.Exits.{chain_at as exit_at};
 ghost use Rattle.router_moments.specs.Moments.{Gives};
 ghost use Rattle.router_moments.specs.Stands.{Stands};
 ghost use Rattle.router_moments.specs.Works.{Pushes, AreHeard, IsUpAt, IsSession, HaveFed, HasLost, HasRoom, Ends};
+ghost use Rattle.router_core.specs.Informed.{Informed};
 
+use crate::candidates::{enter, leave};
 use crate::network::Network;
 use crate::updates::again;
 use addr4::{Memory, Prefix};
 use bgp_attr::SharedAttrs;
+use decision::Contests;
 use journal_text::Journal;
 
 impl Network {
@@ -21,16 +24,19 @@ impl Network {
         &mut self,
         number: u32,
         changes: &[(Prefix, Option<SharedAttrs>)],
+        contests: &mut Contests,
         journal: &mut Journal,
     ) -> Result<(), Memory>
         requires stands { Stands self.old }
         requires up { IsUpAt number self.old }
         requires heard { AreHeard self.old.declared.profile changes.now }
-        ensures { OnOk result (Pushes (HaveFed number changes.now self.old self.new) journal.old journal.new) }
+        requires informed { Informed contests.old self.old }
+        ensures feeds { OnOk result (Pushes (HaveFed number changes.now self.old self.new) journal.old journal.new) }
+        ensures informed { OnOk result (Informed contests.new self.new) }
     {
         for change in changes {
             let row = again(&change.1)?;
-            self.feed_one(number, change.0, row, journal)?;
+            self.feed_one(number, change.0, row, contests, journal)?;
         }
         Ok(())
     }
@@ -40,15 +46,22 @@ impl Network {
         number: u32,
         prefix: Prefix,
         row: Option<SharedAttrs>,
+        contests: &mut Contests,
         journal: &mut Journal,
     ) -> Result<(), Memory>
         requires stands { Stands self.old }
         requires up { IsUpAt number self.old }
         requires heard { ForSome row (MayBeHeard self.old.declared.profile) }
-        ensures { OnOk result (Pushes (HaveFed number ((prefix, row) ∷ []) self.old self.new) journal.old journal.new) }
+        requires informed { Informed contests.old self.old }
+        ensures feeds { OnOk result (Pushes (HaveFed number ((prefix, row) ∷ []) self.old self.new) journal.old journal.new) }
+        ensures informed { OnOk result (Informed contests.new self.new) }
     {
+        let had = self.has_candidate(number, prefix);
         let sent = self.chains.feed(number, prefix, row, journal)?;
-        self.settle_peer(number, sent, journal)
+        let has = self.has_candidate(number, prefix);
+        enter(contests, prefix, had, has)?;
+        self.settle_peer(number, sent, contests, journal)?;
+        leave(contests, prefix, had, has)
     }
 
     /// Session `session` of a peer is lost. Where 16 deletion stages stand and it has routes, the oldest runs to its end
@@ -57,28 +70,38 @@ impl Network {
         &mut self,
         number: u32,
         session: u32,
+        contests: &mut Contests,
         journal: &mut Journal,
     ) -> Result<(), Memory>
         requires stands { Stands self.old }
         requires up { IsSession number session self.old }
         requires exit { IsSome (exit_at number self.old.exits) }
-        ensures { OnOk result (Gives (HasLost number session self.old self.new) journal.old journal.new) }
+        requires informed { Informed contests.old self.old }
+        ensures loses { OnOk result (Gives (HasLost number session self.old self.new) journal.old journal.new) }
+        ensures informed { OnOk result (Informed contests.new self.new) }
     {
         self.exits.end(number, journal)?;
-        self.make_room(number, journal)?;
+        self.make_room(number, contests, journal)?;
         self.lose_with_room(number, session, journal)?;
         journal.flush()
     }
 
     /// Makes room for one more deletion stage of a peer.
-    fn make_room(&mut self, number: u32, journal: &mut Journal) -> Result<(), Memory>
+    fn make_room(
+        &mut self,
+        number: u32,
+        contests: &mut Contests,
+        journal: &mut Journal,
+    ) -> Result<(), Memory>
         requires stands { Stands self.old }
         requires there { IsSome (chain_at number self.old.chains) }
-        ensures { OnOk result (Gives (HasRoom number self.old self.new) journal.old journal.new) }
+        requires informed { Informed contests.old self.old }
+        ensures makes { OnOk result (Gives (HasRoom number self.old self.new) journal.old journal.new) }
+        ensures informed { OnOk result (Informed contests.new self.new) }
     {
         match self.chains.overdue(number) {
             Some(task) => {
-                self.drain_task(task, journal)?;
+                self.drain_task(task, contests, journal)?;
                 Ok(())
             }
             None => journal.flush(),

@@ -7,41 +7,50 @@ ghost use Rattle.std.specs.Prelude.{◌≡◌, ℕ, ◌<◌, ◌≤◌, IfOk, is
 ghost use Rattle.event_text.specs.declared.event.Event.TheVariants as events;
 ghost use Rattle.peer_side.specs.Peers.{chain_at};
 ghost use Rattle.router_moments.specs.declared.tasks.Phase.TheVariants as phases;
-ghost use Rattle.router_moments.specs.Moments.{Gives};
+ghost use Rattle.router_moments.specs.Moments.{Gives, best_of};
 ghost use Rattle.router_moments.specs.Stands.{Stands, AllHaveExits};
 ghost use Rattle.router_moments.specs.Holding.{held_in, first_held};
 ghost use Rattle.router_moments.specs.Works.{HasStepped};
+ghost use Rattle.router_core.specs.Informed.{Informed};
 
 use crate::network::Network;
 use crate::turns::{exit_of, phases, task_of};
 use addr4::{Addr, Memory, Prefix};
-use decision::has;
+use decision::Contests;
 use hop_side::Named;
 use journal_text::{Journal, Line, Task};
 use router_moments::{Phase, only_work_holds_up, the_first_task_tells};
 
 impl Network {
     /// `settled`: whether a prefix is, or the first task that holds it up.
-    pub(crate) fn settled(&mut self, p: Prefix, journal: &mut Journal) -> Result<u128, Memory>
+    pub(crate) fn settled(
+        &mut self,
+        p: Prefix,
+        contests: &Contests,
+        journal: &mut Journal,
+    ) -> Result<u128, Memory>
         requires stands { Stands self.old }
         requires exits { AllHaveExits self.old }
+        requires informed { Informed contests.now self.old }
         ensures { IfOk result (λ turns. Gives (HasStepped self.old (events.Settled p) turns self.new) journal.old journal.new) }
     {
         the_first_task_tells();
         self.prepare()?;
-        journal.push_line(Line::Settled(p, self.first_held(p)))?;
+        let there = contests.has(&self.lent(), &p);
+        journal.push_line(Line::Settled(p, self.first_held(p, there)))?;
         journal.flush()?;
         Ok(0)
     }
 
-    /// The first task, in the order of an idle, that holds up a prefix.
-    pub(crate) fn first_held(&self, p: Prefix) -> Option<Task>
-        requires { Stands self.now }
+    /// The first task, in the order of an idle, that holds up a prefix, by whether there is a best route.
+    pub(crate) fn first_held(&self, p: Prefix, there: bool) -> Option<Task>
+        requires stands { Stands self.now }
+        requires there { there ≡ is_some (best_of self.now p) }
         ensures { result ≡ first_held self.now p }
     {
         let phases = phases();
         for i in 0..phases.len() {
-            if let Some(task) = self.held_in(phases[i], p) {
+            if let Some(task) = self.held_in(phases[i], p, there) {
                 return Some(task);
             }
         }
@@ -49,8 +58,9 @@ impl Network {
     }
 
     /// The first one of a phase; none of a phase without work.
-    fn held_in(&self, phase: Phase, p: Prefix) -> Option<Task>
-        requires { Stands self.now }
+    fn held_in(&self, phase: Phase, p: Prefix, there: bool) -> Option<Task>
+        requires stands { Stands self.now }
+        requires there { there ≡ is_some (best_of self.now p) }
         ensures { result ≡ held_in phase self.now p }
     {
         only_work_holds_up();
@@ -62,7 +72,7 @@ impl Network {
             Phase::Fin => self.chains.first_walk_at(p),
             Phase::Nh => task_of(self.hops.first_held(&self.lent(), p)),
             Phase::ReadRib => self.reader_held(p),
-            Phase::Out => exit_of(self.exits.first_held(has(&self.lent(), &p), p)),
+            Phase::Out => exit_of(self.exits.first_held(there, p)),
             Phase::Ext => self.external_held(p),
             Phase::Ref => None,
         }

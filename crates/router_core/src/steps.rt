@@ -16,6 +16,7 @@ ghost use Rattle.event_text.specs.WellFormed.{IsWellFormed};
 ghost use Rattle.exit_side.specs.Exits.{chain_at as exit_at};
 ghost use Rattle.router_moments.specs.Stands.{Stands, AllHaveExits};
 ghost use Rattle.router_moments.specs.Works.{HasStepped, HasIdled, HasHeard, IsHeardMessage, IsSession};
+ghost use Rattle.router_core.specs.Informed.{Informed};
 
 use crate::network::Network;
 use crate::peers::said;
@@ -23,6 +24,7 @@ use crate::updates::changes;
 use addr4::{Memory, Prefix};
 use bgp_attr::{Octets, Profile, Speaker};
 use bgp_wire::{Message, Notice, write_notification};
+use decision::Contests;
 use event_text::{DeclaredPeer, Event};
 use journal_text::{Journal, Line, Link, Task};
 use policy_rules::Rules;
@@ -32,13 +34,20 @@ use std::alloc::Global;
 
 impl Network {
     /// Steps an event, and makes the text of its lines. Answers how many turns `work` or `idle` took.
-    pub(crate) fn step(&mut self, event: Event, journal: &mut Journal) -> Result<u128, Memory>
+    pub(crate) fn step(
+        &mut self,
+        event: Event,
+        contests: &mut Contests,
+        journal: &mut Journal,
+    ) -> Result<u128, Memory>
         requires admitted { refusal self.old.declared event ≡ None }
         requires few { AreNumbered 4294967294 self.old.tree }
         requires stands { Stands self.old }
         requires formed { IsWellFormed self.old.declared.profile event }
         requires exits { AllHaveExits self.old }
-        ensures { IfOk result (λ turns. Gives (HasStepped self.old event turns self.new) journal.old journal.new) }
+        requires informed { Informed contests.old self.old }
+        ensures steps { IfOk result (λ turns. Gives (HasStepped self.old event turns self.new) journal.old journal.new) }
+        ensures informed { OnOk result (Informed contests.new self.new) }
     {
         match event {
             Event::Nothing => self.nothing(journal),
@@ -48,20 +57,20 @@ impl Network {
             Event::Local(words) => self.local(words, journal),
             Event::Peer(number, words, client) => self.peer(number, words, client, journal),
             Event::Up(number) => self.up(number, journal),
-            Event::Down(number) => self.down(number, journal),
-            Event::Bgp(number, octets) => self.message(number, octets, journal),
+            Event::Down(number) => self.down(number, contests, journal),
+            Event::Bgp(number, octets) => self.message(number, octets, contests, journal),
             Event::FilterIn(number, rules) => self.filter_in(number, rules, journal),
             Event::FilterOut(number, rules) => self.filter_out(number, rules, journal),
-            Event::RouteAdd(p, row) => self.route_add(p, row, journal),
-            Event::RouteDel(proto, p) => self.route_del(proto, p, journal),
-            Event::Lose(proto) => self.lose_protocol(proto, journal),
+            Event::RouteAdd(p, row) => self.route_add(p, row, contests, journal),
+            Event::RouteDel(proto, p) => self.route_del(proto, p, contests, journal),
+            Event::Lose(proto) => self.lose_protocol(proto, contests, journal),
             Event::Redist(proto, on) => self.redistribution(proto, on, journal),
             Event::Cover(address) => self.cover(address, journal),
-            Event::Settled(p) => self.settled(p, journal),
-            Event::Idle => self.idle_turns(journal),
-            Event::Work(task, most) => self.work(task, most, journal),
-            Event::Ask(link, p) => self.look_up(link, p, journal),
-            Event::Show(link) => self.list(link, journal),
+            Event::Settled(p) => self.settled(p, contests, journal),
+            Event::Idle => self.idle_turns(contests, journal),
+            Event::Work(task, most) => self.work(task, most, contests, journal),
+            Event::Ask(link, p) => self.look_up(link, p, contests, journal),
+            Event::Show(link) => self.list(link, contests, journal),
         }
     }
 
@@ -209,41 +218,63 @@ impl Network {
         Ok(0)
     }
 
-    fn look_up(&mut self, link: Link, p: Prefix, journal: &mut Journal) -> Result<u128, Memory>
-        requires { Stands self.old }
+    fn look_up(
+        &mut self,
+        link: Link,
+        p: Prefix,
+        contests: &Contests,
+        journal: &mut Journal,
+    ) -> Result<u128, Memory>
+        requires stands { Stands self.old }
+        requires informed { Informed contests.now self.old }
         ensures { IfOk result (λ turns. Gives (HasStepped self.old (events.Ask link p) turns self.new) journal.old journal.new) }
     {
         self.prepare()?;
-        self.ask(link, p, journal)?;
+        self.ask(link, p, contests, journal)?;
         journal.flush()?;
         Ok(0)
     }
 
-    fn list(&mut self, link: Link, journal: &mut Journal) -> Result<u128, Memory>
-        requires { Stands self.old }
+    fn list(
+        &mut self,
+        link: Link,
+        contests: &Contests,
+        journal: &mut Journal,
+    ) -> Result<u128, Memory>
+        requires stands { Stands self.old }
+        requires informed { Informed contests.now self.old }
         ensures { IfOk result (λ turns. Gives (HasStepped self.old (events.Show link) turns self.new) journal.old journal.new) }
     {
         self.prepare()?;
-        self.show(link, journal)?;
+        self.show(link, contests, journal)?;
         journal.flush()?;
         Ok(0)
     }
 
-    fn idle_turns(&mut self, journal: &mut Journal) -> Result<u128, Memory>
+    fn idle_turns(&mut self, contests: &mut Contests, journal: &mut Journal) -> Result<u128, Memory>
         requires stands { Stands self.old }
         requires exits { AllHaveExits self.old }
-        ensures { IfOk result (λ turns. Gives (HasStepped self.old events.Idle turns self.new) journal.old journal.new) }
+        requires informed { Informed contests.old self.old }
+        ensures steps { IfOk result (λ turns. Gives (HasStepped self.old events.Idle turns self.new) journal.old journal.new) }
+        ensures informed { OnOk result (Informed contests.new self.new) }
     {
-        let idle = self.idle(journal)?;
+        let idle = self.idle(contests, journal)?;
         Ok(idle.turns)
     }
 
     /// A peer's session ends; `ignored` where none is up.
-    fn down(&mut self, number: u32, journal: &mut Journal) -> Result<u128, Memory>
+    fn down(
+        &mut self,
+        number: u32,
+        contests: &mut Contests,
+        journal: &mut Journal,
+    ) -> Result<u128, Memory>
         requires admitted { refusal self.old.declared (events.Down number) ≡ None }
         requires stands { Stands self.old }
         requires exits { AllHaveExits self.old }
-        ensures { IfOk result (λ turns. Gives (HasStepped self.old (events.Down number) turns self.new) journal.old journal.new) }
+        requires informed { Informed contests.old self.old }
+        ensures steps { IfOk result (λ turns. Gives (HasStepped self.old (events.Down number) turns self.new) journal.old journal.new) }
+        ensures informed { OnOk result (Informed contests.new self.new) }
     {
         let Some(peer) = self.declared.peer(number) else {
             unreachable!()
@@ -251,7 +282,7 @@ impl Network {
         if !peer.up {
             return ignored(journal);
         }
-        self.lose(number, peer.session, journal)?;
+        self.lose(number, peer.session, contests, journal)?;
         Ok(0)
     }
 
@@ -260,26 +291,37 @@ impl Network {
         &mut self,
         number: u32,
         octets: Octets,
+        contests: &mut Contests,
         journal: &mut Journal,
     ) -> Result<u128, Memory>
         requires admitted { refusal self.old.declared (events.Bgp number octets) ≡ None }
         requires stands { Stands self.old }
         requires formed { IsWellFormed self.old.declared.profile (events.Bgp number octets) }
         requires exits { AllHaveExits self.old }
-        ensures { IfOk result (λ turns. Gives (HasStepped self.old (events.Bgp number octets) turns self.new) journal.old journal.new) }
+        requires informed { Informed contests.old self.old }
+        ensures steps { IfOk result (λ turns. Gives (HasStepped self.old (events.Bgp number octets) turns self.new) journal.old journal.new) }
+        ensures informed { OnOk result (Informed contests.new self.new) }
     {
-        let turns = self.receive(number, octets.as_slice(), journal);
+        let turns = self.receive(number, octets.as_slice(), contests, journal);
         drop(octets);
         turns
     }
 
     /// The same of octets that are lent.
-    fn receive(&mut self, number: u32, octets: &[u8], journal: &mut Journal) -> Result<u128, Memory>
+    fn receive(
+        &mut self,
+        number: u32,
+        octets: &[u8],
+        contests: &mut Contests,
+        journal: &mut Journal,
+    ) -> Result<u128, Memory>
         requires admitted { refusal self.old.declared (events.Bgp number octets.now) ≡ None }
         requires stands { Stands self.old }
         requires formed { IsWellFormed self.old.declared.profile (events.Bgp number octets.now) }
         requires exits { AllHaveExits self.old }
-        ensures { IfOk result (λ turns. Gives (HasStepped self.old (events.Bgp number octets.now) turns self.new) journal.old journal.new) }
+        requires informed { Informed contests.old self.old }
+        ensures steps { IfOk result (λ turns. Gives (HasStepped self.old (events.Bgp number octets.now) turns self.new) journal.old journal.new) }
+        ensures informed { OnOk result (Informed contests.new self.new) }
     {
         let Some(peer) = self.declared.peer(number) else {
             unreachable!()
@@ -288,7 +330,7 @@ impl Network {
             return ignored(journal);
         }
         let message = said(self.alloc, self.declared.profile(), &peer, octets)?;
-        self.hear(number, peer, message, journal)?;
+        self.hear(number, peer, message, contests, journal)?;
         Ok(0)
     }
 
@@ -298,6 +340,7 @@ impl Network {
         number: u32,
         peer: DeclaredPeer,
         message: Message,
+        contests: &mut Contests,
         journal: &mut Journal,
     ) -> Result<(), Memory>
         requires stands { Stands self.old }
@@ -306,12 +349,14 @@ impl Network {
         requires short { HasShortNotice message }
         requires heard { IsHeardMessage self.old.declared.profile message }
         requires exit { IsSome (exit_at number self.old.exits) }
-        ensures { OnOk result (Gives (HasHeard number peer self.old message self.new) journal.old journal.new) }
+        requires informed { Informed contests.old self.old }
+        ensures hears { OnOk result (Gives (HasHeard number peer self.old message self.new) journal.old journal.new) }
+        ensures informed { OnOk result (Informed contests.new self.new) }
     {
         match message {
             Message::Update(update) => {
                 let changes = changes(self.alloc, update)?;
-                self.feed(number, changes.as_slice(), journal)?;
+                self.feed(number, changes.as_slice(), contests, journal)?;
                 journal.flush()
             }
             Message::Keepalive => journal.flush(),
@@ -320,35 +365,49 @@ impl Network {
                 self.refresh(number, refresh);
                 journal.flush()
             }
-            Message::Notification => self.lose(number, peer.session, journal),
+            Message::Notification => self.lose(number, peer.session, contests, journal),
             Message::Notify(notice) => {
                 let octets = spelled(self.alloc, notice)?;
                 journal.push_line(Line::Note(number, octets))?;
-                self.lose(number, peer.session, journal)
+                self.lose(number, peer.session, contests, journal)
             }
         }
     }
 
     /// Every task runs to its end.
-    pub(crate) fn idle(&mut self, journal: &mut Journal) -> Result<Idle, Memory>
+    pub(crate) fn idle(
+        &mut self,
+        contests: &mut Contests,
+        journal: &mut Journal,
+    ) -> Result<Idle, Memory>
         requires stands { Stands self.old }
         requires exits { AllHaveExits self.old }
-        ensures { IfOk result (λ idle. Gives (HasIdled self.old idle self.new) journal.old journal.new) }
+        requires informed { Informed contests.old self.old }
+        ensures idles { IfOk result (λ idle. Gives (HasIdled self.old idle self.new) journal.old journal.new) }
+        ensures informed { OnOk result (Informed contests.new self.new) }
     {
         let bound = self.bound()?;
         journal.push_line(Line::Bound(bound))?;
-        let turns = self.drain_all(journal)?;
+        let turns = self.drain_all(contests, journal)?;
         journal.push_line(Line::Idle(turns))?;
         journal.flush()?;
         Ok(Idle { bound, turns })
     }
 
     /// Some turns of a task, and the line that counts them.
-    fn work(&mut self, task: Task, most: u32, journal: &mut Journal) -> Result<u128, Memory>
-        requires { Stands self.old }
-        ensures { IfOk result (λ turns. Gives (HasStepped self.old (events.Work task most) turns self.new) journal.old journal.new) }
+    fn work(
+        &mut self,
+        task: Task,
+        most: u32,
+        contests: &mut Contests,
+        journal: &mut Journal,
+    ) -> Result<u128, Memory>
+        requires stands { Stands self.old }
+        requires informed { Informed contests.old self.old }
+        ensures steps { IfOk result (λ turns. Gives (HasStepped self.old (events.Work task most) turns self.new) journal.old journal.new) }
+        ensures informed { OnOk result (Informed contests.new self.new) }
     {
-        let turns = self.turns(task, u128::from(most), journal)?;
+        let turns = self.turns(task, u128::from(most), contests, journal)?;
         journal.push_line(Line::Work(turns))?;
         journal.flush()?;
         Ok(turns)

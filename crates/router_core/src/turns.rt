@@ -1,33 +1,42 @@
 //! Turns of background work.
 
-ghost use Rattle.std.specs.Prelude.{◌≡◌, IfOk, IfNone, option_map};
+ghost use Rattle.std.specs.Prelude.{◌≡◌, IfOk, OnOk, IfNone, option_map};
 ghost use Rattle.journal_text.specs.declared.link.Task.TheVariants as tasks;
 ghost use Rattle.router_moments.specs.Moments.{Gives};
 ghost use Rattle.router_moments.specs.Stands.{Stands, AllHaveExits};
 ghost use Rattle.router_moments.specs.Phases.{all_phases, counts};
 ghost use Rattle.router_moments.specs.Turns.{next_task};
 ghost use Rattle.router_moments.specs.Works.{TakesTurn, AreTurns, HasDrained, RunsOut, AllHaveDrained};
+ghost use Rattle.router_core.specs.Informed.{Informed};
 
 use crate::network::{Network, plus};
 use addr4::Memory;
+use decision::Contests;
 use journal_text::{Journal, Task};
 use router_moments::{Done, Phase, only_work_holds_up, rows_at_rest_are_exact};
 
 impl Network {
     /// One turn of a task, and the text of its lines.
-    pub(crate) fn turn(&mut self, task: Task, journal: &mut Journal) -> Result<Done, Memory>
-        requires { Stands self.old }
-        ensures { IfOk result (TakesTurn task self.old self.new journal.old journal.new) }
+    pub(crate) fn turn(
+        &mut self,
+        task: Task,
+        contests: &mut Contests,
+        journal: &mut Journal,
+    ) -> Result<Done, Memory>
+        requires stands { Stands self.old }
+        requires informed { Informed contests.old self.old }
+        ensures taken { IfOk result (TakesTurn task self.old self.new journal.old journal.new) }
+        ensures informed { OnOk result (Informed contests.new self.new) }
     {
         match task {
-            Task::Rdel(proto, loss) => self.turn_route(proto, loss, journal),
-            Task::Nh(number) => self.turn_hops(number, journal),
-            Task::Red => self.turn_own(journal),
+            Task::Rdel(proto, loss) => self.turn_route(proto, loss, contests, journal),
+            Task::Nh(number) => self.turn_hops(number, contests, journal),
+            Task::Red => self.turn_own(contests, journal),
             Task::Ext => self.turn_external(journal),
             Task::ReadRib => self.turn_reader(journal),
-            Task::Out(number) => self.turn_exit(number, journal),
+            Task::Out(number) => self.turn_exit(number, contests, journal),
             Task::Ref(number) => self.turn_refresh(number, journal),
-            Task::Del(_, _) | Task::Fin(_) => self.turn_peer(task, journal),
+            Task::Del(_, _) | Task::Fin(_) => self.turn_peer(task, contests, journal),
         }
     }
 
@@ -36,14 +45,17 @@ impl Network {
         &mut self,
         task: Task,
         most: u128,
+        contests: &mut Contests,
         journal: &mut Journal,
     ) -> Result<u128, Memory>
-        requires { Stands self.old }
-        ensures { IfOk result (λ turns. Gives (AreTurns task most self.old turns self.new) journal.old journal.new) }
+        requires stands { Stands self.old }
+        requires informed { Informed contests.old self.old }
+        ensures taken { IfOk result (λ turns. Gives (AreTurns task most self.old turns self.new) journal.old journal.new) }
+        ensures informed { OnOk result (Informed contests.new self.new) }
     {
         journal.flush()?;
         for taken in 0..most {
-            match self.turn(task, journal)? {
+            match self.turn(task, contests, journal)? {
                 Done::Nothing => return Ok(taken),
                 Done::Taken => {}
             }
@@ -52,14 +64,21 @@ impl Network {
     }
 
     /// Turns of a task to its end.
-    pub(crate) fn drain_task(&mut self, task: Task, journal: &mut Journal) -> Result<u128, Memory>
-        requires { Stands self.old }
-        ensures { IfOk result (λ turns. Gives (HasDrained task self.old turns self.new) journal.old journal.new) }
+    pub(crate) fn drain_task(
+        &mut self,
+        task: Task,
+        contests: &mut Contests,
+        journal: &mut Journal,
+    ) -> Result<u128, Memory>
+        requires stands { Stands self.old }
+        requires informed { Informed contests.old self.old }
+        ensures drained { IfOk result (λ turns. Gives (HasDrained task self.old turns self.new) journal.old journal.new) }
+        ensures informed { OnOk result (Informed contests.new self.new) }
     {
         journal.flush()?;
         let mut turns = 0;
         'rest: loop {
-            match self.turn(task, journal)? {
+            match self.turn(task, contests, journal)? {
                 Done::Nothing => return Ok(turns),
                 Done::Taken => turns = plus(turns, 1)?,
             }
@@ -86,23 +105,36 @@ impl Network {
     }
 
     /// A phase: the first of its tasks that has work runs to its end, until none has.
-    pub(crate) fn drain(&mut self, phase: Phase, journal: &mut Journal) -> Result<u128, Memory>
-        requires { Stands self.old }
-        ensures { IfOk result (λ turns. Gives (RunsOut phase self.old turns self.new) journal.old journal.new) }
+    pub(crate) fn drain(
+        &mut self,
+        phase: Phase,
+        contests: &mut Contests,
+        journal: &mut Journal,
+    ) -> Result<u128, Memory>
+        requires stands { Stands self.old }
+        requires informed { Informed contests.old self.old }
+        ensures drained { IfOk result (λ turns. Gives (RunsOut phase self.old turns self.new) journal.old journal.new) }
+        ensures informed { OnOk result (Informed contests.new self.new) }
     {
         journal.flush()?;
         let mut turns = 0;
         while let Some(task) = self.next(phase) {
-            turns = plus(turns, self.drain_task(task, journal)?)?;
+            turns = plus(turns, self.drain_task(task, contests, journal)?)?;
         }
         Ok(turns)
     }
 
     /// Phase after phase, each to its end.
-    pub(crate) fn drain_all(&mut self, journal: &mut Journal) -> Result<u128, Memory>
+    pub(crate) fn drain_all(
+        &mut self,
+        contests: &mut Contests,
+        journal: &mut Journal,
+    ) -> Result<u128, Memory>
         requires stands { Stands self.old }
         requires exits { AllHaveExits self.old }
-        ensures { IfOk result (λ turns. Gives (AllHaveDrained self.old turns self.new) journal.old journal.new) }
+        requires informed { Informed contests.old self.old }
+        ensures drained { IfOk result (λ turns. Gives (AllHaveDrained self.old turns self.new) journal.old journal.new) }
+        ensures informed { OnOk result (Informed contests.new self.new) }
     {
         rows_at_rest_are_exact();
         only_work_holds_up();
@@ -110,7 +142,7 @@ impl Network {
         let phases = phases();
         let mut turns = 0;
         for i in 0..phases.len() {
-            turns = plus(turns, self.drain(phases[i], journal)?)?;
+            turns = plus(turns, self.drain(phases[i], contests, journal)?)?;
         }
         Ok(turns)
     }

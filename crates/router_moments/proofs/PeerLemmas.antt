@@ -105,7 +105,7 @@ module _ (m : Moment) (me : Speaker) (k : ℕ) (words : Speaker) (client : Bool)
   abbrev fresh : Chained
   fresh = new_chain me (words_of m.declared.speaker k words client)
 
-  no_chain_yet : chain_at k m.chains ≡ None
+  pub no_chain_yet : chain_at k m.chains ≡ None
   no_chain_yet = no_chain (peer_at k m.declared.peers) (chain_at k m.chains) (stands.peers.each k) absent
 
   -- no row stands on its `filt.K`
@@ -115,7 +115,7 @@ module _ (m : Moment) (me : Speaker) (k : ℕ) (words : Speaker) (client : Bool)
   no_upper : filt_at (put_chain k fresh m.chains) k ≡ no_rows
   no_upper = ap filt_by (put_here k fresh m.chains) ∙ no_filtered
 
-  quiet : (j : ℕ) → filt_at (put_chain k fresh m.chains) j ≡ filt_at m.chains j
+  pub quiet : (j : ℕ) → filt_at (put_chain k fresh m.chains) j ≡ filt_at m.chains j
   quiet = put_kept filt_by k fresh m.chains (no_filtered ∙ ap filt_by (sym no_chain_yet))
 
   no_resolver_yet : resolver_at k m.hops ≡ None
@@ -125,7 +125,7 @@ module _ (m : Moment) (me : Speaker) (k : ℕ) (words : Speaker) (client : Bool)
   hops_then = put_resolver k (nothing_known k) m.hops
 
   -- and none on its `res.K`
-  same_resolved : (j : ℕ) → res_at hops_then (filt_at (put_chain k fresh m.chains)) j ≡ res_at m.hops (filt_at (put_chain k fresh m.chains)) j
+  pub same_resolved : (j : ℕ) → res_at hops_then (filt_at (put_chain k fresh m.chains)) j ≡ res_at m.hops (filt_at (put_chain k fresh m.chains)) j
   same_resolved j = ap (λ (o : Option (Resolving Metric)). rows_by o (filt_at (put_chain k fresh m.chains) j)) (resolver_put k (nothing_known k) m.hops j) ∙ by_bool (nat_eq j k) (λ b. rows_by (cond b (Some (nothing_known {A = Metric} k)) (resolver_at j m.hops)) (filt_at (put_chain k fresh m.chains) j) ≡ res_at m.hops (filt_at (put_chain k fresh m.chains)) j)
       (λ e. subst (λ (n : ℕ). rows_by (Some (nothing_known {A = Metric} k)) (filt_at (put_chain k fresh m.chains) n) ≡ res_at m.hops (filt_at (put_chain k fresh m.chains)) n) (sym (equal_by j k e))
       (ap (λ (u : Rows Route). rows_by (Some (nothing_known {A = Metric} k)) u) no_upper ∙ sym (ap (λ (o : Option (Resolving Metric)). rows_by o (filt_at (put_chain k fresh m.chains) k)) no_resolver_yet))) (λ _. refl)

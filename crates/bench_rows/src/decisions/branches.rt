@@ -3,17 +3,17 @@
 //! Whoever holds them changes a table and tells the decision the change. What is kept true: each branch's rows are those of
 //! its table.
 
-ghost use Rattle.std.specs.Prelude.{◌≡◌};
+ghost use Rattle.std.specs.Prelude.{◌≡◌, ◌<◌, length, IfOk, OnOk};
 ghost use Rattle.std.specs.Option.{option_copied};
-ghost use Rattle.bench_rows.specs.Tables.{table_at};
+ghost use Rattle.bench_rows.specs.Tables.{table_at, rows_in, Sets};
 
-use addr4::{Memory, Place, Prefix, Row};
+use addr4::{Memory, Prefix, Row};
 use bgp_attr::Route;
 use decision::Branches;
 use safe_table::Table;
 
 /// At most how many branches there are.
-const MOST: u8 = 65;
+pub(crate) const MOST: u8 = 65;
 
 /// A table of each branch's routes, by the branch's number. Of more than 65 those from the 66th on are no branch's.
 #[derive(Drop)]
@@ -30,24 +30,36 @@ impl TableBranches {
         }
         None
     }
+
+    /// Sets the row of a branch at a prefix, and answers the one before.
+    pub(crate) fn set(
+        &mut self,
+        branch: u8,
+        prefix: Prefix,
+        row: Option<Route>,
+    ) -> Result<Option<Route>, Memory>
+        requires small { branch < 65 }
+        requires there { branch < length self.old.tables.items }
+        ensures rows { IfOk result (λ before. Sets branch prefix row before (rows_in self.old.tables.items) (rows_in self.new.tables.items)) }
+        ensures there { OnOk result (length self.new.tables.items ≡ length self.old.tables.items) }
+    {
+        let table = &mut self.tables[usize::from(branch)];
+        match row {
+            Some(route) => {
+                let before = table.insert(prefix, route)?;
+                Ok(before)
+            }
+            None => Ok(table.remove(prefix)),
+        }
+    }
 }
 
 impl Branches for TableBranches {
-    ghost use Rattle.link_change.specs.Rows.{with_rows};
-    ghost use Rattle.bench_rows.specs.Tables.{table_at, rows_of};
+    ghost use Rattle.bench_rows.specs.Tables.{rows_in, candidates_in};
 
-    ghost rows = { λ s b. rows_of (table_at s.tables.items b) };
+    ghost rows = { λ s. rows_in s.tables.items };
 
-    ghost candidates = { λ s b. with_rows (rows_of (table_at s.tables.items b)) };
-
-    fn count(&self) -> u8 {
-        let count = self.tables.len();
-        if count < usize::from(MOST) {
-            count as u8
-        } else {
-            MOST
-        }
-    }
+    ghost candidates = { λ s. candidates_in (rows_in s.tables.items) };
 
     fn asked(&self, branch: u8, p: &Prefix) -> Result<Option<Route>, Memory> {
         let Some(table) = self.table(branch) else {
@@ -64,10 +76,5 @@ impl Branches for TableBranches {
             return false;
         };
         table.get(*p).is_some()
-    }
-
-    fn next_candidate(&self, branch: u8, after: &Place) -> Option<Prefix> {
-        let table = self.table(branch)?;
-        table.next_after(*after)
     }
 }

@@ -1,6 +1,10 @@
 use Rattle.router_moments.proofs.Common.{Gives}
 use Rattle.router_moments.proofs.RunLemmas.{Idling}
+use Rattle.router_core.specs.Informed.{Informed}
 use Rattle.router_core.proofs.network.Network.drain_all.Given as goal
 
 abbrev pub invariant-loop-i : goal.invariant-loop-i
-invariant-loop-i l = Gives (Idling l.i l.turns l.fn.self l.self) l.fn.journal l.journal
+invariant-loop-i l = record {
+  given : Gives (Idling l.i l.turns l.fn.self l.self) l.fn.journal l.journal;
+  informed : Informed l.contests l.self;
+}

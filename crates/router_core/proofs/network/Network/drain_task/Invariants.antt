@@ -1,9 +1,13 @@
 use Rattle.router_moments.proofs.Common.{counts, phase_of}
 use Rattle.router_moments.proofs.RunLemmas.{HaveGiven}
+use Rattle.router_core.specs.Informed.{Informed}
 use Rattle.router_core.proofs.network.Network.drain_task.Given as goal
 
 abbrev pub invariant-rest : goal.invariant-rest
-invariant-rest l = HaveGiven l.task l.turns l.fn.self l.self l.fn.journal l.journal
+invariant-rest l = record {
+  given : HaveGiven l.task l.turns l.fn.self l.self l.fn.journal l.journal;
+  informed : Informed l.contests l.self;
+}
 
 abbrev pub decreases-rest : goal.decreases-rest
 decreases-rest l = counts l.self (phase_of l.task)

@@ -1,4 +1,4 @@
-use Rattle.router_moments.proofs.Common.{ap, refl, true, Profile, with_four_octets, as4_is_first}
+use Rattle.router_moments.proofs.Common.{ap, refl, with_four_octets, as4_is_first}
 use Rattle.event_text.specs.declared.event.Event.TheVariants as events
 use Rattle.router_moments.proofs.ProfileLemmas.{profile_is_stepped}
 use Rattle.router_core.proofs.network.Network.four_octets.Goals as goal

@@ -7,8 +7,8 @@ use Rattle.router_core.proofs.ShownRows.{show_stepped}
 use Rattle.router_core.proofs.ReadLemmas.{have_readers}
 use Rattle.router_core.proofs.network.Network.list.Goals as goal
 
-pub show-requires : goal.show-requires
-show-requires c = subst HaveReaders (sym c.prepare.ensures) (have_readers c.args.self.now c.requires)
+pub show-requires-clause-readers : goal.show-requires-clause-readers
+show-requires-clause-readers c = subst HaveReaders (sym c.prepare.ensures) (have_readers c.args.self.now c.requires.stands)
 
 pub returns : goal.returns
 returns c =
@@ -16,5 +16,5 @@ returns c =
     let link = c.args.link in
     subst (λ (n : Moment). Gives (HasStepped n (events.Show link) 0 m) c.args.journal.now c.flush.new.self) c.prepare.ensures
     (gives_pushed (Shows link (router_links m link)) (HasStepped m (events.Show link) 0 m)
-    (λ said shows. show_stepped m link (router_links m link) said (subst Stands (sym c.prepare.ensures) c.requires) refl shows)
+    (λ said shows. show_stepped m link (router_links m link) said (subst Stands (sym c.prepare.ensures) c.requires.stands) refl shows)
     c.args.journal.now c.show.new.journal c.flush.new.self c.in_ok-show.ensures c.in_ok-flush.ensures.ok)

@@ -6,12 +6,12 @@ use Rattle.router_core.proofs.ShownRows.{ask_stepped}
 use Rattle.router_core.proofs.ReadLemmas.{have_readers}
 use Rattle.router_core.proofs.network.Network.look_up.Goals as goal
 
-pub ask-requires : goal.ask-requires
-ask-requires c = subst HaveReaders (sym c.prepare.ensures) (have_readers c.args.self.now c.requires)
+pub ask-requires-clause-readers : goal.ask-requires-clause-readers
+ask-requires-clause-readers c = subst HaveReaders (sym c.prepare.ensures) (have_readers c.args.self.now c.requires.stands)
 
 pub returns : goal.returns
 returns c =
     let m = c.prepare.new.self in
     let of = router_links m c.args.link in
     subst (λ (n : Moment). Gives (HasStepped n (events.Ask c.args.link c.args.p) 0 m) c.args.journal.now c.flush.new.self) c.prepare.ensures
-    (answer_lines c.args.link c.args.p of, c.in_ok-flush.ensures.ok ∙ ap flushed c.in_ok-ask.ensures, ask_stepped m c.args.link c.args.p of (subst Stands (sym c.prepare.ensures) c.requires) refl)
+    (answer_lines c.args.link c.args.p of, c.in_ok-flush.ensures.ok ∙ ap flushed c.in_ok-ask.ensures, ask_stepped m c.args.link c.args.p of (subst Stands (sym c.prepare.ensures) c.requires.stands) refl)

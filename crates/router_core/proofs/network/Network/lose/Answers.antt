@@ -3,6 +3,8 @@ use Rattle.router_core.specs.contracts.network.Network.{the_view}
 use Rattle.router_moments.proofs.HopTurns.{exits_sound}
 use Rattle.router_moments.proofs.StandLemmas.{chain_is_there}
 use Rattle.router_core.proofs.LossLemmas.{lost_all, silenced_stands, room_silent}
+use Rattle.router_core.proofs.ChainShifts.{ends_informed}
+use Rattle.router_core.proofs.KnownRows.{exits_informed}
 use Rattle.router_core.proofs.network.Network.lose.Goals as goal
 
 pub end-requires-clause-sound : goal.end-requires-clause-sound
@@ -16,11 +18,20 @@ make_room-requires-clause-there c = chain_is_there c.args.self.now (the_view c.s
 
 pub lose_with_room-requires-clause-silent : goal.lose_with_room-requires-clause-silent
 lose_with_room-requires-clause-silent c =
-    room_silent c.args.number (the_view c.self.inside) c.make_room.new.self c.end.new.self c.in_ok-end.ensures.0 c.end.new.journal c.make_room.new.journal c.in_ok-end.ensures.2 c.in_ok-make_room.ensures
+    room_silent c.args.number (the_view c.self.inside) c.make_room.new.self c.end.new.self c.in_ok-end.ensures.0 c.end.new.journal c.make_room.new.journal c.in_ok-end.ensures.2 c.in_ok-make_room.ensures.makes
 
-pub returns : goal.returns
-returns c =
+pub returns-clause-loses : goal.returns-clause-loses
+returns-clause-loses c =
     on_ok_weaker c.flush.result
     (lost_all c.args.number c.args.session c.args.self.now (the_view c.self.inside) c.make_room.new.self c.lose_with_room.new.self c.end.new.self c.args.journal.now c.end.new.journal c.make_room.new.journal c.lose_with_room.new.journal c.flush.new.self
-    c.self.view_is c.requires.stands c.in_ok-end.ensures c.in_ok-make_room.ensures c.in_ok-lose_with_room.ensures)
+    c.self.view_is c.requires.stands c.in_ok-end.ensures c.in_ok-make_room.ensures.makes c.in_ok-lose_with_room.ensures)
+    c.flush.ensures.ok
+
+pub make_room-requires-clause-informed : goal.make_room-requires-clause-informed
+make_room-requires-clause-informed c = exits_informed c.args.contests.now c.args.self.now _ c.end.new.self c.self.view_is c.requires.informed
+
+pub returns-clause-informed : goal.returns-clause-informed
+returns-clause-informed c =
+    on_ok_weaker c.flush.result
+    (λ _. ends_informed c.args.number c.args.session c.make_room.new.contests c.make_room.new.self c.lose_with_room.new.self c.in_ok-lose_with_room.ensures.0 c.in_ok-lose_with_room.ensures.2 c.in_ok-make_room.ensures.informed)
     c.flush.ensures.ok

@@ -1,4 +1,4 @@
-use Rattle.router_moments.proofs.Common.{sym, subst, ◌≡◌, tree_overdue, IsTree, IsFull, Moment, with_tree, Stands, Pushes}
+use Rattle.router_moments.proofs.Common.{sym, subst, ◌∙◌, ap, ◌≡◌, int_rows, tree_overdue, IsTree, IsFull, Moment, with_tree, Stands, Pushes}
 use Rattle.std.proofs.Common.{None, IsSome}
 use Rattle.router_core.specs.contracts.network.Network.{the_view}
 use Rattle.router_moments.specs.Works.{EndsProtocol}
@@ -11,11 +11,14 @@ lose-requires-clause-tree c = subst (λ (m : Moment). IsTree m.tree) (sym c.self
 pub lose-requires-clause-full : goal.lose-requires-clause-full
 lose-requires-clause-full c = subst (λ (m : Moment). IsFull m.tree) (sym c.self.view_is) c.requires.stands.interior.full
 
-pub returns : goal.returns
-returns c =
+pub returns-clause-ends : goal.returns-clause-ends
+returns-clause-ends c =
     let old : Moment = the_view c.self.inside in
     let new : Moment = with_tree (the_view c.self.inside) c.lose.new.self in
     subst (λ (m : Moment). Pushes (EndsProtocol c.args.proto m new) c.args.journal.now c.lose.new.journal) c.self.view_is
     (protocol_ended c.args.proto old c.lose.new.self c.args.journal.now c.lose.new.journal (subst Stands (sym c.self.view_is) c.requires.stands)
     (subst (λ (m : Moment). tree_overdue c.args.proto m.tree ≡ None) (sym c.self.view_is) c.requires.free) (subst (λ (m : Moment). IsSome m.declared.speaker) (sym c.self.view_is) c.requires.since)
     c.in_ok-lose.ensures.after c.in_ok-lose.ensures.lines c.in_ok-lose.ensures.leads c.in_ok-lose.ensures.rows c.in_ok-lose.ensures.tree c.in_ok-lose.ensures.full)
+
+pub returns-clause-rows : goal.returns-clause-rows
+returns-clause-rows c = c.in_ok-lose.ensures.rows ∙ ap (λ (m : Moment). int_rows m.tree) c.self.view_is

@@ -11,6 +11,6 @@ receive-turns-requires-clause-admitted c = subst (λ (octets : List ℕ). refusa
 pub receive-turns-requires-clause-formed : goal.receive-turns-requires-clause-formed
 receive-turns-requires-clause-formed c = subst (λ (octets : List ℕ). IsWellFormed c.args.self.now.declared.profile (events.Bgp c.args.number octets)) (sym c.as_slice.ensures) c.requires.formed
 
-pub returns : goal.returns
-returns c =
-    subst (λ (octets : List ℕ). IfOk c.receive-turns.result (λ turns. Gives (HasStepped c.args.self.now (events.Bgp c.args.number octets) turns c.receive-turns.new.self) c.args.journal.now c.receive-turns.new.journal)) c.as_slice.ensures c.receive-turns.ensures
+pub returns-clause-steps : goal.returns-clause-steps
+returns-clause-steps c =
+    subst (λ (octets : List ℕ). IfOk c.receive-turns.result (λ turns. Gives (HasStepped c.args.self.now (events.Bgp c.args.number octets) turns c.receive-turns.new.self) c.args.journal.now c.receive-turns.new.journal)) c.as_slice.ensures c.receive-turns.ensures.steps

@@ -3,14 +3,42 @@ use Rattle.std.proofs.Common.{OnOk, Some}
 use Rattle.router_moments.specs.Works.{Follows}
 use Rattle.rib_exit.proofs.LawLemmas.{on_ok}
 use Rattle.router_moments.proofs.RouteLemmas.{followed}
+use Rattle.router_core.proofs.IntShifts.{int_shifts, int_has_shift, int_known, int_has_shifted, int_informed}
 use Rattle.router_core.proofs.network.Network.pass_on.Goals as goal
 use Rattle.router_core.proofs.network.Network.pass_on.Goals.{in-Ok, in-Err}
 
-pub returns : goal.returns
-returns c =
+pub enter-requires : goal.enter-requires
+enter-requires c = int_has_shift c.args.change.now c.is_some-had.result c.is_some-has.result c.args.contests.now c.args.self.now c.is_some-had.ensures c.is_some-has.ensures c.requires.informed
+
+pub redistribute-requires-clause-known : goal.redistribute-requires-clause-known
+redistribute-requires-clause-known c =
+    let change = c.args.change.now in
+    let over = c.requires.informed in
+    int_known change c.is_some-had.result c.is_some-has.result c.args.contests.now c.args.self.now c.is_some-had.ensures c.is_some-has.ensures over c.enter.new.contests c.inform.new.self c.in_ok-inform.ensures
+    (c.in_ok-enter.ensures.known _ over.knows) (c.in_ok-enter.ensures.counts 0 _ _ (int_shifts change c.is_some-had.result c.is_some-has.result c.args.contests.now c.args.self.now c.is_some-had.ensures c.is_some-has.ensures over) over.counts)
+
+pub leave-requires : goal.leave-requires
+leave-requires c =
+    let change = c.args.change.now in
+    let over = c.requires.informed in
+    int_has_shifted change c.is_some-had.result c.is_some-has.result c.args.contests.now c.args.self.now c.is_some-had.ensures c.is_some-has.ensures over c.enter.new.contests c.redistribute.new.contests
+    (c.in_ok-enter.ensures.counts 0 _ _ (int_shifts change c.is_some-had.result c.is_some-has.result c.args.contests.now c.args.self.now c.is_some-had.ensures c.is_some-has.ensures over) over.counts) c.in_ok-redistribute.ensures.counts
+
+pub returns-clause-follows : goal.returns-clause-follows
+returns-clause-follows c =
     elim c.match-take_interior.branch [
       | in-Ok w ↦
           on_ok c.match-take_interior.result _
-          (followed c.args.change.now _ c.args.self.now c.inform.new.self c.redistribute.new.self _ c.args.journal.now c.redistribute.new.journal c.take_interior.new.journal c.in_ok-inform.ensures c.in_ok-redistribute.ensures c.self.view_is w.in-Ok.ensures)
+          (followed c.args.change.now _ c.args.self.now c.inform.new.self c.redistribute.new.self _ c.args.journal.now c.redistribute.new.journal c.take_interior.new.journal c.in_ok-inform.ensures c.in_ok-redistribute.ensures.redistributes c.self.view_is w.in-Ok.ensures)
       | in-Err w ↦ subst (λ r. OnOk r (Adds (Follows (Some c.args.change.now) c.args.self.now c.redistribute.new.self) c.args.journal.now c.take_interior.new.journal)) (sym w.result-is) tt
     ]
+
+pub returns-clause-informed : goal.returns-clause-informed
+returns-clause-informed c =
+    let change = c.args.change.now in
+    let over = c.requires.informed in
+    on_ok c.match-take_interior.result _
+    (int_informed change c.is_some-had.result c.is_some-has.result c.args.contests.now c.args.self.now c.is_some-had.ensures c.is_some-has.ensures over c.enter.new.contests c.redistribute.new.contests c.leave.new.contests c.inform.new.self c.redistribute.new.self
+    c.in_ok-redistribute.ensures.redistributes.0 c.in_ok-inform.ensures c.in_ok-redistribute.ensures.redistributes.2
+    (c.in_ok-enter.ensures.counts 0 _ _ (int_shifts change c.is_some-had.result c.is_some-has.result c.args.contests.now c.args.self.now c.is_some-had.ensures c.is_some-has.ensures over) over.counts) c.in_ok-redistribute.ensures.counts
+    c.in_ok-redistribute.ensures.known c.in_ok-leave.ensures.counts c.in_ok-leave.ensures.known)

@@ -1,8 +1,6 @@
-use Rattle.router_moments.proofs.Common.{sym, subst, ◌∙◌, ap, ◌≡◌, ℕ, List, Bool, not, Profile, AreOctets, Message, peer_at, Says, Moment, IsHeardMessage}
+use Rattle.router_moments.proofs.Common.{sym, subst, ◌∙◌, ap, ◌≡◌, not, Profile, peer_at, Says, Moment}
 use Rattle.router_core.proofs.StepLemmas.{bgp_ignored, heard_up}
 use Rattle.std.proofs.Common.{Some, None}
-use Rattle.bgp_wire.specs.Grammar.{Answers}
-use Rattle.bgp_wire.specs.declared.message.Message.TheVariants as messages
 use Rattle.router_moments.proofs.HeardRows.{message_heard}
 use Rattle.live_state.proofs.AdmittedLemmas.{bgp_there}
 use Rattle.router_core.proofs.network.Network.receive.Goals as goal
@@ -17,13 +15,13 @@ hear-requires-clause-heard c =
     message_heard c.args.self.now.declared.profile (not c.in-Some.peer.words.internal) c.args.octets.now c.in_ok-message.message c.requires.formed.1.bytes
     (subst (λ (f : Profile). Says f c.in-Some.peer c.args.octets.now c.in_ok-message.message) (c.profile.ensures ∙ ap (λ (m : Moment). m.declared.profile) c.self.view_is) c.in_ok-message.ensures.says)
 
-pub returns : goal.returns
-returns c =
+pub returns-clause-steps : goal.returns-clause-steps
+returns-clause-steps c =
     let there : peer_at c.args.number c.args.self.now.declared.peers ≡ Some c.in-Some.peer = subst (λ (m : Moment). peer_at c.args.number m.declared.peers ≡ Some c.in-Some.peer) c.self.view_is (sym c.in-Some.ensures) in
     heard_up c.args.number c.in-Some.peer c.args.self.now c.hear.new.self c.args.octets.now c.in_ok-message.message c.args.journal.now c.hear.new.journal there c.if-not-peer.false
-    (subst (λ (f : Profile). Says f c.in-Some.peer c.args.octets.now c.in_ok-message.message) (c.profile.ensures ∙ ap (λ (m : Moment). m.declared.profile) c.self.view_is) c.in_ok-message.ensures.says) c.in_ok-hear.ensures
+    (subst (λ (f : Profile). Says f c.in-Some.peer c.args.octets.now c.in_ok-message.message) (c.profile.ensures ∙ ap (λ (m : Moment). m.declared.profile) c.self.view_is) c.in_ok-message.ensures.says) c.in_ok-hear.ensures.hears
 
-pub returns-then-not-peer : goal.returns-then-not-peer
-returns-then-not-peer c =
+pub returns-then-not-peer-clause-steps : goal.returns-then-not-peer-clause-steps
+returns-then-not-peer-clause-steps c =
     let there : peer_at c.args.number c.args.self.now.declared.peers ≡ Some c.in-Some.peer = subst (λ (m : Moment). peer_at c.args.number m.declared.peers ≡ Some c.in-Some.peer) c.self.view_is (sym c.in-Some.ensures) in
     bgp_ignored c.ignored.result c.args.number c.args.octets.now c.in-Some.peer c.args.self.now c.args.journal.now c.ignored.new.journal c.requires.stands there c.if-not-peer.true c.ignored.ensures

@@ -1,4 +1,4 @@
-use Rattle.router_moments.proofs.Common.{ap, refl, true, Profile, with_revised, with_reflection, revised_is_first, reflect_is_first}
+use Rattle.router_moments.proofs.Common.{ap, refl, with_reflection, reflect_is_first}
 use Rattle.event_text.specs.declared.event.Event.TheVariants as events
 use Rattle.router_moments.proofs.ProfileLemmas.{profile_is_stepped}
 use Rattle.router_core.proofs.network.Network.reflect.Goals as goal

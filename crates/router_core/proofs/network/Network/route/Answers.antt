@@ -3,6 +3,7 @@ use Rattle.std.proofs.Common.{Option, IsSome}
 use Rattle.router_moments.specs.Works.{SetsRoute}
 use Rattle.router_moments.proofs.StandLemmas.{may_follow}
 use Rattle.router_moments.proofs.RouteLemmas.{route_fell}
+use Rattle.router_core.proofs.KnownRows.{tree_over}
 use Rattle.router_core.proofs.network.Network.route.Goals as goal
 use Rattle.router_core.specs.contracts.network.Network.{the_view}
 
@@ -25,18 +26,24 @@ pub settle-requires-in-Some-clause-follow : goal.settle-requires-in-Some-clause-
 settle-requires-in-Some-clause-follow c =
     may_follow c.args.self.now _ c.feed-in-Some.new.self c.self-in-Some.view_is c.requires.stands (subst (λ (m : Moment). IsSome m.declared.speaker) (sym c.self-in-Some.view_is) c.requires.since)
 
-pub returns-in_ok-sent-in-None : goal.returns-in_ok-sent-in-None
-returns-in_ok-sent-in-None c =
+pub returns-in_ok-sent-in-None-clause-sets : goal.returns-in_ok-sent-in-None-clause-sets
+returns-in_ok-sent-in-None-clause-sets c =
     let old : Moment = the_view c.self.inside in
     on_ok_weaker c.settle.result (λ settled. subst (λ (m : Moment). Pushes (λ said. SetsRoute m c.args.proto c.args.p c.args.new said c.settle.new.self) c.args.journal.now c.settle.new.journal) c.self.view_is
     (route_fell old (fed_tree old.tree c.args.proto c.args.p c.args.new) c.args.proto c.args.p (way_of_route c.args.proto old.tree) c.in_ok-sent-in-None.sent c.feed.new.self c.settle.new.self c.args.journal.now c.feed.new.journal c.settle.new.journal
     (subst (λ (row : Option Interior). c.feed.new.self ≡ fed_tree old.tree c.args.proto c.args.p row) (sym c.in-None.is) c.in_ok-sent-in-None.ensures.after) c.in_ok-sent-in-None.ensures.sent c.in_ok-sent-in-None.ensures.lines settled))
-    c.settle.ensures
+    c.settle.ensures.settles
 
-pub returns-in_ok-sent-in-Some : goal.returns-in_ok-sent-in-Some
-returns-in_ok-sent-in-Some c =
+pub returns-in_ok-sent-in-Some-clause-sets : goal.returns-in_ok-sent-in-Some-clause-sets
+returns-in_ok-sent-in-Some-clause-sets c =
     let old : Moment = the_view c.self-in-Some.inside in
     on_ok_weaker c.settle-in-Some.result (λ settled. subst (λ (m : Moment). Pushes (λ said. SetsRoute m c.args.proto c.args.p c.args.new said c.settle-in-Some.new.self) c.args.journal.now c.settle-in-Some.new.journal) c.self-in-Some.view_is
     (route_fell old (fed_tree old.tree c.args.proto c.args.p c.args.new) c.args.proto c.args.p (way_of_route c.args.proto old.tree) c.in_ok-sent-in-Some.sent c.feed-in-Some.new.self c.settle-in-Some.new.self c.args.journal.now c.feed-in-Some.new.journal c.settle-in-Some.new.journal
     (subst (λ (row : Option Interior). c.feed-in-Some.new.self ≡ fed_tree old.tree c.args.proto c.args.p row) (sym c.in-Some.is) c.in_ok-sent-in-Some.ensures.after) c.in_ok-sent-in-Some.ensures.sent c.in_ok-sent-in-Some.ensures.lines settled))
-    c.settle-in-Some.ensures
+    c.settle-in-Some.ensures.settles
+
+pub settle-requires-clause-informed : goal.settle-requires-clause-informed
+settle-requires-clause-informed c = tree_over c.in_ok-sent-in-None.sent c.args.contests.now c.args.self.now _ c.feed.new.self c.args.p c.self.view_is c.in_ok-sent-in-None.ensures.sent c.requires.informed
+
+pub settle-requires-in-Some-clause-informed : goal.settle-requires-in-Some-clause-informed
+settle-requires-in-Some-clause-informed c = tree_over c.in_ok-sent-in-Some.sent c.args.contests.now c.args.self.now _ c.feed-in-Some.new.self c.args.p c.self-in-Some.view_is c.in_ok-sent-in-Some.ensures.sent c.requires.informed

@@ -4,8 +4,8 @@ use Rattle.std.specs.FinMap as tables
 use Rattle.router_core.proofs.RouteSteps.{route_dropped, nothing_dropped}
 use Rattle.router_core.proofs.network.Network.route_del.Goals as goal
 
-pub returns-then-not-has : goal.returns-then-not-has
-returns-then-not-has c =
+pub returns-then-not-has-clause-steps : goal.returns-then-not-has-clause-steps
+returns-then-not-has-clause-steps c =
     let is : c.has.result ≡ is_some (tables.get (branch_of c.args.proto c.args.self.now.tree).tables.live c.args.p) =
     c.has.ensures ∙ ap (λ (m : Moment). is_some (tables.get (branch_of c.args.proto m.tree).tables.live c.args.p)) c.self.view_is in
     let none : c.has.result ≡ false = cc in
@@ -14,9 +14,9 @@ returns-then-not-has c =
 pub route-requires-clause-since : goal.route-requires-clause-since
 route-requires-clause-since c = speaker_since c.args.self.now.declared (RouteDel c.args.proto c.args.p) (λ e. cc) c.requires.admitted
 
-pub returns : goal.returns
-returns c =
+pub returns-clause-steps : goal.returns-clause-steps
+returns-clause-steps c =
     let is : c.has.result ≡ is_some (tables.get (branch_of c.args.proto c.args.self.now.tree).tables.live c.args.p) =
     c.has.ensures ∙ ap (λ (m : Moment). is_some (tables.get (branch_of c.args.proto m.tree).tables.live c.args.p)) c.self.view_is in
     let some : c.has.result ≡ true = cc in
-    route_dropped c.args.proto c.args.p c.args.self.now c.route.new.self c.args.journal.now c.route.new.journal c.flush.new.self c.requires.stands (speaker_since c.args.self.now.declared (RouteDel c.args.proto c.args.p) (λ e. cc) c.requires.admitted) (sym is ∙ some) c.in_ok-route.ensures c.in_ok-flush.ensures.ok
+    route_dropped c.args.proto c.args.p c.args.self.now c.route.new.self c.args.journal.now c.route.new.journal c.flush.new.self c.requires.stands (speaker_since c.args.self.now.declared (RouteDel c.args.proto c.args.p) (λ e. cc) c.requires.admitted) (sym is ∙ some) c.in_ok-route.ensures.sets c.in_ok-flush.ensures.ok

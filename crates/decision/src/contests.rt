@@ -1,0 +1,198 @@
+//! What is known of the branches at each prefix.
+
+ghost use Rattle.std.specs.Prelude.{◌≡◌, ◌<◌, ℕ, Some, None, false, IfOk, OnOk, OnErr, IsSome, is_some};
+ghost use Rattle.std.specs.FinMap as tables;
+ghost use Rattle.addr4.specs.Prefixes.{AddressPrefix};
+ghost use Rattle.addr4.specs.Places.{key_of, IsNextRow};
+ghost use Rattle.link_change.specs.Rows.{Candidates, IsNextCandidate, CoversRows};
+ghost use Rattle.decision.specs.Branches.{Decides, AllRows, best_rows, best_candidates};
+ghost use Rattle.decision.specs.Contests.{Knows, KnowsBefore, Updated, winner_in, Counts, Moves, HasMove, CoversAt};
+
+use crate::best::Best;
+use crate::branches::Branches;
+use crate::contest::{Mark, decide, moved};
+use crate::lineup::Lineup;
+use crate::winners::won_by;
+use addr4::{Memory, Place, Prefix};
+use bgp_attr::Route;
+use link_change::Change;
+use nibble_trie::Trie;
+use std::alloc::Global;
+use std::marker::Model;
+
+/// What is known of the branches at each prefix where one has a candidate: how many have one, the branch whose row is the best,
+/// and where several have a row the candidates of all. Contracts see it as a finite map.
+#[derive(Drop)]
+pub struct Contests {
+    alloc: Global,
+    marks: Trie<Mark>,
+    lines: Trie<Lineup>,
+}
+
+impl Model for Contests {
+    ghost use Rattle.std.specs.FinMap.{FinMap};
+    ghost use Rattle.std.specs.FinMap as tables;
+    ghost use Rattle.addr4.specs.Prefixes.{prefix_cmp, address_prefix_code};
+    ghost use Rattle.decision.specs.Contests.{Contest, contest_code, contests_of, AreMarked};
+    ghost use Rattle.decision.specs.contracts.lineup.Lineup as lineup_row;
+
+    ghost Value = { FinMap prefix_cmp Contest };
+
+    ghost coded = { tables.code address_prefix_code (contest_code lineup_row.the_row.coded) };
+
+    ghost view = { λ c. contests_of c.marks.rows c.lines.rows };
+
+    ghost invariant = { λ c. AreMarked c.marks.rows c.lines.rows };
+}
+
+// Puts a mark at a prefix.
+fn keep(marks: &mut Trie<Mark>, prefix: Prefix, mark: Mark) -> Result<(), Memory>
+    ensures ok { OnOk result (marks.new.rows ≡ tables.insert marks.old.rows prefix mark) }
+    ensures memory { OnErr result (marks.new.rows ≡ marks.old.rows) }
+{
+    match marks.insert(prefix, mark) {
+        Ok(_) => Ok(()),
+        Err(_) => Err(Memory),
+    }
+}
+
+impl Contests {
+    /// No branch has a row, nor a candidate. Takes no memory.
+    pub fn new(alloc: Global) -> Contests
+        ensures known { (rows : AllRows) → ((b : ℕ) (q : AddressPrefix) → b < 65 → rows b q ≡ None) → Knows result rows }
+        ensures counts { (candidates : ℕ → Candidates) → ((b : ℕ) (q : AddressPrefix) → b < 65 → candidates b q ≡ false) → Counts result candidates }
+    {
+        Contests {
+            alloc,
+            marks: Trie::new(alloc),
+            lines: Trie::new(alloc),
+        }
+    }
+
+    /// A change of one branch's rows, as it goes on below: the change of the best route at its prefix. The branches are lent as
+    /// they are after the change; another one is asked where it alone has a row there, and the one whose row is sent again. None
+    /// comes exactly where the best route stays the same, Memory only for want of memory.
+    pub fn take_in<B: Branches>(
+        &mut self,
+        branch: u8,
+        change: Change<Route>,
+        all: &B,
+    ) -> Result<Option<Change<Route>>, Memory>
+        requires small { branch < 65 }
+        requires known { KnowsBefore branch self.old (B.rows all.now) change }
+        requires there { IsSome (tables.get self.old change.prefix) }
+        ensures decides { IfOk result (Decides branch (B.rows all.now) change) }
+        ensures known { OnOk result (Knows self.new (B.rows all.now)) }
+        ensures counts { OnOk result ((candidates : ℕ → Candidates) → Counts self.old candidates → Counts self.new candidates) }
+    {
+        let Some(mark) = self.marks.get_mut(change.prefix) else {
+            unreachable!()
+        };
+        let Some(winners) = decide(self.alloc, mark, &mut self.lines, branch, &change, all)? else {
+            return Ok(Some(change));
+        };
+        let sent = won_by(winners, branch, change, all)?;
+        Ok(sent)
+    }
+
+    /// The best route at a prefix; none where no branch has one. The branch whose row it is is asked for it, and no other.
+    pub fn asked<B: Branches>(&self, all: &B, prefix: &Prefix) -> Result<Option<Route>, Memory>
+        requires { Knows self.now (B.rows all.now) }
+        ensures { IfOk result (λ row. row ≡ best_rows (B.rows all.now) prefix.now) }
+    {
+        match self.winner(prefix) {
+            None => Ok(None),
+            Some(number) => all.asked(number, prefix),
+        }
+    }
+
+    /// Whether there is a best route at a prefix. Takes no memory.
+    pub fn has<B: Branches>(&self, all: &B, prefix: &Prefix) -> bool
+        requires { Knows self.now (B.rows all.now) }
+        ensures { result ≡ is_some (best_rows (B.rows all.now) prefix.now) }
+    {
+        match self.winner(prefix) {
+            None => false,
+            Some(number) => all.has(number, prefix),
+        }
+    }
+
+    /// A candidate of a branch comes at a prefix, or goes. What was known of rows stays known, where a prefix that loses its last
+    /// candidate has none. Memory only for want of memory.
+    pub fn note(&mut self, prefix: Prefix, comes: bool) -> Result<(), Memory>
+        requires { HasMove prefix comes self.old }
+        ensures counts { OnOk result ((branch : ℕ) (before now : ℕ → Candidates) → Moves branch prefix comes before now → Counts self.old before → Counts self.new now) }
+        ensures known { OnOk result ((rows : AllRows) (candidates : ℕ → Candidates) → Counts self.new candidates → CoversAt candidates rows prefix → Knows self.old rows → Knows self.new rows) }
+    {
+        let Some(mark) = self.marks.get_mut(prefix) else {
+            self.enter(prefix)?;
+            return Ok(());
+        };
+        mark.walkers = moved(mark.walkers, comes);
+        if mark.walkers == 0 {
+            self.forget(prefix);
+        }
+        Ok(())
+    }
+
+    /// The least prefix beyond a place at which a branch has a candidate. Every best route stands at one.
+    pub fn next_candidate(&self, after: &Place) -> Option<Prefix>
+        ensures next { (candidates : ℕ → Candidates) → Counts self.now candidates → IsNextCandidate (best_candidates candidates) (key_of after.now) result }
+        ensures covers { (candidates : ℕ → Candidates) (rows : AllRows) → Counts self.now candidates → Knows self.now rows → CoversRows (best_candidates candidates) (best_rows rows) }
+    {
+        self.next_kept(after)
+    }
+
+    /// The link `best` over the branches that are known.
+    pub fn best<'a, B: Branches>(&'a self, all: &'a B) -> Best<'a, B>
+        requires known { Knows self.now (B.rows all.now) }
+        requires counted { Counts self.now (B.candidates all.now) }
+        ensures { result.all.now ≡ all.now }
+    {
+        Best {
+            all,
+            contests: self,
+        }
+    }
+
+    /// The least prefix beyond a place at which something is known.
+    pub(crate) fn next_kept(&self, after: &Place) -> Option<Prefix>
+        ensures { IsNextRow (tables.get self.now) (key_of after.now) result }
+    {
+        match self.marks.next_row(*after) {
+            None => None,
+            Some(row) => Some(row.0),
+        }
+    }
+
+    /// The branch whose row is the best.
+    pub(crate) fn winner(&self, prefix: &Prefix) -> Option<u8>
+        ensures { result ≡ winner_in (tables.get self.now prefix.now) }
+    {
+        match self.marks.get(*prefix) {
+            None => None,
+            Some(mark) => mark.winner,
+        }
+    }
+
+    // The first candidate at a prefix.
+    fn enter(&mut self, prefix: Prefix) -> Result<(), Memory>
+        requires { tables.get self.old prefix ≡ None }
+        ensures { OnOk result (Updated self.old self.new prefix (Some (record { walkers = 1; winner = None; line = None }))) }
+    {
+        let mark = Mark {
+            walkers: 1,
+            winner: None,
+        };
+        keep(&mut self.marks, prefix, mark)?;
+        Ok(())
+    }
+
+    // The last candidate at a prefix has gone.
+    fn forget(&mut self, prefix: Prefix)
+        ensures { Updated self.old self.new prefix None }
+    {
+        self.lines.remove(prefix);
+        self.marks.remove(prefix);
+    }
+}
