@@ -1,0 +1,166 @@
+"""MRT files (RFC 6396, RFC 8050): their records, read one by one or made; also of files that gzip, bzip2 or xz packed."""
+import bz2
+import collections
+import contextlib
+import gzip
+import lzma
+import socket
+import struct
+import sys
+import zlib
+
+TABLE_DUMP, TABLE_DUMP_V2, BGP4MP, BGP4MP_ET = 12, 13, 16, 17
+STATE_CHANGE, MESSAGE, MESSAGE_AS4, STATE_CHANGE_AS4 = 0, 1, 4, 5
+MESSAGE_ADDPATH, MESSAGE_AS4_ADDPATH = 8, 9
+LOCAL_MESSAGES = (6, 7, 10, 11)  # what the router itself said
+PEER_INDEX_TABLE = 1
+RIB_IPV4, RIB_IPV6, RIB_IPV4_ADDPATH, RIB_IPV6_ADDPATH = 2, 4, 8, 10
+ESTABLISHED = 6
+
+TYPES = {11: 'OSPFv2', 12: 'TABLE_DUMP', 13: 'TABLE_DUMP_V2', 16: 'BGP4MP', 17: 'BGP4MP_ET', 32: 'ISIS', 33: 'ISIS_ET', 48: 'OSPFv3', 49: 'OSPFv3_ET'}
+SUBTYPES = {
+    TABLE_DUMP: {1: 'AFI_IPv4', 2: 'AFI_IPv6'},
+    TABLE_DUMP_V2: {1: 'PEER_INDEX_TABLE', 2: 'RIB_IPV4_UNICAST', 3: 'RIB_IPV4_MULTICAST', 4: 'RIB_IPV6_UNICAST', 5: 'RIB_IPV6_MULTICAST',
+                    6: 'RIB_GENERIC', 7: 'GEO_PEER_TABLE', 8: 'RIB_IPV4_UNICAST_ADDPATH', 9: 'RIB_IPV4_MULTICAST_ADDPATH',
+                    10: 'RIB_IPV6_UNICAST_ADDPATH', 11: 'RIB_IPV6_MULTICAST_ADDPATH', 12: 'RIB_GENERIC_ADDPATH'},
+    BGP4MP: {0: 'STATE_CHANGE', 1: 'MESSAGE', 4: 'MESSAGE_AS4', 5: 'STATE_CHANGE_AS4', 6: 'MESSAGE_LOCAL', 7: 'MESSAGE_AS4_LOCAL',
+             8: 'MESSAGE_ADDPATH', 9: 'MESSAGE_AS4_ADDPATH', 10: 'MESSAGE_LOCAL_ADDPATH', 11: 'MESSAGE_AS4_LOCAL_ADDPATH'},
+}
+SUBTYPES[BGP4MP_ET] = SUBTYPES[BGP4MP]
+WITH_WIDE_NUMBERS = (4, 5, 7, 9, 11)  # subtypes of BGP4MP whose AS numbers have four octets
+
+HEAD = struct.Struct('>IHHI')
+BLOCK = 1 << 20
+MOST = 1 << 24  # octets of a record: no router or collector writes one that is longer
+
+# what else a file may be, by its first octets
+PACKED = {b'\x1f\x8b': ('gzip', gzip.open), b'BZh': ('bzip2', bz2.open), b'\xfd7zXZ': ('xz', lzma.open)}
+FOREIGN = {
+    b'\x28\xb5\x2f\xfd': 'it is packed by zstd: unpack it first (zstd -d)',
+    b'PK\3\4': 'it is a zip archive: unpack it first (unzip)',
+    b'\xd4\xc3\xb2\xa1': 'it is a packet capture (pcap, as tcpdump writes it): a router or collector has to write the MRT file',
+    b'\xa1\xb2\xc3\xd4': 'it is a packet capture (pcap, as tcpdump writes it): a router or collector has to write the MRT file',
+    b'\x4d\x3c\xb2\xa1': 'it is a packet capture (pcap, as tcpdump writes it): a router or collector has to write the MRT file',
+    b'\x0a\x0d\x0d\x0a': 'it is a packet capture (pcapng, as Wireshark writes it): a router or collector has to write the MRT file',
+    b'\xff' * 16: 'it has bare BGP messages, without the records of an MRT file around them',
+    b'\3\0\0': 'it is a BMP stream (RFC 7854): a BMP station has to write the MRT file',
+}
+
+Sides = collections.namedtuple('Sides', 'peer_as local_as family peer local rest')
+
+
+class Wrong(Exception):
+    """Why a file is none of MRT, or can't be read on."""
+
+
+def foreign(head):
+    """What a file is by its first octets, where it is no MRT file; None where it may be one."""
+    for magic, told in FOREIGN.items():
+        if head.startswith(magic):
+            return told
+    if head and all(octet in b'\t\n\r' or 32 <= octet < 127 for octet in head):
+        return 'it is a text, which begins with %s' % ascii(head[:24].decode('ascii'))
+    return None
+
+
+@contextlib.contextmanager
+def opened(path):
+    """The octets of a file as one can read them, and how it is packed; `-` is standard input. Wrong where it is no MRT file by its
+    first octets."""
+    with contextlib.ExitStack() as stack:
+        file, packing = sys.stdin.buffer if path == '-' else stack.enter_context(open(path, 'rb')), None
+        head = file.peek(64)[:64]
+        for magic, (name, unpack) in PACKED.items():
+            if head.startswith(magic):
+                file, packing = stack.enter_context(unpack(file)), name
+                head = peeked(file)
+        told = foreign(head)
+        if told:
+            raise Wrong(told)
+        yield file, packing
+
+
+def read(path):
+    """The records of a file, as `records` has them."""
+    with opened(path) as (file, _):
+        yield from records(file)
+
+
+def peeked(file):
+    """The first octets of a packed file."""
+    try:
+        return file.peek(64)[:64]
+    except (EOFError, OSError, zlib.error, lzma.LZMAError) as error:
+        raise Wrong('it is packed and damaged: %s' % error) from error
+
+
+def records(file):
+    """Time, type, subtype and body of each record. Wrong where the file ends within one, or one can't be."""
+    rest, number = b'', 0
+    while True:
+        try:
+            block = file.read(BLOCK)
+        except (EOFError, OSError, zlib.error, lzma.LZMAError) as error:
+            raise Wrong('it is packed and cut or damaged behind record %d: %s' % (number, error)) from error
+        octets, at = rest + block, 0
+        end = len(octets)
+        while at + 12 <= end:
+            when, kind, subtype, size = HEAD.unpack_from(octets, at)
+            if size > MOST or number == 0 and kind not in TYPES:
+                raise Wrong('record %d has type %d, subtype %d and a length of %d octets: none of an MRT file' % (number + 1, kind, subtype, size))
+            if at + 12 + size > end:
+                break
+            number += 1
+            yield when, kind, subtype, octets[at + 12:at + 12 + size]
+            at += 12 + size
+        rest = octets[at:]
+        if not block:
+            break
+    if rest:
+        raise Wrong('it ends within the %s of record %d: it was cut, or is still being written' % ('header' if len(rest) < 12 else 'body', number + 1))
+
+
+def sides(subtype, body):
+    """AS numbers, family and addresses of a record of BGP4MP, without microseconds, and what is behind them. ValueError where they don't
+    fit."""
+    width = 4 if subtype in WITH_WIDE_NUMBERS else 2
+    family = int.from_bytes(body[2 * width + 2:2 * width + 4], 'big')
+    at, size = 2 * width + 4, 16 if family == 2 else 4
+    if len(body) < at + 2 * size:
+        raise ValueError('the fields of the record run beyond its length')
+    return Sides(int.from_bytes(body[:width], 'big'), int.from_bytes(body[width:2 * width], 'big'), family,
+                 body[at:at + size], body[at + size:at + 2 * size], body[at + 2 * size:])
+
+
+def shown(address):
+    return socket.inet_ntop(socket.AF_INET6 if len(address) == 16 else socket.AF_INET, address)
+
+
+def type_name(kind, subtype):
+    """The standard's name of a record's type and subtype."""
+    return '%s %s' % (TYPES.get(kind, 'type %d' % kind), SUBTYPES.get(kind, {}).get(subtype, 'subtype %d' % subtype))
+
+
+# ---- records that are made
+
+LOCAL = (192, 0, 2, 254)
+
+
+def record(kind, subtype, body, when=0):
+    return HEAD.pack(when, kind, subtype, len(body)) + body
+
+
+def made_sides(as4, peer=(192, 0, 2, 1), local=LOCAL, family=1, peer_as=65001, local_as=65000):
+    """The front of a record of BGP4MP."""
+    form = '>IIHH' if as4 else '>HHHH'
+    return struct.pack(form, peer_as, local_as, 0, family) + bytes(peer) + bytes(local)
+
+
+def made_states(as4, old, new, kind=BGP4MP, when=0, **where):
+    body = made_sides(as4, **where) + struct.pack('>HH', old, new)
+    return record(kind, STATE_CHANGE_AS4 if as4 else STATE_CHANGE, (b'\0\0\0\7' if kind == BGP4MP_ET else b'') + body, when)
+
+
+def made_message(as4, octets, kind=BGP4MP, subtype=None, when=0, **where):
+    subtype = subtype if subtype is not None else MESSAGE_AS4 if as4 else MESSAGE
+    return record(kind, subtype, (b'\0\0\0\7' if kind == BGP4MP_ET else b'') + made_sides(as4, **where) + octets, when)
