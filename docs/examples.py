@@ -80,6 +80,12 @@ TOPICS = [
      'as4_twice as4_after_local as4_then_no_local as4_with_a_word revised_twice revised_after_local revised_with_a_word '
      'reflect_twice reflect_after_local reflect_with_a_word client_without_reflect client_and_a_word client_of_another_as '
      'client_of_a_used_number client_65_of_another_as'),
+    ('Mistakes in event files', 'What `reasons/refused.py` says of each is told by reasons/test.py; docs/REASONS.md.',
+     'mistake_as_with_letters mistake_bounds mistake_byte_order_mark mistake_capital mistake_comma mistake_direction '
+     'mistake_gateway mistake_half_an_octet mistake_interface mistake_ipv6 mistake_link mistake_link_of_nobody '
+     'mistake_loopback mistake_no_length mistake_no_metric mistake_no_prefix mistake_prepend_17 mistake_protocol '
+     'mistake_task mistake_verdict mistake_word mistake_zero_in_front'),
+    ('Reasons', 'What scripts say of a table is worked by hand in reasons/test.py; docs/REASONS.md.', 'why_best told_line_by_line'),
     ('Journals that `check` judges', 'docs/OUTPUT.md.',
      'skipped_lines joined_stages both_line_ends added_twice answer_without_a_row wrong_answer begun_twice unequal_weld '
      'dropped_line no_journal no_journal_first empty_line two_spaces host_bits no_value return_at_the_end '
@@ -115,6 +121,7 @@ TOLD = {
     'journal_line_too_long': 'A line of more than 65,536 bytes.',
     'line_too_long_at_the_end': 'A comment longer than a line may be, without an end.',
     'local_4294967296': 'A number that no four octets hold.',
+    'mistake_byte_order_mark': 'An editor wrote three bytes in front of the first line.',
     'no_event': 'A number with a zero in front is no word of an event.',
     'seventeenth_loss': 'Sixteen lost tables of a peer stand; one loss more ends the oldest, with all that it sends.',
     'seventeenth_protocol_loss': 'Sixteen lost tables of a protocol stand; one loss more ends the oldest.',
