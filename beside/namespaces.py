@@ -36,8 +36,13 @@ def delete(name):
 def enter(name):
     """This process goes into a namespace."""
     with open('/run/netns/' + name, encoding='ascii') as file:
-        if ctypes.CDLL(None, use_errno=True).setns(file.fileno(), CLONE_NEWNET):
-            raise OSError(ctypes.get_errno(), 'setns')
+        set_to(file)
+
+
+def set_to(file):
+    """This process goes into the namespace of an open file, as one of /proc/self/ns."""
+    if ctypes.CDLL(None, use_errno=True).setns(file.fileno(), CLONE_NEWNET):
+        raise OSError(ctypes.get_errno(), 'setns')
 
 
 def seconds(pids):

@@ -17,7 +17,7 @@ def connect(address, to, seconds, pause=.2):
     """A connection from an address to another one, for which is asked again and again for so long."""
     end = time.monotonic() + seconds
     while True:
-        made = socket.socket()
+        made = socket.socket(socket.AF_INET6 if ':' in address else socket.AF_INET)
         made.settimeout(max(1, end - time.monotonic()))
         try:
             made.bind((address, 0))

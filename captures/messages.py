@@ -176,6 +176,11 @@ def with_hop(said, hop):
     return found[:place] + [Attribute(0x40, wire.NEXT_HOP, hop)] + found[place:]
 
 
+def has_ipv4(said):
+    """Whether there are routes of IPv4 unicast in types 14 and 15."""
+    return any(one.kind in (MP_REACH, MP_UNREACH) and one.value.startswith(IPV4_UNICAST) for one in said)
+
+
 def of_other_families(said):
     """Whether there are routes of a family other than IPv4 unicast."""
     return any(one.kind in (MP_REACH, MP_UNREACH) and not one.value.startswith(IPV4_UNICAST) for one in said)

@@ -261,9 +261,9 @@ class Preparation:
     def parts(self, said, with_paths):
         """What an UPDATE says of IPv4 unicast, in its own fields; with --ipv6 also what it says of IPv6."""
         has_families = any(one.kind in (messages.MP_REACH, messages.MP_UNREACH) for one in said.attributes)
+        if has_families and messages.has_ipv4(said.attributes):
+            self.report.change('own')
         for part in messages.with_own_fields(said, with_paths) if has_families else [said]:
-            if len(part.attributes) < len(said.attributes) or part.come != said.come:
-                self.report.change('own')
             if not has_families or part.gone or part.come or self.asked.ipv6 and messages.of_other_families(part.attributes):
                 yield part._replace(attributes=list(self.with_good_hops(part)))
 

@@ -2,7 +2,7 @@
 """Tests of prepare.py and what stands beside it, on records that are made here: captures/test.py. No program and no daemon is needed.
 
 Each wants records that were written down by hand from the standards: what a record has to become, not what the scripts made of it. What is
-kept of real daemons is compared by captures/check.py.
+kept of real routers is compared by captures/check.py.
 """
 import bz2
 import gzip

@@ -68,7 +68,8 @@ TOPICS = [
      'four_octets_revised faults_in_messages_revised faults_in_messages_of_four_revised cut_after_each_octet_revised '
      'cut_with_its_length_revised'),
     ('Captures', 'MRT files, RFC 6396; docs/CAPTURES.md.',
-     'captured_by_frr captured_by_openbgpd captured_session captured_with_as4 captured_with_microseconds captured_beside '
+     'captured_by_frr captured_by_openbgpd eight_peers_of_bird eight_peers_of_frr eight_peers_of_openbgpd dumped_by_bird '
+     'dumped_by_frr dumped_by_openbgpd captured_session captured_with_as4 captured_with_microseconds captured_beside '
      'captured_among_others captured_peers captured_nothing captured_in_part captured_header_in_part captured_too_long '
      'captured_too_short captured_and_packed'),
     ('Lines and refusals', 'docs/LANGUAGE.md, "Refusals".',
@@ -114,6 +115,12 @@ TOLD = {
     'captured_with_as4': 'Records with AS numbers of four octets.',
     'captured_with_microseconds': 'Records with microseconds (type 17).',
     'dropped_line': 'A journal of the program of which one line was dropped: rule 1.',
+    'dumped_by_bird': 'A table dump of BIRD and the updates behind it, as captures/prepare.py makes one capture of them.',
+    'dumped_by_frr': 'A table dump of FRR and the updates behind it, as captures/prepare.py makes one capture of them.',
+    'dumped_by_openbgpd': 'A table dump of OpenBGPD and the updates behind it, as captures/prepare.py makes one capture of them.',
+    'eight_peers_of_bird': 'What captures/prepare.py makes of BIRD\'s capture of eight peers, each of which says its routes in another way.',
+    'eight_peers_of_frr': 'The same of FRR\'s capture: a second connection, path identifiers, both widths, long UPDATEs, IPv6.',
+    'eight_peers_of_openbgpd': 'The same of OpenBGPD\'s capture, whose changes of state have their ends exchanged.',
     'empty_line': 'A line without words is none of a journal.',
     'generated': 'Events of a seed, and totals.',
     'host_bits': 'A prefix with bits beyond its length is none of a journal.',

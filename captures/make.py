@@ -1,0 +1,187 @@
+#!/usr/bin/env python3
+"""Captures of real routers, and whether the program's tables are theirs: make.py [--daemons bird,frr,openbgpd,gobgp] [--routes 1000] [--program WORDS]
+
+Each daemon runs in a network namespace of its own, in a second one its eight peers (eight.py): with AS numbers of two and of four octets, path
+identifiers, messages of more than 4,096 octets, a second connection, a session over IPv6, sessions that end and come back. It writes a capture, and
+in the middle of it a table dump. Of the whole capture, and of the dump with what was written behind it,
+
+  1. prepare.py makes a capture of it that `mrt --as4` reads whole, `mrt` an event file, and `run` the tables
+  2. the rows of each peer's `filt.K`, and of its stand-ins, are compared with the routes that the daemon shows at the end
+
+How many differ is said of each peer, and the first of them. `--kept` writes captures/kept/ anew, with the stories in examples/: small captures with
+the daemon's own table, so that captures/check.py compares without a daemon. `--keep FOLDER` keeps all files.
+
+Statuses: 0; 1 where something differs; 2 where nothing could be compared. Needs root, `ip netns`, and Debian's `bird2`, `frr`, `openbgpd`, `gobgpd`;
+what isn't installed is left out.
+"""
+import argparse
+import os
+import signal
+import subprocess
+import sys
+import tempfile
+import time
+
+sys.dont_write_bytecode = True
+import check
+import eight
+import namespaces
+import program
+import router
+import session
+import shown
+from recorders import RECORDERS
+
+SMALL = 12  # routes of each peer of a story
+QUIET = .3  # seconds
+
+
+class Bench:
+    """The daemon's namespace and that of the peers, with one link between them."""
+
+    def __init__(self):
+        self.router, self.peers = ('captures-%d-%s' % (os.getpid(), name) for name in ('router', 'peers'))
+
+    def make(self):
+        namespaces.make(self.router)
+        namespaces.make(self.peers)
+        namespaces.link(self.router, 'eth0', self.peers, 'peers0')
+        namespaces.ip('-n %s addr add %s/24 dev eth0' % (self.router, eight.ROUTER))
+        namespaces.ip('-n %s addr add %s/64 dev eth0 nodad' % (self.router, eight.ROUTER6))
+        for number in eight.ASES:
+            length = '64 dev peers0 nodad' if number == 8 else '24 dev peers0'
+            namespaces.ip('-n %s addr add %s/%s' % (self.peers, eight.address(number), length))
+
+    def delete(self):
+        for name in (self.router, self.peers):
+            namespaces.delete(name)
+
+
+def rest_of(recorder):
+    """What waits until a daemon takes hardly any CPU."""
+    def rest():
+        last, since = recorder.used(), time.monotonic()
+        while time.monotonic() - since < QUIET:
+            time.sleep(.1)
+            used = recorder.used()
+            if used - last > .003:
+                last, since = used, time.monotonic()
+        time.sleep(QUIET)
+    return rest
+
+
+def recorded(recorder, routes):
+    """The whole capture of a daemon, its dump with what is behind it, what it shows at the end, and what it doesn't take."""
+    rest = rest_of(recorder)
+    peers = eight.Eight(routes, rest, recorder.hold)
+    try:
+        peers.announce()
+        peers.connect_twice()
+        dump, size = (recorder.dump(), len(recorder.capture())) if recorder.dumps_table else (None, 0)
+        peers.change()
+        whole, shows = recorder.capture(), recorder.shows()
+    finally:
+        peers.close()
+    return {'all.mrt': whole} if dump is None else {'all.mrt': whole, 'dump.mrt': dump, 'behind.mrt': whole[size:]}, shows, peers.left_out
+
+
+def write(folder, files, shows):
+    os.makedirs(folder, exist_ok=True)
+    for name, octets in files.items():
+        with open(os.path.join(folder, name), 'wb') as file:
+            file.write(octets)
+    with open(os.path.join(folder, 'table.json'), 'w', encoding='ascii') as file:
+        file.write(shown.stored(shows))
+
+
+def compared(folder, words, lacks):
+    """Prints what differs between the program's tables and those that the daemon shows; how much that is, but for what a capture lacks."""
+    wrong = 0
+    for name, paths in check.captures(folder):
+        octets, stand_ins = check.prepared(paths)
+        events = subprocess.run(words + ['mrt', '--as4'], input=octets, stdout=subprocess.PIPE, check=True).stdout
+        ran = subprocess.Popen(words + ['run'], stdin=subprocess.PIPE, stdout=subprocess.PIPE)
+        output = ran.communicate(events)[0].decode('ascii').split('\n')[:-1]
+        print('  %s: %d octets, %d lines of events, %d of output' % (name, len(octets), events.count(b'\n'), len(output)))
+        for number, count in check.told(folder, events.decode('ascii').split('\n'), output, stand_ins):
+            if number in lacks:
+                print('    (the capture tells no end of a session of peer %d)' % number)
+            else:
+                wrong += count
+    return wrong
+
+
+def made(name, routes, words, folder):
+    """One daemon's captures in a folder, compared; how much differs."""
+    bench, recorder = Bench(), None
+    with tempfile.TemporaryDirectory(prefix='captures-') as home:
+        os.chmod(home, 0o755)
+        try:
+            bench.make()
+            recorder = RECORDERS[name](home, bench.router)
+            recorder.start()
+            with open('/proc/self/ns/net', encoding='ascii') as own:
+                namespaces.enter(bench.peers)
+                try:
+                    files, shows, left_out = recorded(recorder, routes)
+                finally:
+                    namespaces.set_to(own)
+        finally:
+            if recorder:
+                recorder.stop()
+            bench.delete()
+    write(folder, files, shows)
+    print('%s %s: %s%s' % (name, recorder.version(), ', '.join('%s of %d octets' % (one, len(files[one])) for one in files),
+                           '; it does not take what is special of peer %s' % ', '.join(map(str, left_out)) if left_out else ''))
+    return compared(folder, words, recorder.lacks)
+
+
+def stories(name, folder, words):
+    """Keeps small captures, with the stories that they are."""
+    for capture, paths in check.captures(folder):
+        octets, _ = check.prepared(paths)
+        events = subprocess.run(words + ['mrt', '--as4'], input=octets, stdout=subprocess.PIPE, check=True).stdout
+        output = subprocess.run(words + ['run'], input=events, stdout=subprocess.PIPE, check=True).stdout
+        for suffix, content in (('.mrt', octets), ('.events', events), ('.out', output)):
+            with open(os.path.join(check.EXAMPLES, check.story(name, capture) + suffix), 'wb') as file:
+                file.write(content)
+
+
+def words():
+    asked = argparse.ArgumentParser(description=__doc__, formatter_class=argparse.RawDescriptionHelpFormatter)
+    asked.add_argument('--daemons', default=','.join(RECORDERS))
+    asked.add_argument('--routes', type=int, default=1000)
+    asked.add_argument('--program', default=program.BUILT)
+    asked.add_argument('--keep', metavar='FOLDER')
+    asked.add_argument('--kept', action='store_true')
+    return asked
+
+
+def main():
+    parser = words()
+    asked = parser.parse_args()
+    wanted = asked.daemons.split(',')
+    if set(wanted) - set(RECORDERS):
+        parser.error('no such daemon: ' + ', '.join(sorted(set(wanted) - set(RECORDERS))))
+    there = [name for name in wanted if RECORDERS[name].installed()]
+    if os.geteuid() or not there:
+        print('make.py: %s' % ('none of these is installed' if there == [] else 'network namespaces need root'), file=sys.stderr)
+        return 2
+    for sign in (signal.SIGINT, signal.SIGTERM):
+        signal.signal(sign, signal.default_int_handler)
+    wrong, failed = 0, 0
+    with tempfile.TemporaryDirectory(prefix='captures-') as made_folder:
+        for name in there:
+            folder = os.path.join(check.KEPT if asked.kept else asked.keep or made_folder, name)
+            try:
+                wrong += made(name, SMALL if asked.kept else asked.routes, asked.program.split(' '), folder)
+                if asked.kept:
+                    stories(name, folder, asked.program.split(' '))
+            except (OSError, EOFError, TimeoutError, router.Failed, session.Refused, subprocess.CalledProcessError) as error:
+                failed += 1
+                print('%s: no capture: %s' % (name, error))
+    return 1 if wrong else 2 if failed else 0
+
+
+if __name__ == '__main__':
+    sys.exit(main())
