@@ -29,14 +29,14 @@ BUILT = 'crates/replay_main/out/replay_main'
 NOT_RUN = [
     (r'\brt (ci|run|check|lib|test|all|verdict|must-fail|plant|tidy)\b|\.ci/run', 'it proves: minutes to hours'),
     (r'wrong-bodies/run\.py', 'it tries wrong bodies: minutes to hours'),
-    (r'bench/(all|alike|captures|daemons|everywhere|mrt_files|refused|settled)\.py', 'it measures or compares: minutes'),
+    (r'bench/(all|alike|daemons|everywhere|mrt_files|refused|settled)\.py|captures/make\.py', 'it measures or compares: minutes'),
     (r'--sshlogin(file)? [^:]|\bssh\b|\bsbatch\b|\bsrun\b', 'it needs other machines'),
     (r'\bxdg-open\b', 'it needs a desktop'),
 ]
 NEEDS_PROGRAM = re.compile(r'(^|[\s(|;])replay (run|mrt|check|gen)\b|' + re.escape(BUILT))
 SAMPLES = {
     'bgp.mrt': 'examples/captured_by_bird.mrt',
-    'all.mrt': 'examples/captured_by_openbgpd.mrt',
+    'rib.20260101.0000.bz2': 'captures/kept/bird/dump.mrt',
     'updates.20260101.0000.bz2': 'examples/captured_by_frr.mrt',
 }
 SECONDS = 900

@@ -3,7 +3,8 @@
 
 Outside of fences, in README.md, CONTRIBUTING.md, docs/*.md and bench/README.md:
 
-- a path under crates/, docs/, bench/, examples/ or wrong-bodies/ exists (those with NAME or `*` in them, and built ones aside)
+- a path under crates/, docs/, bench/, examples/, wrong-bodies/ or a folder of scripts exists (those with NAME or `*` in them, and built
+  ones aside)
 - `CRATE/specs/Name.antt`, `CRATE/src/name.rt` and the like exist in that crate; without a crate in front, in one of them
 - the words behind a file, as in `replay/specs/Heard.antt (`AreHeard`)` and `(`AreHeard`, crates/replay/specs/Heard.antt)`, stand
   in it
@@ -18,7 +19,7 @@ import re
 import sys
 
 TOP = os.path.join(os.path.dirname(os.path.abspath(__file__)), '..')
-PATH = re.compile(r'(?<![\w/.])((?:crates|docs|bench|examples|wrong-bodies)/[\w*./-]*[\w*/])')
+PATH = re.compile(r'(?<![\w/.])((?:crates|docs|bench|beside|captures|examples|live|reasons|view|wrong-bodies)/[\w*./-]*[\w*/])')
 PART = re.compile(r'(?<![\w/.-])(?:(\w+)/)?(specs|src|proofs)/(\w+)(\.antt|\.rt)?(?![\w/])')
 OF_FILE = re.compile(r'(\w+)/specs/(\w+)(?:\.antt)? \((`\w+`(?:,\s+`\w+`)*)\)')
 IN_FILE = re.compile(r'\((`\w+`(?:,\s+`\w+`)*),\s+(?:crates/)?(\w+)/specs/(\w+)\.antt\)')
