@@ -31,11 +31,14 @@ import subprocess
 import sys
 import tempfile
 
-import captures
+HERE = os.path.dirname(os.path.abspath(__file__))
+sys.path.insert(0, os.path.join(HERE, '..', 'captures'))
 import events
 import measure
+import messages
+import program
+from mrt import LOCAL, made_message, made_states, record
 
-LOCAL = (192, 0, 2, 254)
 LENGTHS = [0, 1, 18, 19, 23, 45, 100, 4095, 4096, 4097, 5000]
 
 
@@ -125,25 +128,6 @@ class Capture:
 
 # ---- files for a case each
 
-def record(kind, subtype, body):
-    head = kind.to_bytes(2, 'big') + subtype.to_bytes(2, 'big') + len(body).to_bytes(4, 'big')
-    return b'\0\0\0\0' + head + body
-
-
-def sides(as4, peer=(192, 0, 2, 1), local=LOCAL, family=1):
-    width = 4 if as4 else 2
-    return (65001).to_bytes(width, 'big') + (65000).to_bytes(width, 'big') + b'\0\0' + family.to_bytes(2, 'big') + bytes(peer) + bytes(local)
-
-
-def states(as4, old, new, kind=16, **where):
-    body = sides(as4, **where) + old.to_bytes(2, 'big') + new.to_bytes(2, 'big')
-    return record(kind, 5 if as4 else 0, (b'\0\0\0\7' if kind == 17 else b'') + body)
-
-
-def message(as4, octets, kind=16, **where):
-    return record(kind, 4 if as4 else 1, (b'\0\0\0\7' if kind == 17 else b'') + sides(as4, **where) + octets)
-
-
 def shorter(whole, length):
     """The same record with a body of another length, which its header counts."""
     body = (whole[12:] + b'\x17\x17')[:length]
@@ -153,8 +137,8 @@ def shorter(whole, length):
 def cuts():
     """A record behind an established session, cut at each octet, and with each length from 0 to two too many."""
     for as4, kind, is_state in itertools.product((False, True), (16, 17), (False, True)):
-        before = states(as4, 5, 6, kind)
-        whole = states(as4, 6, 1, kind) if is_state else message(as4, b'\xff\x10\x02', kind)
+        before = made_states(as4, 5, 6, kind)
+        whole = made_states(as4, 6, 1, kind) if is_state else made_message(as4, b'\xff\x10\x02', kind)
         for place in range(len(whole) + 1):
             yield before + whole[:place], as4
         for length in range(len(whole) - 12 + 3):
@@ -163,28 +147,28 @@ def cuts():
 
 def odd(as4):
     """The other cases, one file each."""
-    up, down, said = states(as4, 5, 6), states(as4, 6, 1), message(as4, b'\x5a' * 19)
+    up, down, said = made_states(as4, 5, 6), made_states(as4, 6, 1), made_message(as4, b'\x5a' * 19)
     yield b''
     yield b'local 65000 192.0.2.254 192.0.2.254\n'
     yield gzip.compress(up + said, mtime=0)
     yield up + said + down + up + said
     # states of no other number than 6, also those that no standard has
-    yield b''.join(states(as4, 1, new) for new in (6, 6, 7, 8, 6, 65535, 0x0106, 6, 0, 5))
-    yield said + down + said + message(as4, b'') + message(as4, b'\1' * 4096) + message(as4, b'\2' * 4097) + message(as4, b'\3' * 70000) + down
+    yield b''.join(made_states(as4, 1, new) for new in (6, 6, 7, 8, 6, 65535, 0x0106, 6, 0, 5))
+    yield said + down + said + made_message(as4, b'') + made_message(as4, b'\1' * 4096) + made_message(as4, b'\2' * 4097) + made_message(as4, b'\3' * 70000) + down
     # 70 peers, and the local address as one
     many = [(10, 0, 0, n) for n in range(70)]
-    yield b''.join(states(as4, 5, 6, peer=peer) for peer in many) + b''.join(message(as4, b'\4', peer=peer) for peer in many)
-    yield up + message(as4, b'\5', peer=LOCAL) + states(as4, 5, 6, peer=LOCAL) + said
+    yield b''.join(made_states(as4, 5, 6, peer=peer) for peer in many) + b''.join(made_message(as4, b'\4', peer=peer) for peer in many)
+    yield up + made_message(as4, b'\5', peer=LOCAL) + made_states(as4, 5, 6, peer=LOCAL) + said
     # sides the wrong way round, another local side, AS 0, addresses that no speaker has
-    yield states(as4, 4, 5, peer=LOCAL, local=(192, 0, 2, 1)) + up + said
-    yield up + message(as4, b'\6', local=(192, 0, 2, 253)) + message(as4, b'\7', peer=(0, 0, 0, 0)) + message(as4, b'\7', local=(224, 0, 0, 1))
-    yield up + states(as4, 6, 1, local=(0, 0, 0, 0)) + said
+    yield made_states(as4, 4, 5, peer=LOCAL, local=(192, 0, 2, 1)) + up + said
+    yield up + made_message(as4, b'\6', local=(192, 0, 2, 253)) + made_message(as4, b'\7', peer=(0, 0, 0, 0)) + made_message(as4, b'\7', local=(224, 0, 0, 1))
+    yield up + made_states(as4, 6, 1, local=(0, 0, 0, 0)) + said
     # other types, subtypes and families between, of any form
     other = [record(kind, subtype, b'\x2a' * size) for kind in (0, 11, 12, 13, 32, 48, 49) for subtype in (0, 1, 4) for size in (0, 3, 60)]
     yield up + b''.join(one + said for one in other)
     yield up + b''.join(record(16, subtype, b'\0' * size) + said for subtype in (2, 3, 6, 7, 8, 9, 10, 11, 255, 256) for size in (0, 40))
-    yield up + b''.join(message(as4, b'', family=family) + states(as4, 5, 1, family=family) for family in (0, 2, 3, 256, 16388)) + said
-    yield b''.join(states(not as4, 5, 6) + message(not as4, b'\x5a' * 19) + said for _ in range(3))
+    yield up + b''.join(made_message(as4, b'', family=family) + made_states(as4, 5, 1, family=family) for family in (0, 2, 3, 256, 16388)) + said
+    yield b''.join(made_states(not as4, 5, 6) + made_message(not as4, b'\x5a' * 19) + said for _ in range(3))
     # lengths that no record has
     for length in (0, 1, 2 ** 31 - 1, 2 ** 31, 2 ** 32 - 13, 2 ** 32 - 1):
         yield up + said[:8] + length.to_bytes(4, 'big') + said[12:]
@@ -224,23 +208,32 @@ def compare(count, program, other):
 
 # ---- a large file
 
+FIRST = struct.pack('>I', 65001)  # the AS with which paths begin
+
+
+def wide(said):
+    """An UPDATE with AS numbers of four octets."""
+    attributes = b''.join(map(messages.spelled, messages.widened(said.attributes)))
+    return messages.update(b'', attributes, b''.join(octets for _, octets in said.come))
+
+
 def collected():
     """Records as a collector writes them, without an end."""
-    messages = [captures.widened(update) for update in events.updates(200000)]
+    said = [wide(messages.read(update)) for update in events.updates(200000)]
     rand, clock, up = random.Random(1), 1700000000, set()
     keepalive = b'\xff' * 16 + b'\0\x13\4'
-    for said in itertools.cycle(messages):
+    for update in itertools.cycle(said):
         n = rand.randrange(8)
         where = {'peer': (192, 0, 2, n + 1)}
         clock += rand.random() < .05
         if n not in up:
-            made = states(True, 5, 6, **where)
+            made = made_states(True, 5, 6, **where)
             up.add(n)
         elif rand.random() < .0001:
-            made = states(True, 6, 1, **where)
+            made = made_states(True, 6, 1, **where)
             up.remove(n)
         else:
-            made = message(True, keepalive if rand.random() < .05 else captures.with_first(said, 65001 + n), **where)
+            made = made_message(True, keepalive if rand.random() < .05 else update.replace(FIRST, struct.pack('>I', 65001 + n), 1), **where)
         yield struct.pack('>I', clock) + made[4:]
 
 
@@ -279,7 +272,7 @@ def main():
     words.add_argument('--measure', type=int, metavar='MIB')
     words.add_argument('--runs', type=int, default=3)
     words.add_argument('--compare', type=int, metavar='COUNT')
-    words.add_argument('--program', default=captures.REPLAY)
+    words.add_argument('--program', default=program.BUILT)
     words.add_argument('--other')
     asked = words.parse_args()
     if asked.large:
