@@ -1,6 +1,5 @@
 """OpenBGPD beside `replay` (Debian's `openbgpd`). On Linux it sees no routes of the kernel: each next hop is taken to be reachable."""
 import json
-import os
 
 from eventfile import masked
 from program import Best
@@ -48,6 +47,7 @@ def rule_lines(way, address, rules):
 
 class OpenBgpd(Router):
     name, package, programs = 'openbgpd', 'openbgpd', ('bgpd', 'bgpctl')
+    run_folder = 'openbgpd'
 
     @classmethod
     def lacks(cls, events):
@@ -77,7 +77,6 @@ class OpenBgpd(Router):
         return self.command(['bgpctl', '-s', self.path('ctl')] + words.split(), may_fail)
 
     def start(self):
-        os.makedirs('/run/openbgpd', exist_ok=True)  # its own place, which its service makes
         self.run(['bgpd', '-d', '-f', self.write('conf', self.config())])
         self.wait(lambda: 'Neighbor' in self.control('show', True))
         # its parts read the configuration each in its own time; it takes no other one before all have

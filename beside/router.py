@@ -17,6 +17,8 @@ import subprocess
 import namespaces
 
 LIMIT = 20  # seconds that one command to a daemon may take
+# `ip netns exec` has made a mount namespace before
+PRIVATE = 'mount -t tmpfs none /run && mkdir -m 777 "/run/$0" && exec "$@"'
 
 
 class Failed(Exception):
@@ -26,6 +28,9 @@ class Failed(Exception):
 class Router:
     name = package = None
     programs = ()  # what has to be there for it to run
+    hold = 0  # seconds, of its sessions
+    tries = 2  # how often a session is begun, a second apart, before it is given up
+    run_folder = None  # its own place in /run, which its service makes
 
     def __init__(self, folder, namespace, wanted):
         self.folder, self.namespace, self.wanted, self.started, self.pids = folder, namespace, wanted, [], set()
@@ -79,7 +84,9 @@ class Router:
         return self.path(name)
 
     def run(self, words):
-        self.started.append(namespaces.Started(self.namespace, words, self.path('said')))
+        """Starts a program. What it writes to /run is seen by it alone, and gone with it."""
+        private = ['sh', '-c', PRIVATE, self.run_folder] if self.run_folder else []
+        self.started.append(namespaces.Started(self.namespace, private + words, self.path('said')))
 
     def command(self, words, may_fail=False):
         """What a command to the daemon prints."""

@@ -1,5 +1,5 @@
 #!/usr/bin/env python3
-"""An event file on a real router, beside `replay`: run.py EVENTS --daemon bird|frr|openbgpd [--program WORDS]
+"""An event file on a real router, beside `replay`: run.py EVENTS --daemon bird|frr|openbgpd|gobgp [--program WORDS]
 
 The daemon plays the local speaker of the file, in a network namespace of its own; in a second one each peer of the file is a small
 speaker of this script, which sends the file's messages as they are. `up` and `down` open and close sessions; filters, interior routes
@@ -13,9 +13,10 @@ and compares
   notifications  that a peer was sent since the last `idle`, with the lines `note`
 
 Each difference is printed with the words of docs/BGP.md that explain it (explained.py), or as `unexplained`. `work`, `ask`, `show`,
-`cover` and `settled` do nothing here. Statuses: 0, 1 where a difference is unexplained, 2 where nothing could be compared.
+`cover` and `settled` do nothing here. Statuses: 0, 1 where a difference is unexplained, 2 where nothing was compared: also of a file without
+`idle`, and of one that isn't for the daemon.
 
-Needs root, Linux' network namespaces (`ip`), and Debian's `bird2`, `frr` or `openbgpd`.
+Needs root, Linux' network namespaces (`ip`), and Debian's `bird2`, `frr`, `openbgpd` or `gobgpd`.
 """
 import argparse
 import copy
@@ -107,15 +108,15 @@ class Run:
             self.sessions[number].close()
             self.rest()
             self.router.revive(peer)
-        for last in (False, True):
+        for left in reversed(range(self.router.tries)):
             made = session.connect(peer.address, (self.wanted.address, 179), CONNECTED_WITHIN)
             heard = self.sessions[number] = Heard(made, 4 if self.wanted.wide else 2)
             try:
-                heard.begin(peer, refreshes=self.refreshes)
+                heard.begin(peer, self.router.hold, self.refreshes)
                 return
             except session.Refused:
                 heard.close()
-                if last:
+                if not left:
                     raise
                 time.sleep(1)
 
@@ -232,7 +233,9 @@ def beside(asked, steps):
     reason = router_class.lacks([step.words for step in steps])
     if reason:
         print('not for %s: %s' % (asked.daemon, reason))
-        return 0
+        return 2
+    if not any(step.moment for step in steps):
+        raise OSError('nothing is compared: the file has no `idle`')
     names = ['beside-%d-%s' % (os.getpid(), name) for name in ('router', 'peers')]
     with tempfile.TemporaryDirectory(prefix='beside-') as folder:
         os.chmod(folder, 0o755)

@@ -7,7 +7,6 @@ import glob
 import json
 import os
 import re
-import shutil
 import sys
 import time
 
@@ -182,6 +181,7 @@ class Bird(Recorder):
 
 class Frr(Recorder):
     name, package, programs = 'frr', 'frr', ('/usr/lib/frr/bgpd', 'vtysh')
+    run_folder = 'frr'
 
     def configuration(self):
         family = of_each(FRR_FAMILY, eight.ASES)
@@ -213,6 +213,7 @@ class Frr(Recorder):
 
 class OpenBgpd(Recorder):
     name, package, programs = 'openbgpd', 'openbgpd', ('bgpd', 'bgpctl')
+    run_folder = 'openbgpd'
 
     def configuration(self):
         # it sends no OPEN with the capability of IPv4 over IPv6 by itself
@@ -222,15 +223,8 @@ class OpenBgpd(Recorder):
         return self.command(['bgpctl', '-s', self.path('ctl')] + words.split(), may_fail)
 
     def start(self):
-        self.ran_before = os.path.isdir('/run/openbgpd')
-        os.makedirs('/run/openbgpd', exist_ok=True)  # its own place, which its service makes
         self.run(['bgpd', '-d', '-f', self.conf()])
         self.wait(lambda: 'Neighbor' in self.bgpctl('show', True))
-
-    def stop(self):
-        super().stop()
-        if not self.ran_before:
-            shutil.rmtree('/run/openbgpd', ignore_errors=True)
 
     def dump(self):
         time.sleep(3)  # it writes one every two seconds

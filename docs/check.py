@@ -14,7 +14,7 @@ And by the scripts beside it, each of which says its rule at its head:
 - believe.py: the list of definitions that the clauses of `replay` reach, in docs/PROOFS.md
 - examples.py: docs/EXAMPLES.md
 
-Each complaint is printed; the status is 1 where there is one.
+Each complaint is printed; the status is 1 where there is one, and 2 where a story has no output, so that it shows nothing.
 """
 import glob
 import os
@@ -63,7 +63,9 @@ def faults(path):
                 continue
             words = text[fence - 1][3:].split()
             block = text[fence:number - 1]
-            if len(words) == 2:
+            if len(words) == 2 and not os.path.isfile(os.path.join(TOP, words[1])):
+                yield fence, 'there is no %s' % words[1]
+            elif len(words) == 2:
                 with open(os.path.join(TOP, words[1]), encoding='utf-8') as file:
                     whole = file.read().split('\n')
                 missed = shows(block, whole[:-1] if whole[-1] == '' else whole)
@@ -89,10 +91,10 @@ def complaints():
 
 
 def main():
-    found = list(complaints())
-    for complaint in found:
+    found, mute = list(complaints()), list(examples.without_output())
+    for complaint in found + ['%s has no output' % name for name in mute]:
         print(complaint)
-    sys.exit(1 if found else 0)
+    sys.exit(2 if mute else 1 if found else 0)
 
 
 if __name__ == '__main__':

@@ -10,7 +10,7 @@ is for each whether it ran, its status and how long it took, or why it was not r
   `replay`
 
 Captures that a command reads are made of those in examples/ (SAMPLES). With --list nothing is run. The status is 1 where a
-command that ran didn't end with status 0. It is no part of the gate: `rt try` takes minutes.
+command that ran didn't end with status 0, and 2 where a PAGE or the program isn't there, or a PAGE has no command. It is no part of the gate: `rt try` takes minutes.
 """
 import bz2
 import os
@@ -104,6 +104,11 @@ def main(words):
             listing = True
         else:
             pages.append(word)
+    missing = [it for it in pages + ([program] if program else []) if not os.path.isfile(os.path.join(TOP, it))]
+    mute = [it for it in pages if not missing and not any(True for _ in commands(it))]
+    if missing or mute:
+        print('commands.py: %s' % ('there is no %s' % missing[0] if missing else '%s has no command' % mute[0]), file=sys.stderr)
+        return 2
     ran = failed = left = 0
     with tempfile.TemporaryDirectory(prefix='commands-') as folder:
         clone, env = (None, None) if listing else made_clone(folder, program)

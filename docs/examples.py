@@ -178,6 +178,15 @@ def stories():
     return sorted(os.path.basename(path)[:-len('.out')] for path in found)
 
 
+def without_output():
+    """The files of stories that have no output beside them: captures have an event file, or an output."""
+    for path in sorted(glob.glob(os.path.join(TOP, STORIES, '*.*'))):
+        name, ending = path.rsplit('.', 1)
+        wanted = {'mrt': ('.events', '.out')}.get(ending, ('.out',))
+        if ending != 'out' and not any(os.path.isfile(name + it) for it in wanted):
+            yield os.path.relpath(path, TOP)
+
+
 def comment(name):
     """The first sentence of the comment that an event file begins with; an empty text where there is none."""
     path = os.path.join(TOP, STORIES, name + '.events')
