@@ -23,15 +23,15 @@ def find():
 class Browser:
     """One page in one Chromium, which ends with the `with` block."""
 
-    def __init__(self, program, width=1280, height=800, dark=False):
-        self.program, self.width, self.height, self.dark = program, width, height, dark
+    def __init__(self, program, width=1280, height=800, dark=False, scale=1):
+        self.program, self.width, self.height, self.dark, self.scale = program, width, height, dark, scale
 
     def __enter__(self):
         self.folder = tempfile.mkdtemp(prefix='view-')
         ours, theirs = os.pipe(), os.pipe()
         os.set_inheritable(ours[0], True)
         os.set_inheritable(theirs[1], True)
-        words = [self.program, '--headless=new', '--remote-debugging-pipe', '--disable-gpu', '--no-first-run', '--hide-scrollbars',
+        words = [self.program, '--headless=new', '--remote-debugging-pipe', '--disable-gpu', '--no-first-run',
                  '--disable-extensions', '--disable-background-networking', '--user-data-dir=' + self.folder,
                  '--window-size=%d,%d' % (self.width, self.height)]
         if os.geteuid() == 0:
@@ -49,7 +49,7 @@ class Browser:
         self.session = self.call('Target.attachToTarget', targetId=target['targetId'], flatten=True)['sessionId']
         self.call('Page.enable')
         self.call('Runtime.enable')
-        self.call('Emulation.setDeviceMetricsOverride', width=self.width, height=self.height, deviceScaleFactor=1, mobile=False)
+        self.call('Emulation.setDeviceMetricsOverride', width=self.width, height=self.height, deviceScaleFactor=self.scale, mobile=False)
         self.call('Emulation.setEmulatedMedia',
                   features=[{'name': 'prefers-color-scheme', 'value': 'dark' if self.dark else 'light'}])
         return self
@@ -150,6 +150,10 @@ class Browser:
     def now():
         """Seconds of the clock."""
         return time.monotonic()
+
+    def focused(self):
+        """The name of the element that has the focus."""
+        return self.ask('document.activeElement.id')
 
     def press(self, key, text=''):
         """Presses a key and lets it go."""

@@ -1,12 +1,14 @@
 #!/usr/bin/env python3
-"""Checks the page view/index.html in a headless Chromium: view/check.py [--program PATH] [--only NAME] [--pictures]
+"""Checks the page view/index.html in a headless Chromium and a headless Firefox: view/check.py [--browser chromium | firefox] [--program PATH]
+                                                                                  [--only NAME] [--pictures]
 
 Journals of examples/ are dropped on the page, and what it shows is read from its elements: how many rows each link of the
 picture has, behind each line, and the rows of a link, at each line of a `show` or an `ask`. It is compared with what the
 program printed there, and with a walk over the journal's lines by this script. Also: files that are no journal or break a
-rule, with the line that `replay check` names; a file that is too large; and journals of 100,000 lines, with timings.
+rule, with the line that `replay check` names; a file that is too large; windows from 390 to 2560 pixels with visible scroll bars, and letters of
+200 %; what keys and the filter do; and in Chromium journals of 100,000 lines, with timings.
 
-Status 0 where all is as expected, 1 where something differs, 2 where Chromium isn't installed.
+Status 0 where all is as expected, 1 where something differs, 2 where nothing was compared: no browser is installed, or NAME is none.
 """
 import argparse
 import collections
@@ -14,6 +16,7 @@ import glob
 import json
 import os
 import random
+import re
 import statistics
 import subprocess
 import sys
@@ -23,9 +26,15 @@ sys.dont_write_bytecode = True
 HERE = os.path.dirname(os.path.abspath(__file__))
 TOP = os.path.join(HERE, '..')
 sys.path.insert(0, HERE)
+sys.path.insert(0, os.path.join(TOP, 'beside'))
 import browser  # noqa: E402
+import firefox  # noqa: E402
 import large  # noqa: E402
+import wire  # noqa: E402
 
+BROWSERS = {'chromium': (browser.find, browser.Browser), 'firefox': (firefox.find, firefox.Firefox)}
+# width, height and scale of windows: a telephone, a tablet, letters of 200 %, screens
+WINDOWS = ((390, 844, 2), (768, 1024, 1), (640, 400, 2), (1280, 800, 1), (1920, 1080, 1), (2560, 1440, 1))
 STORIES = ('two_peers', 'loss', 'comes_in_the_middle', 'lost_under_redistribution', 'sixteen_losses')
 
 # What the page shows, read from its elements; put into the page, so that many questions cost one call.
@@ -67,6 +76,29 @@ PROBE = '''var probe = {
     filter('');
     return found;
   },
+  candidates: async prefix => {
+    const box = document.querySelector('#filter');
+    const filter = text => { box.value = text; box.dispatchEvent(new Event('input')); };
+    filter(prefix);
+    document.querySelector('#beside').click();
+    const form = document.querySelector('#form');
+    if (form.textContent === 'as printed') form.click();
+    const found = await probe.rows();
+    filter('');
+    return found;
+  },
+  layout: () => {
+    const boxes = ['#heads', '#lanes svg', '#core'].map(name => document.querySelector(name).getBoundingClientRect());
+    const page = document.documentElement;
+    const out = Array.from(document.querySelectorAll('button, select, input, #says'), part => part.getBoundingClientRect())
+      .filter(box => box.width && (box.left < 0 || box.right > page.clientWidth + 0.5));
+    const says = document.querySelector('#says');
+    return {
+      wider: page.scrollWidth - page.clientWidth,
+      apart: Math.max(...boxes.map(box => Math.abs(box.left - boxes[0].left) + Math.abs(box.right - boxes[0].right))) > 0.6,
+      out: out.length, cut: says.scrollHeight > says.clientHeight + 1 || says.scrollWidth > says.clientWidth + 1,
+    };
+  },
   all: async questions => {
     const answers = [];
     for (const [name, ...words] of questions) answers.push(await probe[name](...words));
@@ -77,6 +109,9 @@ COMPLAINT = '''(box => box.hidden ? '' : box.textContent)(document.querySelector
 STEPS = '''(() => { const spent = []; for (const told of %s) { const begun = performance.now();
   if (typeof told === 'number') view.go(told); else view.step(...told);
   document.body.getBoundingClientRect(); spent.push(performance.now() - begun); } return spent; })()'''
+REVEALED = '''(row => row !== null && row.children[0].textContent === "%s" &&
+  row.getBoundingClientRect().bottom <= document.querySelector('#rows').getBoundingClientRect().bottom + 1
+)(document.querySelector('#rows .row.found:not([hidden])'))'''
 FRAMES = '''(async () => { view.go(1); document.querySelector('#speed').value = 4096; view.play(); let frames = 0;
   const begun = performance.now();
   while (performance.now() - begun < 2000) { await new Promise(requestAnimationFrame); frames++; }
@@ -289,7 +324,8 @@ def check_no_journals(page, folder):
     with open(huge, 'wb') as file:
         file.truncate(1 << 30)
     cases = [(os.path.join(TOP, 'README.md'), 'README.md is no journal: line 1 begins with no word of a journal (“# replay”).'),
-             (example('loss.events'), 'loss.events is no journal: line 1 begins with no word of a journal ('),
+             (example('loss.events'), 'loss.events is an event file, not a journal. Run it, replay run < loss.events > journal, and drop the file'),
+             (example('four_octets.events'), 'four_octets.events is an event file, not a journal. Run it, '),
              (binary, 'binary is no journal: line 1 has '),
              (huge, 'huge has 1,024 MiB; this page takes at most 64 MiB')]
     for path, wanted in cases:
@@ -363,42 +399,166 @@ def check_large_ones(page, folder, program):
     check_large(page, 'by replay gen 7 9000', path)
 
 
-def check_layout(program):
-    """Nothing is wider than the window."""
-    for width, height in ((1280, 800), (1920, 1080), (2560, 1440)):
-        with browser.Browser(program, width, height) as page:
-            expect('opens', '', open_file(page, example('loss.out')))
-            page.ask('view.go(49)')
-            expect('width at %d' % width, width, page.ask('document.documentElement.scrollWidth'))
-            expect('height at %d' % width, height, page.ask('document.documentElement.scrollHeight'))
-            compared['windows'] += 1
+def check_layout(made, program):
+    """In each window: nothing is wider than it, the parts of the picture are one below the other, all buttons are in it, no sentence is cut."""
+    whole = {'wider': 0, 'apart': False, 'out': 0, 'cut': False}
+    for width, height, scale in WINDOWS:
+        with made(program, width, height, scale=scale) as page:
+            for name, count in (('loss', 60), ('sixty_four_peers', 8), ('cluster_list_of_1000', 8)):
+                expect('opens', '', open_file(page, example(name + '.out')))
+                expect('width of the window', width, page.ask('innerWidth'))
+                last = page.ask('view.journal.last')
+                for line in sorted(random.sample(range(1, last + 1), min(count, last))):
+                    expect('%s at %d: line %d' % (name, width, line), whole, page.ask('view.go(%d); probe.layout()' % line))
+                    compared['windows, lines'] += 1
+
+
+# ---- keys, the filter and what lines say
+
+def check_actions(page, folder):
+    """Tab, Enter, the filter by prefix and by AS, the candidates at a prefix, and messages in words."""
+    open_page(page)
+    page.press('Tab')
+    expect('Tab comes to', 'open', page.focused())
+    for name in STORIES + ('each_step', 'four_octets', 'never_sent', 'faults_in_messages'):
+        lines = lines_of(example(name + '.out'))
+        expect('%s opens' % name, '', open_file(page, example(name + '.out')))
+        check_candidates(page, name, lines)
+        check_numbers(page, name, lines)
+        check_messages(page, name, lines)
+    check_keys(page)
+    check_revealed(page, folder)
+    expect('errors of the page', [], page.failures)
+
+
+def check_candidates(page, name, lines):
+    """All routes that the decision compares at a prefix, side by side."""
+    walk = Walk(lines)
+    for number in sorted(random.sample(range(1, len(lines) + 1), min(len(lines), 30))):
+        walk.go(number)
+        best = sorted(walk.links.get('best', {}))
+        for prefix in random.sample(best, min(2, len(best))):
+            links = [link for link in walk.links if link == 'red' or link.startswith('res.')]
+            wanted = [[link, walk.links[link][prefix]] for link in sorted(links, key=lambda link: int(link[4:] or 0)) if prefix in walk.links[link]]
+            found = asked(page, ['line', number], ['candidates', prefix])[1]
+            expect('%s:%d candidates at %s' % (name, number, prefix), wanted, found)
+            compared['candidates'] += 1
+
+
+def numbers_of(line):
+    """The AS numbers in the paths of a line's values."""
+    words = line.split(' ')
+    values = words[3:] if words[0] in ('+', '-', '=', '?') else []
+    paths = [path for value in values for path in re.findall(r'(?:^|[:,])p((?:[({][0-9.]*[)}])+)(?:,|$)', value)]
+    return {asn for path in paths for asn in re.findall('[0-9]+', path)}
+
+
+def check_numbers(page, name, lines):
+    """The filter by an AS number: the lines of which a value has it in its path."""
+    for asn in sorted(set().union(*map(numbers_of, lines)))[:3]:
+        wanted = [number for number, line in enumerate(lines, 1) if asn in numbers_of(line)]
+        found = page.ask('view.setFilter("AS%s"); Array.from(view.matches)' % asn)
+        expect('%s: lines of AS %s' % (name, asn), wanted, found)
+        compared['filters by AS'] += 1
+    page.ask('view.setFilter("")')
+
+
+def check_messages(page, name, lines):
+    """UPDATEs and NOTIFICATIONs in words, beside what beside/wire.py reads out of their octets."""
+    with open(example(name + '.events'), encoding='latin-1') as file:
+        width = 4 if 'as4' in file.read().split('\n') else 2
+    for number, line in enumerate(lines, 1):
+        words = line.split(' ')
+        if words[0] not in ('out', 'note'):
+            continue
+        said = page.ask('lineInWords(view.journal, %d).join(" ")' % number)
+        wanted = list(in_words(words[0], bytes.fromhex(words[2])[19:], width))
+        expect('%s:%d %s' % (name, number, said), [], [one for one in wanted if one not in said])
+        compared['messages in words'] += 1
+
+
+def in_words(kind, body, width):
+    """What has to be said of a message."""
+    if kind == 'note':
+        yield '%d/%d, ' % (body[0], body[1])
+        return
+    found = wire.update(body)
+    if found.withdrawn:
+        yield 'withdraws ' + ', '.join(found.withdrawn)
+    if found.announced:
+        yield 'announces ' + ', '.join(found.announced)
+        yield 'next hop ' + wire.address(found.attributes[wire.NEXT_HOP][1])
+        yield 'AS path ' + (re.sub('[().]+', ' ', wire.path(found.attributes[wire.AS_PATH][1], width)).strip() or 'empty')
+
+
+def check_keys(page):
+    """Enter leaves the filter, Escape takes it away, c shows the candidates."""
+    page.press('/', '/')
+    expect('/ comes to', 'filter', page.focused())
+    page.ask('document.querySelector("#filter").value = "10.0.0.0/8"; view.setFilter("10.0.0.0/8")')
+    page.press('Enter')
+    expect('Enter leaves the filter', ['', '10.0.0.0/8'], [page.focused(), page.ask('document.querySelector("#filter").value')])
+    page.press('/', '/')
+    page.press('Escape')
+    expect('Escape takes the filter away', ['', ''], [page.focused(), page.ask('document.querySelector("#filter").value')])
+    compared['keys'] += 3
+
+
+def check_revealed(page, folder):
+    """A prefix as filter moves the table to its row."""
+    path = os.path.join(folder, 'rows')
+    with open(path, 'w', encoding='ascii') as file:
+        large.write(file, 8000)
+    expect('opens', '', open_file(page, path))
+    page.ask('view.go(view.journal.last); view.choose("best"); 0')
+    prefixes = page.ask('view.table.ranks.map((_, place) => view.table.nameOf(place))')
+    for prefix in (prefixes[-1], prefixes[0], prefixes[len(prefixes) // 2]):
+        page.ask('view.setFilter("%s"); 0' % prefix)
+        page.wait(REVEALED % prefix, 5)
+        compared['rows of a filter'] += 1
+    page.ask('view.setFilter(""); 0')
+
+
+def check(name, program, words):
+    """All parts that are asked for, in one browser."""
+    made = BROWSERS[name][1]
+    with tempfile.TemporaryDirectory() as folder, made(program) as page:
+        parts = {'stories': lambda: check_stories(page, None), 'verdicts': lambda: check_verdicts(page),
+                 'refusals': lambda: check_no_journals(page, folder), 'actions': lambda: check_actions(page, folder),
+                 'layout': lambda: check_layout(made, program)}
+        if name == 'chromium':
+            parts['large'] = lambda: check_large_ones(page, folder, words.program)
+        if words.only not in (None, *parts):
+            check_stories(page, words.only)
+        for part, run in parts.items():
+            if words.only in (None, part):
+                run()
 
 
 def main():
     parser = argparse.ArgumentParser(description=__doc__.split('\n')[0])
     parser.add_argument('--program', default=os.path.join(TOP, 'crates/replay_main/out/replay_main'),
                         help='the built program, for a large journal of its own (gen); without it that one is left out')
-    parser.add_argument('--only', help='a story alone, or verdicts, refusals, layout, large')
+    parser.add_argument('--only', metavar='NAME', help='a story alone, or stories, verdicts, refusals, actions, layout, large')
+    parser.add_argument('--browser', choices=sorted(BROWSERS), help='one of the two alone')
     parser.add_argument('--pictures', action='store_true', help='write the pictures of docs/pictures/ and check nothing')
     words = parser.parse_args()
-    program = browser.find()
-    if program is None:
-        print('Chromium is not installed (Debian: apt-get install chromium), so nothing was checked.')
+    there = {name: find() for name, (find, _) in BROWSERS.items() if words.browser in (None, name) and find()}
+    if not there:
+        print('No browser is installed (Debian: apt-get install chromium firefox-esr), so nothing was checked.')
         sys.exit(2)
     if words.pictures:
         import pictures
-        pictures.write(program)
+        pictures.write(browser.find())
         return
-    random.seed(1)
-    with tempfile.TemporaryDirectory() as folder, browser.Browser(program) as page:
-        parts = {'verdicts': lambda: check_verdicts(page), 'refusals': lambda: check_no_journals(page, folder),
-                 'layout': lambda: check_layout(program), 'large': lambda: check_large_ones(page, folder, words.program)}
-        if words.only not in parts:
-            check_stories(page, words.only)
-        for name in parts:
-            if words.only in (None, name):
-                parts[name]()
-    print('compared: ' + ', '.join('%s %d' % (key, compared[key]) for key in compared))
+    for name, program in there.items():
+        random.seed(1)
+        check(name, program, words)
+        print('%s: compared: %s' % (name, ', '.join('%s %d' % (key, compared[key]) for key in compared)))
+        if not compared:
+            print('there is no %s' % words.only)
+            sys.exit(2)
+        compared.clear()
     print('%d differences' % len(faults))
     sys.exit(1 if faults else 0)
 

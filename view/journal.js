@@ -26,6 +26,12 @@ const PREFIX_TEXT = /^(\d{1,3})\.(\d{1,3})\.(\d{1,3})\.(\d{1,3})\/(\d{1,2})$/;
 /** A sentence for the reader: why a file isn't shown. */
 class Refusal extends Error {}
 
+/** Whether a text begins as an event file does (docs/LANGUAGE.md): behind comments stands one of these lines. */
+function isEventFile(text) {
+  const line = text.split('\n', 100).find(found => found.trim() !== '' && !found.startsWith('#'));
+  return line !== undefined && /^ *(as4|revised|reflect|local [0-9]+ .*)\r?$/.test(line);
+}
+
 /** The parts of a link's name, or null where it is none: its family, its numbers, its protocol. */
 function linkParts(name) {
   const found = LINK_NAME.exec(name);
@@ -153,6 +159,9 @@ class Journal {
   }
 
   takePiece(text, base) {
+    if (base === 0 && isEventFile(text)) {
+      throw new Refusal(`${this.name} is an event file, not a journal. Run it, replay run < ${this.name} > journal, and drop the file journal.`);
+    }
     this.pieces.push(text);
     this.bases.push(base);
     for (let at = 0; at < text.length && !this.broken;) {

@@ -19,18 +19,26 @@ function putClass(element, name) {
 class VirtualList {
   /** `fill` writes a row's number into one of the drawn elements, which `make` made. */
   constructor(box, rowHeight, make, fill) {
-    Object.assign(this, {box, rowHeight, make, fill, length: 0, full: 0, height: 0, drawn: [], seen: 0, scrolled: 0});
+    Object.assign(this, {box, rowHeight, make, fill, length: 0, full: 0, height: 0, drawn: [], seen: 0, scrolled: 0, revealed: -1});
     this.space = document.createElement('div');
     this.space.className = 'space';
     box.replaceChildren(this.space);
     box.addEventListener('scroll', () => {
+      if (Math.abs(box.scrollTop - this.scrolled) >= 1) this.revealed = -1;
       this.scrolled = box.scrollTop;
       this.render();
     });
     new ResizeObserver(() => {
-      this.seen = box.clientHeight;
+      this.measure();
+      if (this.revealed !== -1) this.reveal(this.revealed);
       this.render();
+      this.settle();
     }).observe(box);
+  }
+
+  /** How much is seen below what stands above the rows and stays there. */
+  measure() {
+    this.seen = Math.max(0, this.box.clientHeight - this.space.offsetTop);
   }
 
   setLength(length) {
@@ -57,6 +65,7 @@ class VirtualList {
   /** Scrolls only as far as it takes to have a row in view, a few rows from the edges; `settle` then moves the box. */
   reveal(row, margin = 3) {
     const {seen} = this;
+    this.revealed = row;
     const top = this.top();
     const upper = (row - margin) * this.rowHeight;
     const lower = (row + 1 + margin) * this.rowHeight - seen;
@@ -101,7 +110,31 @@ class VirtualList {
 /** The rows of one link behind a line, kept while the line moves by little. */
 class Table {
   constructor(journal, link) {
-    Object.assign(this, {journal, link, line: -1, ranks: [], values: []});
+    Object.assign(this, {journal, link, line: -1, ranks: [], values: [], first: 'prefix'});
+  }
+
+  /** The head: what it is, and how many rows there are. */
+  title() {
+    const count = this.journal.countAt(this.link, this.line);
+    return [this.link.name, `${linkInWords(this.link)} · ` +
+      (count === -1 ? 'not live' : count === 1 ? '1 row' : `${count.toLocaleString('en')} rows`)];
+  }
+
+  rankOf(place) {
+    return this.ranks[place];
+  }
+
+  /** The row at a prefix, or the one before it. */
+  placeOf(rank) {
+    return Math.max(0, atMost(this.ranks, rank) - 1);
+  }
+
+  nameOf(place) {
+    return this.journal.prefixes[this.journal.byRank[this.ranks[place]]];
+  }
+
+  isMarked(place, rank) {
+    return this.ranks[place] === rank;
   }
 
   moveTo(line) {
@@ -123,5 +156,45 @@ class Table {
     const added = value === -1 ? [] : [0];
     this.ranks.splice(place, there, ...added.map(() => rank));
     this.values.splice(place, there, ...added.map(() => value));
+  }
+}
+
+/** The candidates at one prefix side by side: the rows there of all links whose routes the decision compares; the best one is marked. */
+class Candidates {
+  constructor(journal, rank) {
+    const links = journal.links.filter(({family}) => family === 'res' || family === 'red');
+    links.sort((a, b) => (a.numbers[0] || 0) - (b.numbers[0] || 0));
+    Object.assign(this, {journal, rank, links, line: -1, names: [], values: [], best: -1, first: 'link'});
+    this.link = journal.links[journal.linkOf.get('best')];
+  }
+
+  moveTo(line) {
+    const {journal, rank} = this;
+    const found = this.links.map(link => [link.name, journal.valueAt(link, rank, line)]).filter(([, value]) => value !== -1);
+    this.names = found.map(([name]) => name);
+    this.values = found.map(([, value]) => value);
+    this.best = this.link ? journal.valueAt(this.link, rank, line) : -1;
+    this.line = line;
+  }
+
+  title() {
+    const {length} = this.values;
+    return [this.journal.prefixes[this.journal.byRank[this.rank]], `all candidates · ${length} ${length === 1 ? 'route' : 'routes'}`];
+  }
+
+  rankOf() {
+    return -2;
+  }
+
+  placeOf() {
+    return Math.max(0, this.values.indexOf(this.best));
+  }
+
+  nameOf(place) {
+    return this.names[place];
+  }
+
+  isMarked(place) {
+    return this.values[place] === this.best;
   }
 }

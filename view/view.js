@@ -20,6 +20,7 @@ class View {
     this.printed = false;       // whether rows are shown as printed
     this.matches = null;        // the lines of the filter, or null where there is none
     this.rank = -1;             // the filter's prefix
+    this.isNew = false;
     this.playing = null;
     this.stripWidth = 0;
     this.opened = 0;            // how many files were opened, or refused
@@ -144,6 +145,7 @@ class View {
     if (document.activeElement !== at('#line')) at('#line').value = line;
     at('#strip i').style.transform = `translateX(${line / (journal.last || 1) * this.stripWidth}px)`;
     at('#strip').setAttribute('aria-valuenow', line);
+    at('#beside').hidden = this.rank === -1;
     const place = this.matches ? atMost(this.matches, line) - 1 : line - 1;
     this.lines.reveal(Math.max(0, place));
     this.lines.render();
@@ -192,10 +194,21 @@ class View {
   choose(name) {
     if (!this.journal || !this.journal.linkOf.has(name)) return;
     this.chosen = name;
-    this.table = new Table(this.journal, this.journal.links[this.journal.linkOf.get(name)]);
+    this.showTable(new Table(this.journal, this.journal.links[this.journal.linkOf.get(name)]));
+  }
+
+  showTable(table) {
+    this.table = table;
     this.rows.scrolled = 0;
     this.drawColumns();
     this.render();
+  }
+
+  /** All candidates at the filter's prefix side by side, or again the rows of the chosen link. */
+  showCandidates() {
+    if (this.rank === -1) return;
+    if (this.table instanceof Candidates) this.choose(this.chosen);
+    else this.showTable(new Candidates(this.journal, this.rank));
   }
 
   drawColumns() {
@@ -207,22 +220,25 @@ class View {
     at('#rows').style.setProperty('--columns', widths.join(' '));
     at('#rows').style.setProperty('--least', `calc(${least}ch + 24px)`);
     this.heads.replaceChildren();
-    for (const name of ['prefix', ...names]) part('', this.heads).textContent = name;
+    for (const name of [this.table.first, ...names]) part('', this.heads).textContent = name;
+    this.rows.measure();
     this.rows.clear();
     at('#form').textContent = this.printed ? 'as columns' : 'as printed';
+    at('#beside').textContent = this.table instanceof Candidates ? 'rows of a link' : 'candidates';
   }
 
   renderRows() {
     const {table, line} = this;
     table.moveTo(line);
-    const count = this.journal.countAt(table.link, line);
-    putText(at('#rows b'), table.link.name);
-    putText(at('#rows .title span'), `${linkInWords(table.link)} · ` +
-      (count === -1 ? 'not live' : count === 1 ? '1 row' : `${count.toLocaleString('en')} rows`));
-    this.rows.setLength(table.ranks.length);
+    const [name, told] = table.title();
+    putText(at('#rows b'), name);
+    putText(at('#rows .title span'), told);
+    this.rows.setLength(table.values.length);
     const isHere = this.journal.links[this.journal.link[line]] === table.link && this.journal.kind[line] <= ASK;
     this.changed = isHere ? this.journal.rank[this.journal.prefix[line]] : -1;
-    if (this.changed !== -1) this.rows.reveal(Math.max(0, atMost(table.ranks, this.changed) - 1));
+    const shown = this.changed === -1 || this.isNew ? this.rank : this.changed;
+    if (shown !== -1) this.rows.reveal(table.placeOf(shown));
+    this.isNew = false;
     this.rows.render();
     this.rows.settle();
   }
@@ -236,15 +252,15 @@ class View {
   fillRow(row, place) {
     const {table, journal} = this;
     const value = journal.values[table.values[place]];
-    const rank = table.ranks[place];
-    putText(row.children[0], journal.prefixes[journal.byRank[rank]]);
+    const rank = table.rankOf(place);
+    putText(row.children[0], table.nameOf(place));
     if (row.value !== value) {
       const told = this.printed ? null : columnsOf(table.link.family, value);
       this.keys.forEach((key, column) => putText(row.children[column + 1], told ? told[key] || '' : column ? '' : value));
       row.value = row.title = value;
     }
     putClass(row, 'row' + (place % 2 ? ' odd' : '') + (rank === this.changed ? ` changed ${MARKS[journal.kind[this.line]]}` : '') +
-      (rank === this.rank ? ' found' : ''));
+      (table.isMarked(place, this.rank) ? ' found' : ''));
   }
 
   // The filter.
@@ -253,6 +269,7 @@ class View {
     const {journal} = this;
     const words = text.split(/\s+/).filter(word => word !== '');
     this.rank = -1;
+    this.isNew = true;          // the table goes to the row of the filter's prefix
     this.matches = null;
     if (words.length) {
       const tests = words.map(word => this.lineTest(word));
@@ -264,13 +281,14 @@ class View {
       (this.rank === -1 ? '' : '; filled: links with a row there') : '';
     this.lines.setLength(this.matches ? this.matches.length : journal.last);
     this.drawStrip();
-    this.render();
+    if (this.table instanceof Candidates) this.choose(this.chosen);
+    else this.render();
   }
 
-  /** Whether a line is of a word of the filter: a prefix, an address, a link or several, or a kind of line. */
+  /** Whether a line is of a word of the filter: a prefix, an address, an AS, a link or several, or a kind of line. */
   lineTest(word) {
     const {journal} = this;
-    const {prefix, link, kind, before} = journal;
+    const {prefix, link, kind, before, after} = journal;
     if (/^[0-9.]+\/[0-9]+$/.test(word)) {
       const number = journal.prefixOf.get(word);
       if (number !== undefined) this.rank = journal.rank[number];
@@ -283,6 +301,11 @@ class View {
         return Math.floor(address / size) === Math.floor(Math.floor(key / 64) / size);
       });
       return line => prefix[line] !== -1 && holds[prefix[line]];
+    }
+    const number = /^as([0-9]+)$/i.exec(word);
+    if (number) {
+      const has = journal.values.map(value => pathHas(value, number[1]));
+      return line => kind[line] <= ASK && (has[before[line]] === true || has[after[line]] === true);
     }
     if (KIND_OF.has(word)) return line => KINDS[kind[line]] === word;
     const named = journal.links.map(({name}) => name === word || name.startsWith(word.endsWith('.') ? word : `${word}.`));
@@ -354,9 +377,9 @@ class View {
     const typing = event.target.matches('input[type=text], input[type=search], select');
     if (event.key === 'Escape' && event.target === at('#filter')) {
       at('#filter').value = '';
-      this.setFilter('');
-      at('#filter').blur();
+      if (this.journal) this.setFilter('');
     }
+    if ((event.key === 'Escape' || event.key === 'Enter') && event.target === at('#filter')) at('#filter').blur();
     if (event.key === 'Escape') at('#complaint').hidden = true;
     if (typing || event.ctrlKey || event.metaKey || event.altKey || at('#keys').open) return;
     const acts = {
@@ -366,7 +389,7 @@ class View {
       Home: () => this.act('start'), End: () => this.act('end'), ' ': () => this.play(),
       '+': () => this.setSpeed(1), '-': () => this.setSpeed(-1),
       'g': () => at('#line').select(), '/': () => at('#filter').select(), 'o': () => at('#choose').click(),
-      't': () => at('#form').click(), '?': () => at('#keys').showModal(), 'l': () => this.chooseHere(),
+      't': () => at('#form').click(), 'c': () => this.showCandidates(), '?': () => at('#keys').showModal(), 'l': () => this.chooseHere(),
     };
     const act = acts[event.key];
     if (!act) return;
@@ -392,6 +415,8 @@ class View {
       if (file) this.open(file);
       else this.complain('That is no file: drop the output of replay run.');
     });
+    at('#open').addEventListener('click', () => at('#choose').click());
+    at('#beside').addEventListener('click', () => this.showCandidates());
     at('#choose').addEventListener('change', event => {
       if (event.target.files[0]) this.open(event.target.files[0]);
       event.target.value = '';
@@ -425,6 +450,10 @@ class View {
     const measure = () => {
       const box = at('#lanes');
       this.lanes = {width: box.clientWidth, seen: box.clientHeight, height: box.scrollHeight};
+      const bar = `${box.offsetWidth - box.clientWidth}px`;
+      if (bar === this.bar) return;
+      this.bar = bar;
+      requestAnimationFrame(() => at('#picture').style.setProperty('--bar', bar));
     };
     const observer = new ResizeObserver(measure);
     for (const element of [at('#lanes'), at('#lanes svg')]) observer.observe(element);

@@ -61,6 +61,12 @@ function attributes(text) {
   return told;
 }
 
+/** Whether the path of a value has an AS number. */
+function pathHas(value, number) {
+  const path = /(?:^|[:,])p((?:[({][0-9.]*[)}])+)(?:,|$)/.exec(value);
+  return path !== null && path[1].split(/[(){}.]+/).includes(number);
+}
+
 /** A value by columns, as the link's kind has them; null where the text has another form. */
 function columnsOf(family, value) {
   const parts = value.split(':');
@@ -112,9 +118,92 @@ function changeInWords(family, before, after) {
     .map(([key, head]) => `${head} ${old[key] || 'none'} → ${told[key] || 'none'}`).join(', ');
 }
 
+/** What the codes of a NOTIFICATION mean (RFC 4271, section 4.5; RFC 7313), and some of the subcodes. */
+const NOTES = {1: 'message header error', 2: 'OPEN error', 3: 'UPDATE error', 4: 'hold timer expired', 5: 'error of the state machine', 6: 'cease',
+  7: 'ROUTE-REFRESH error', '1/1': 'connection not synchronized', '1/2': 'bad message length', '1/3': 'bad message type',
+  '3/1': 'malformed attribute list', '3/2': 'unrecognized well-known attribute', '3/3': 'missing well-known attribute',
+  '3/4': 'attribute flags error', '3/5': 'attribute length error', '3/6': 'invalid ORIGIN', '3/8': 'invalid NEXT_HOP',
+  '3/9': 'optional attribute error', '3/10': 'invalid network field', '3/11': 'malformed AS_PATH'};
+
+function octetsOf(hex) {
+  return Uint8Array.from({length: hex.length / 2}, (_, place) => parseInt(hex.slice(2 * place, 2 * place + 2), 16));
+}
+
+/** Code, subcode and data of a NOTIFICATION. */
+function noteInWords(hex) {
+  const [code, subcode] = octetsOf(hex.slice(38, 42));
+  if (subcode === undefined) return `${hex.length / 2} octets`;
+  const told = NOTES[`${code}/${subcode}`] ? `${NOTES[code]}, ${NOTES[`${code}/${subcode}`]}` : NOTES[code] || 'unknown';
+  return `${code}/${subcode}, ${told}` + (hex.length > 42 ? `, with the data ${shortened(hex.slice(42))}` : '');
+}
+
+/** The prefixes of a field of an UPDATE. */
+function prefixesOf(octets) {
+  const found = [];
+  for (let at = 0; at < octets.length;) {
+    const length = octets[at];
+    const part = Array.from({length: 4}, (_, place) => (place < Math.ceil(length / 8) ? octets[at + 1 + place] || 0 : 0));
+    found.push(`${part.join('.')}/${length}`);
+    at += 1 + Math.ceil(length / 8);
+  }
+  return found;
+}
+
+/** The text of an AS_PATH whose numbers have so many octets; null where it doesn’t fit. */
+function pathOf(octets, width) {
+  let told = '';
+  for (let at = 0; at < octets.length;) {
+    const [kind, count] = octets.slice(at, at + 2);
+    const end = at + 2 + count * width;
+    if (count === undefined || count === 0 || (kind !== 1 && kind !== 2) || end > octets.length) return null;
+    const numbers = [];
+    for (let place = at + 2; place < end; place += width) numbers.push(octets.slice(place, place + width).reduce((sum, octet) => sum * 256 + octet, 0));
+    told += kind === 2 ? `(${numbers.join('.')})` : `{${numbers.join('.')}}`;
+    at = end;
+  }
+  return told;
+}
+
+/** The attributes of an UPDATE in the form of a value. The width of its AS numbers is told by the value on the line before, if by any. */
+function valueOf(octets, near) {
+  const words = [];
+  for (let at = 0; at < octets.length;) {
+    const wide = octets[at] & 0x10 ? 2 : 1;
+    const size = wide === 2 ? octets[at + 2] * 256 + octets[at + 3] : octets[at + 2];
+    const value = octets.slice(at + 2 + wide, at + 2 + wide + size);
+    const number = value.reduce((sum, octet) => sum * 256 + octet, 0);
+    const kind = octets[at + 1];
+    if (kind === 1) words.push(`o${number}`);
+    if (kind === 2) {
+      const paths = [pathOf(value, 2), pathOf(value, 4)];
+      words.push(`p${paths.find(path => path !== null && near.includes(`p${path},`)) ?? paths[0] ?? paths[1] ?? ''}`);
+    }
+    if (kind === 3) words.push(`n${value.join('.')}`);
+    if (kind === 4) words.push(`m${number}`);
+    if (kind === 5) words.push(`l${number}`);
+    if (kind === 6) words.push('a');
+    if (kind > 6) words.push(`x${kind}:${Array.from(value, octet => octet.toString(16).padStart(2, '0')).join('')}`);
+    at += 2 + wide + size;
+  }
+  return words.join(',');
+}
+
+/** What an UPDATE withdraws and announces, and with which attributes. */
+function updateInWords(hex, near) {
+  const octets = octetsOf(hex);
+  const gone = octets[19] * 256 + octets[20];
+  const at = 23 + gone;
+  const size = octets[at - 2] * 256 + octets[at - 1];
+  if (!(at + size <= octets.length)) return `${octets.length} octets`;
+  const told = [['withdraws', prefixesOf(octets.slice(21, 21 + gone))], ['announces', prefixesOf(octets.slice(at + size))]]
+    .filter(([, found]) => found.length).map(([verb, found]) => `${verb} ${found.join(', ')}`);
+  if (size) told.push(valueInWords('adv', valueOf(octets.slice(at, at + size), near)));
+  return told.join('; ') || 'nothing';
+}
+
 const OTHERS = {
-  [OUT]: words => `UPDATE to peer ${words[1]}: ${(words[2] || '').length / 2} octets.`,
-  [NOTE]: words => `NOTIFICATION to peer ${words[1]}: the session is lost.`,
+  [OUT]: (words, near) => `UPDATE to peer ${words[1]}: ${updateInWords(words[2] || '', near)}.`,
+  [NOTE]: words => `NOTIFICATION to peer ${words[1]}: ${noteInWords(words[2] || '')}; the session is lost.`,
   [ROW]: words => `A row of ${words[1]}, which the event file asked to be shown.`,
   [ROWS]: words => `That was all of ${words[1]}: ${words[2]} rows.`,
   [COVER]: words => `The longest interior route that holds ${words[1]}: ${words[2] === '-' ? 'none' : words[2]}; ` +
@@ -134,7 +223,7 @@ function lineInWords(journal, line) {
   if (line === 0) return ['Before the first line', 'No link is live.'];
   const kind = journal.kind[line];
   const words = journal.text(line).split(' ');
-  if (kind > END) return [KINDS[kind], OTHERS[kind](words)];
+  if (kind > END) return [KINDS[kind], OTHERS[kind](words, line > 1 ? journal.text(line - 1) : '')];
   const link = journal.links[journal.link[line]];
   const before = journal.values[journal.before[line]];
   const after = journal.values[journal.after[line]];
