@@ -7,12 +7,13 @@ Speaks BGP over TCP, and nothing else: it answers the OPENs of the peers that SE
 `up K`; one that ends by the connection or by the hold timer is `down K`. Behind the messages of each read stands `idle`.
 
 SETUP is the front of an event file (docs/LANGUAGE.md): `as4`, `revised`, `reflect`, `local`, `peer`, `filter`, `route`, `redist`. Lines of these kinds, and
-`show`, `ask`, `settled` and `lost`, may come on standard input at any time; what the program answers goes to standard output. What
-becomes of sessions is said on standard error, each with the seconds since the begin. It runs until it gets SIGINT or SIGTERM.
+`show`, `ask`, `settled` and `lost`, may come on standard input at any time; what the program answers goes to standard output. Each is first given to
+another run of the program, behind SETUP: where that refuses it, it is told why, and nothing else happens by it. What becomes of sessions is said on
+standard error, each with the seconds since the begin. It runs until it gets SIGINT or SIGTERM.
 
 It isn't a router's session layer: it waits for connections and makes none, a second connection of a peer is refused, in place of collision
 detection (RFC 4271, section 6.8), and the only capabilities are IPv4 unicast (RFC 4760) and, where SETUP has `as4`, AS numbers of four octets.
-Statuses: 0, 2 where SETUP can't be taken or the program refuses a line.
+Statuses: 0, 2 where SETUP can't be taken, the address isn't there or is in use, or the program ends.
 """
 import argparse
 import os
@@ -26,9 +27,11 @@ import sys
 import threading
 import time
 
-sys.path.insert(0, os.path.join(os.path.dirname(os.path.abspath(__file__)), '..', 'beside'))
+for folder in ('reasons', 'beside'):
+    sys.path.insert(0, os.path.join(os.path.dirname(os.path.abspath(__file__)), '..', folder))
 import eventfile
 import program
+import refused
 import wire
 
 TAKEN = ('as4', 'revised', 'reflect', 'local', 'peer', 'filter', 'route', 'redist')
@@ -56,11 +59,22 @@ class Refused(Exception):
     """The program, or this script, doesn't take a line."""
 
 
+def refusal(words, lines):
+    """Why the program refuses some lines: what refused.py says of the first that it refuses; None where it takes all."""
+    try:
+        ran = subprocess.run(words + ['run', '--quiet'], input='\n'.join(lines).encode('latin-1') + b'\n', stdout=subprocess.PIPE, check=False)
+    except OSError as error:
+        raise Refused('%s: %s (README.md says how the program is built)' % (words[0], error.strerror)) from error
+    last = ran.stdout.decode('ascii').rstrip('\n').rpartition('\n')[2].split(' ')
+    return list(refused.Refusal(lines, int(last[1]), last[2]).report()) if last[0] == 'refused' else None
+
+
 class Program:
     """One `replay run`. A thread puts the lines that it prints into a queue, so that neither side waits for the other."""
 
     def __init__(self, words, wake):
         try:
+            self.words = words
             self.process = subprocess.Popen(words + ['run', '--quiet'], stdin=subprocess.PIPE, stdout=subprocess.PIPE, start_new_session=True)
         except OSError as error:
             raise Refused('%s: %s (README.md says how the program is built)' % (words[0], error.strerror)) from error
@@ -76,7 +90,7 @@ class Program:
 
     def write(self, lines):
         try:
-            self.process.stdin.write(''.join(line + '\n' for line in lines).encode('ascii'))
+            self.process.stdin.write(''.join(line + '\n' for line in lines).encode('latin-1'))
             self.process.stdin.flush()
         except BrokenPipeError:
             pass  # why stands in its output
@@ -142,8 +156,12 @@ class Session:
 
 class Speaker:
     def __init__(self, lines, asked):
-        self.begun, self.asked = time.monotonic(), asked
+        self.begun, self.asked, self.setup = time.monotonic(), asked, lines
         self.wanted = eventfile.Wanted()
+        for words in filter(None, map(str.split, lines)):
+            self.wanted.take(words)
+        self.peers = {peer.address: peer for peer in self.wanted.peers.values()}
+        self.listener = listening(self.wanted.address, asked.port)
         self.sessions, self.current, self.counts = {}, {}, {}
         self.selector = selectors.PollSelector()
         self.woken, self.waker = socket.socketpair()
@@ -154,13 +172,6 @@ class Speaker:
         self.program.write(lines + ['cover 0.0.0.0'])
         while not self.program_line(self.program.lines.get()):
             pass
-        for words in filter(None, map(str.split, lines)):
-            self.wanted.take(words)
-        self.peers = {peer.address: peer for peer in self.wanted.peers.values()}
-        self.listener = socket.socket()
-        self.listener.setsockopt(socket.SOL_SOCKET, socket.SO_REUSEADDR, 1)
-        self.listener.bind((self.wanted.address, asked.port))
-        self.listener.listen(64)
         self.selector.register(self.listener, selectors.EVENT_READ, 'listener')
         self.selector.register(sys.stdin, selectors.EVENT_READ, 'input')
         self.say('waits on %s port %d' % (self.wanted.address, asked.port))
@@ -304,12 +315,25 @@ class Speaker:
         if not more:
             self.selector.unregister(sys.stdin)
         whole, _, self.input = (self.input + more).rpartition(b'\n')
-        lines = [line for line in whole.decode('ascii', 'replace').split('\n') if line.strip()]
-        for line in lines:
-            if line.split()[0] not in TAKEN + ASKED + ('lost',):
-                self.say('not taken: ' + line)
-            else:
-                self.program.write([line] + ([] if line.split()[0] in ASKED else ['idle']))
+        for line in whole.decode('latin-1').split('\n'):
+            if line.strip():
+                self.take_input(line)
+
+    def take_input(self, line):
+        """One line of standard input: taken where the program takes it behind SETUP, which is tried first."""
+        words = line.split()
+        if words[0] not in TAKEN + ASKED + ('lost',):
+            self.say('not taken: %s: it comes from the network, or isn\'t one of %s' % (ascii(line)[1:-1], ' '.join(TAKEN[4:] + ASKED + ('lost',))))
+            return
+        why = refusal(self.program.words, self.setup + [line])
+        if why:
+            self.say('not taken: ' + '\n'.join(['refused: ' + why[0].split(': ', 1)[1]] + why[1:]))
+            return
+        self.program.write([line] + ([] if words[0] in ASKED else ['idle']))
+        if words[0] == 'peer':
+            self.setup.append(line)
+        self.wanted.take(words)
+        self.peers = {peer.address: peer for peer in self.wanted.peers.values()}
 
     # ---- all of it
 
@@ -335,14 +359,35 @@ class Speaker:
         self.program.stop()
 
 
-def setup(path):
-    """The lines of SETUP."""
-    with open(path, encoding='ascii') as file:
-        lines = file.read().split('\n')
+def listening(address, port):
+    """A socket on which the peers' connections come."""
+    made = socket.socket()
+    made.setsockopt(socket.SOL_SOCKET, socket.SO_REUSEADDR, 1)
+    try:
+        made.bind((address, port))
+        made.listen(64)
+    except OSError as error:
+        made.close()
+        raise Refused('%s port %d: %s' % (address, port, error.strerror)) from error
+    return made
+
+
+def setup(path, words):
+    """The lines of SETUP, which the program takes."""
+    try:
+        with open(path, encoding='latin-1') as file:
+            lines = file.read().rstrip('\n').split('\n')
+    except OSError as error:
+        raise Refused('%s: %s' % (path, error.strerror)) from error
     for number, line in enumerate(lines, 1):
-        words = line.split()
-        if words and not words[0].startswith('#') and words[0] not in TAKEN:
-            raise Refused('line %d: %s comes from the network, not from SETUP' % (number, words[0]))
+        first = line.split()[:1]
+        if first and not first[0].startswith('#') and first[0] not in TAKEN:
+            raise Refused('%s: line %d: `%s` comes from the network, not from SETUP' % (path, number, first[0]))
+    why = refusal(words, lines)
+    if why:
+        raise Refused('%s: %s' % (path, '\n'.join(why)))
+    if not any(line.split()[:1] == ['local'] for line in lines):
+        raise Refused('%s: it has no line `local AS ID ADDR`' % path)
     return lines
 
 
@@ -357,13 +402,13 @@ def main():
         signal.signal(sign, signal.default_int_handler)
     speaker = None
     try:
-        speaker = Speaker(setup(asked.setup), asked)
+        speaker = Speaker(setup(asked.setup, asked.program.split(' ')), asked)
         while True:
             speaker.turn()
     except KeyboardInterrupt:
         return 0
-    except (OSError, UnicodeDecodeError, Refused) as error:
-        print('speaker.py: %s' % (getattr(error, 'strerror', None) or error), file=sys.stderr)
+    except (OSError, Refused) as error:
+        print('speaker.py: %s' % error, file=sys.stderr)
         return 2
     finally:
         if speaker:
