@@ -11,6 +11,7 @@ on the day of writing alone, which the next change makes false.
 And by the scripts beside it, each of which says its rule at its head:
 - crate_table.py: the tables of crates, the longest chain, and numbers that documents state
 - names.py: each file, crate, function, heading and story that a document names exists
+- manual.py: docs/replay.1 and docs/replay.bash have the commands, options and statuses of docs/LANGUAGE.md
 - believe.py: the list of definitions that the clauses of `replay` reach, in docs/PROOFS.md
 - examples.py: docs/EXAMPLES.md
 
@@ -25,6 +26,7 @@ sys.dont_write_bytecode = True
 import believe
 import crate_table
 import examples
+import manual
 import names
 
 TOP = os.path.join(os.path.dirname(os.path.abspath(__file__)), '..')
@@ -87,6 +89,7 @@ def complaints():
     yield from ('%s: %s' % it for it in crate_table.faults())
     yield from ('%s:%d: %s' % it for it in names.faults())
     yield from ('docs/PROOFS.md:%d: %s' % it for it in believe.faults())
+    yield from ('%s: %s' % it for it in manual.faults())
     yield from examples.faults()
 
 

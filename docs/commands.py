@@ -79,7 +79,7 @@ def made_clone(folder, program):
         shutil.copy(program, os.path.join(clone, BUILT))
         os.makedirs(os.path.join(folder, 'bin'))
         os.symlink(os.path.join(clone, BUILT), os.path.join(folder, 'bin', 'replay'))
-    return clone, {**os.environ, 'PATH': os.path.join(folder, 'bin') + ':' + os.environ['PATH']}
+    return clone, {**os.environ, 'HOME': folder, 'PATH': os.path.join(folder, 'bin') + ':' + os.environ['PATH']}
 
 
 def run(command, clone, env):
