@@ -16,7 +16,7 @@ import subprocess
 
 import namespaces
 
-LIMIT = 20  # seconds that one command to a daemon may take
+LIMIT = 20  # seconds until a daemon answers
 # `ip netns exec` has made a mount namespace before
 PRIVATE = 'mount -t tmpfs none /run && mkdir -m 777 "/run/$0" && exec "$@"'
 
@@ -31,6 +31,7 @@ class Router:
     hold = 0  # seconds, of its sessions
     tries = 2  # how often a session is begun, a second apart, before it is given up
     run_folder = None  # its own place in /run, which its service makes
+    limit = LIMIT  # seconds that one command to it may take
 
     def __init__(self, folder, namespace, wanted):
         self.folder, self.namespace, self.wanted, self.started, self.pids = folder, namespace, wanted, [], set()
@@ -90,8 +91,11 @@ class Router:
 
     def command(self, words, may_fail=False):
         """What a command to the daemon prints."""
-        ran = subprocess.run(['ip', 'netns', 'exec', self.namespace] + words, stdin=subprocess.DEVNULL, stdout=subprocess.PIPE,
-                             stderr=subprocess.STDOUT, timeout=LIMIT, check=False)
+        try:
+            ran = subprocess.run(['ip', 'netns', 'exec', self.namespace] + words, stdin=subprocess.DEVNULL, stdout=subprocess.PIPE,
+                                 stderr=subprocess.STDOUT, timeout=self.limit, check=False)
+        except subprocess.TimeoutExpired as error:
+            raise Failed('%s: no answer within %d s' % (' '.join(words), self.limit)) from error
         said = ran.stdout.decode(errors='replace')
         if ran.returncode and not may_fail:
             raise Failed('%s: %s' % (' '.join(words), said.strip()[-300:]))

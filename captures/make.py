@@ -177,9 +177,11 @@ def main():
                 wrong += made(name, SMALL if asked.kept else asked.routes, asked.program.split(' '), folder)
                 if asked.kept:
                     stories(name, folder, asked.program.split(' '))
-            except (OSError, EOFError, TimeoutError, router.Failed, session.Refused, subprocess.CalledProcessError) as error:
+            except (OSError, EOFError, router.Failed, session.Refused, subprocess.SubprocessError) as error:
                 failed += 1
                 print('%s: no capture: %s' % (name, error))
+            except KeyboardInterrupt:
+                return 130
     return 1 if wrong else 2 if failed else 0
 
 

@@ -105,6 +105,7 @@ class Recorder(router.Router):
 
     dumps_table, hold = True, 0
     lacks = ()  # peers of which the capture doesn't tell all
+    limit = 300  # a whole table takes a while
 
     def __init__(self, folder, namespace):
         super().__init__(folder, namespace, None)
