@@ -1,7 +1,7 @@
 """BIRD beside `replay` (Debian's `bird2`): interior routes are static ones in a table of their own, which next hops are looked up in."""
 import re
 
-from eventfile import DISTANCES, masked
+from eventfile import DISTANCES, Wanted, masked
 from program import Best
 from router import Failed, Router, bounds, flat, origin
 
@@ -59,7 +59,7 @@ def filtered(rules, last):
 
 
 class Bird(Router):
-    name, package, programs = 'bird', 'bird2', ('bird', 'birdc')
+    name, package, programs, keeps = 'bird', 'bird2', ('bird', 'birdc'), True
 
     def config(self):
         wanted = self.wanted
@@ -97,6 +97,14 @@ class Bird(Router):
         said = self.control('configure')
         if 'Reconfigured' not in said and 'in progress' not in said:
             raise Failed('birdc configure: ' + said.strip())
+
+    def renew(self, wanted):
+        """First without any peer and route, so that no protocol goes on."""
+        empty = Wanted()
+        empty.asn, empty.identifier, empty.address = wanted.asn, wanted.identifier, wanted.address
+        for one in (empty, wanted):
+            self.apply(self.wanted, one)
+            self.wait(lambda: 'Daemon is up' in self.control('show status', True))
 
     def best(self):
         found, prefix, route = {}, None, {}

@@ -48,6 +48,8 @@ def rule_lines(way, address, rules):
 class OpenBgpd(Router):
     name, package, programs = 'openbgpd', 'openbgpd', ('bgpd', 'bgpctl')
     run_folder = 'openbgpd'
+    leaves_out = {'next hops': 'on Linux it sees no interior routes: each next hop is taken to be reachable',
+                  'refresh': 'it sends nothing again'}
 
     @classmethod
     def lacks(cls, events):

@@ -8,6 +8,11 @@ To plug another daemon in, make a class with these methods, and name it in `rout
   apply      brings a change of filters, interior routes or redistribution into force
   revive     whatever it needs so that a peer whose session ended can come back at once
   best       its best routes
+
+and for `hunt.py` (docs/HUNT.md)
+
+  renew      brings another file into force, where `keeps` says that it can: nothing is left of the one before
+  leaves_out the topics that aren't made for it, each with its reason
 """
 import os
 import re
@@ -32,6 +37,7 @@ class Router:
     tries = 2  # how often a session is begun, a second apart, before it is given up
     run_folder = None  # its own place in /run, which its service makes
     limit = LIMIT  # seconds that one command to it may take
+    keeps, leaves_out = False, {}
 
     def __init__(self, folder, namespace, wanted):
         self.folder, self.namespace, self.wanted, self.started, self.pids = folder, namespace, wanted, [], set()
@@ -39,6 +45,11 @@ class Router:
     @classmethod
     def installed(cls):
         return all(shutil.which(program) or os.path.exists(program) for program in cls.programs)
+
+    @classmethod
+    def place(cls, folder):
+        """The programs are those of a folder: a build of one's own."""
+        os.environ['PATH'] = os.path.abspath(folder) + os.pathsep + os.environ['PATH']
 
     @classmethod
     def version(cls):
@@ -60,6 +71,10 @@ class Router:
 
     def revive(self, peer):
         """A peer whose session ended is about to come back."""
+
+    def renew(self, wanted):
+        """Another file begins, and no session is up; the local speaker is the same."""
+        raise NotImplementedError
 
     def best(self):
         """The best route of each prefix, as `Best`; what isn't told is None, and the peer of an own route is 0."""

@@ -37,13 +37,15 @@ from compare import Counts, Difference, notes_apart, rows_apart
 from heard import Heard
 from routers import ROUTERS
 
-CONNECTED_WITHIN = 40  # seconds
+CONNECTED_WITHIN, ENDED_WITHIN = 40, 1  # seconds
 QUIET, LONG_QUIET, AT_MOST = .5, 3.0, 30.0  # seconds without an UPDATE, where all is equal, and where it isn't; and in all
 SHOWN = 120  # characters of a value in a report
 
 
 class Run:
     """The daemon and the peers, event by event."""
+
+    pause, hardly = .06, .004  # seconds between two looks at what CPU the daemon has taken, and how many of them are hardly any
 
     def __init__(self, router_class, folder, names, steps):
         self.steps, self.names = steps, names
@@ -88,9 +90,8 @@ class Run:
     def take(self, step):
         words = step.words
         if words[0] in ('up', 'down', 'bgp', 'idle') and not self.started:
-            self.router = self.router_class(self.folder, self.names[0], self.wanted)
+            self.begin()
             self.started = True
-            self.router.start()
         if words[0] in eventfile.DECLARATIONS or step.ignored and words[0] in ('up', 'down', 'route'):
             return
         if words[0] in ('up', 'down', 'bgp'):
@@ -102,15 +103,24 @@ class Run:
             self.router.apply(before, self.wanted)
             self.rest()
 
+    def begin(self):
+        self.router = self.router_class(self.folder, self.names[0], self.wanted)
+        self.router.start()
+
     def up(self, number):
-        peer = self.wanted.peers[number]
+        peer, notes = self.wanted.peers[number], []
         if number in self.sessions:
+            self.rest()
+            # by the file the session is over: it was closed, or the daemon is about to end it
+            namespaces.until(lambda: not self.sessions[number].is_up, ENDED_WITHIN, .02)
+            notes = self.sessions[number].notes
             self.sessions[number].close()
             self.rest()
             self.router.revive(peer)
         for left in reversed(range(self.router.tries)):
             made = session.connect(peer.address, (self.wanted.address, 179), CONNECTED_WITHIN)
             heard = self.sessions[number] = Heard(made, 4 if self.wanted.wide else 2)
+            heard.notes += notes
             try:
                 heard.begin(peer, self.router.hold, self.refreshes)
                 return
@@ -146,9 +156,9 @@ class Run:
         namespaces.until(lambda: all(heard.all_taken() for heard in self.sessions.values()), 5, .01)
         last = self.router.used()
         for _ in range(20):
-            time.sleep(.06)
+            time.sleep(self.pause)
             used = self.router.used()
-            if used - last < .004:
+            if used - last < self.hardly:
                 return
             last = used
 
@@ -263,11 +273,14 @@ def main():
     words.add_argument('events', metavar='EVENTS')
     words.add_argument('--daemon', choices=sorted(ROUTERS), required=True)
     words.add_argument('--program', default=program.BUILT, help='the words of another program than the built one')
+    words.add_argument('--programs', metavar='FOLDER', help="the daemon's programs are there, and not where Debian has them")
     words.add_argument('--printed', metavar='FILE', help='what the program printed of the file that it is given (all.py --try)')
     asked = words.parse_args()
     for sign in (signal.SIGINT, signal.SIGTERM):
         signal.signal(sign, signal.default_int_handler)
     try:
+        if asked.programs:
+            ROUTERS[asked.daemon].place(asked.programs)
         if not ROUTERS[asked.daemon].installed():
             raise OSError("%s isn't installed (Debian's package %s)" % (asked.daemon, ROUTERS[asked.daemon].package))
         if os.geteuid():

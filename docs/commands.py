@@ -30,6 +30,7 @@ NOT_RUN = [
     (r'\brt (ci|run|check|lib|test|all|verdict|must-fail|plant|tidy)\b|\.ci/run', 'it proves: minutes to hours'),
     (r'wrong-bodies/run\.py', 'it tries wrong bodies: minutes to hours'),
     (r'bench/(all|alike|daemons|everywhere|mrt_files|refused|settled)\.py|captures/make\.py', 'it measures or compares: minutes'),
+    (r'beside/(hunt|planted)\.py --(daemon \w+ --minutes|cache)', 'it hunts: minutes to hours'),
     (r'--sshlogin(file)? [^:]|\bssh\b|\bsbatch\b|\bsrun\b', 'it needs other machines'),
     (r'\bxdg-open\b', 'it needs a desktop'),
 ]

@@ -1,0 +1,275 @@
+"""Event files at random, by seed: what a daemon can be asked, and nothing that it can't do (docs/HUNT.md)."""
+import random
+
+import eventfile
+import wire
+from hunting import broken, parts, topics
+from hunting.routes import NEIGHBOURS, WIDE, Routes
+
+LOCAL = 'local 65000 192.0.2.254 192.0.2.254'
+SHARED = 'route add connected 192.0.2.0/24 direct eth0 0'
+INTERFACES = ('eth0', 'eth1', 'eth2')
+HELD = ('172.16.0.0/16', '172.16.0.0/15', '172.16.1.0/24', '172.16.1.9/32', '172.17.0.0/16', '0.0.0.0/0', '192.0.2.60/32', '192.0.2.128/25')
+ATTACHED = ('172.16.0.0/16', '172.16.1.0/24', '172.17.0.0/16')
+OWN = ('10.1.0.0/16', '10.2.0.0/16', '10.9.0.0/16', '10.1.1.0/24')
+REFRESHES = (bytes([0, 1, 0, 1]),) * 4 + (bytes([0, 1, 7, 1]), bytes([0, 2, 0, 1]), bytes([0, 1, 0, 2]))
+ANY, MOST = 4, 40  # how often more often `any` stands in a rule than another condition; how often a line is drawn anew
+
+
+class Maker:
+    """One file."""
+
+    def __init__(self, seed, router_class):
+        self.random, self.router_class = random.Random('%s %s' % (router_class.name, seed)), router_class
+        self.topics, self.steps = topics.drawn(self.random, router_class)
+        self.wide, self.reflects = ('four octets' in self.topics), ('reflection' in self.topics)
+        self.local = eventfile.Peer(0, 65000, '192.0.2.254', '192.0.2.254', False)
+        self.routes = Routes(self.random, self.local, self.wide, self.reflects, 'next hops' in self.topics)
+        self.peers, self.up, self.ways = {}, set(), set()
+        self.said, self.announced = {}, {}  # by peer: its messages in hex, and the prefixes in them
+
+    def chance(self, probability):
+        return self.random.random() < probability
+
+    # ---- the file
+
+    def lines(self):
+        words = ['as4'] * self.wide + ['revised'] * ('revised' in self.topics) + ['reflect'] * self.reflects
+        yield from words
+        yield LOCAL
+        self.draw_peers()
+        yield from (self.declared(peer) for peer in self.peers.values())
+        yield SHARED
+        if 'next hops' in self.topics:
+            yield from self.many(self.interior, self.random.randint(1, 4))
+        for number in self.peers:
+            if self.chance(.9):
+                yield from self.begun(number)
+        often = self.random.choice((.2, .4, .7))
+        for place in reversed(range(self.random.randint(6, 16))):
+            yield from self.step()
+            if not place or self.chance(often):
+                yield 'idle'
+
+    def draw_peers(self):
+        count = self.random.choice((2, 3, 3, 4, 4, 5) if self.reflects else (2, 2, 3, 3, 4))
+        places = list(range(1, count + 1))
+        addresses = self.random.sample(places, count) if self.chance(.3) else places
+        identifiers = [self.random.choice(places)] * count if self.chance(.1) else self.random.sample(places, count)
+        inner = .75 if self.reflects else .35
+        for number, address, identifier in zip(places, addresses, identifiers):
+            internal = self.chance(inner)
+            asn = 65000 if internal else self.random.choice(NEIGHBOURS + NEIGHBOURS + (65003,) + WIDE * self.wide)
+            self.peers[number] = eventfile.Peer(number, asn, '192.0.2.%d' % identifier, '192.0.2.%d' % address,
+                                                internal and self.reflects and self.chance(.5))
+        if self.reflects and not any(peer.client for peer in self.peers.values()):
+            self.peers[1] = self.peers[1]._replace(asn=65000, client=True)  # OpenBGPD is a reflector only beside a client
+
+    @staticmethod
+    def declared(peer):
+        return 'peer %d %d %s %s' % peer[:4] + ' client' * peer.client
+
+    def many(self, made, count):
+        for _ in range(count):
+            yield from made()
+
+    def step(self):
+        """The lines of one step; drawn anew where the daemon can't be told them."""
+        for _ in range(MOST):
+            name = self.random.choices(list(self.steps), list(self.steps.values()))[0]
+            lines = list(getattr(self, name)())
+            if not self.router_class.lacks([line.split() for line in lines]):
+                return lines
+        return []
+
+    # ---- steps: messages
+
+    def some_peer(self, up=True):
+        """A peer, mostly one that is up; None where there is none."""
+        names = sorted(self.up) if up else sorted(self.peers)
+        return self.peers[self.random.choice(names)] if names else None
+
+    def update(self, peer, made):
+        text = parts.written(made).hex()
+        self.said.setdefault(peer.number, []).append(text)
+        self.announced.setdefault(peer.number, set()).update(wire.prefix(one) for one in made.announced)
+        yield 'bgp %d %s' % (peer.number, text)
+
+    def sound(self, made):
+        """A message without a fault."""
+        peer = self.some_peer()
+        if peer:
+            yield from self.update(peer, made(peer))
+
+    def announce(self):
+        yield from self.sound(self.routes.announcement)
+
+    def spread(self):
+        """Several peers announce one prefix, in any order."""
+        numbers, prefix = sorted(self.up), self.routes.prefix()
+        for number in self.random.sample(numbers, self.random.randint(min(2, len(numbers)), len(numbers))):
+            peer = self.peers[number]
+            yield from self.update(peer, self.routes.announcement(peer, announced=[prefix]))
+
+    def many_prefixes(self, peer):
+        return self.routes.announcement(peer, 5)
+
+    def many_at_once(self):
+        yield from self.sound(self.many_prefixes)
+
+    def both(self):
+        yield from self.sound(lambda peer: self.routes.announcement(peer, 2, self.told(peer) + self.routes.prefixes(2)))
+
+    def withdraw(self):
+        yield from self.sound(lambda peer: self.routes.withdrawal(self.told(peer)))
+
+    def repeat(self):
+        """An earlier message of the peer once more."""
+        peer = self.some_peer()
+        if peer and self.said.get(peer.number):
+            yield 'bgp %d %s' % (peer.number, self.random.choice(self.said[peer.number][-4:]))
+
+    def refresh(self):
+        peer = self.some_peer()
+        if peer:
+            yield 'bgp %d %s' % (peer.number, wire.message(wire.ROUTE_REFRESH, self.random.choice(REFRESHES)).hex())
+
+    # ---- steps: messages with faults
+
+    def told(self, peer):
+        """Prefixes, mostly such as the peer has announced."""
+        known = sorted(self.announced.get(peer.number, ()))
+        return [self.random.choice(known)] if known and self.chance(.6) else self.routes.prefixes(2)
+
+    def fault(self):
+        peer = self.some_peer()
+        if peer:
+            sound = self.routes.announcement(peer, announced=self.told(peer))
+            yield from self.ends(peer, broken.faulty(self.random, sound, self.reflects))
+
+    def octet(self):
+        peer = self.some_peer()
+        if peer:
+            gone = self.routes.prefixes(2) if self.chance(.3) else ()
+            yield from self.ends(peer, broken.changed(self.random, self.routes.announcement(peer, withdrawn=gone, announced=self.told(peer))))
+
+    def other(self):
+        peer = self.some_peer()
+        if peer:
+            yield from self.ends(peer, broken.other(self.random))
+
+    def ends(self, peer, octets):
+        """A message that may end the session; mostly the peer then comes back."""
+        yield 'bgp %d %s' % (peer.number, octets.hex())
+        if self.chance(.5):
+            yield 'idle'
+        if self.chance(.7):
+            yield 'up %d' % peer.number
+
+    # ---- steps: sessions
+
+    def begun(self, number):
+        self.up.add(number)
+        yield 'up %d' % number
+
+    def lose(self):
+        peer = self.some_peer()
+        if peer:
+            self.up.discard(peer.number)
+            yield 'down %d' % peer.number
+
+    def back(self):
+        down = sorted(set(self.peers) - self.up)
+        if down:
+            yield from self.begun(self.random.choice(down))
+
+    def flap(self):
+        """A session that ends and begins, and what the peer said before or something else."""
+        peer = self.some_peer()
+        if peer:
+            yield 'down %d' % peer.number
+            yield 'up %d' % peer.number
+            said = self.said.get(peer.number, [])
+            if said and self.chance(.5):
+                yield 'bgp %d %s' % (peer.number, said[-1])
+            else:
+                yield from self.update(peer, self.routes.announcement(peer, 2))
+
+    # ---- steps: filters
+
+    def filter_in(self):
+        yield from self.filtered('in')
+
+    def filter_out(self):
+        yield from self.filtered('out')
+
+    def filtered(self, way):
+        peer = self.some_peer(up=False)
+        for _ in range(self.random.choice((1, 1, 1, 2))):
+            rules = [self.rule(way, peer) for _ in range(self.random.choice((0, 1, 1, 2, 3)))]
+            yield ' '.join(['filter', way, str(peer.number)] + rules)
+
+    def rule(self, way, peer):
+        actions = [self.action(way, peer) for _ in range(self.random.choice((0, 1, 1, 2)))]
+        verdict = self.random.choice(('accept', 'accept', 'reject', 'reject', 'next'))
+        return ' '.join([self.condition()] + sorted({one.split()[0]: one for one in actions}.values()) + [verdict])
+
+    def condition(self):
+        prefix, least = self.routes.prefix(), self.random.choice((0, 8, 16, 24))
+        return self.random.choice(('any',) * ANY + (
+            'path %d' % self.random.choice(self.routes.numbers() + NEIGHBOURS), 'origin %d' % self.random.randint(0, 2),
+            '%s ge %d le %d' % (prefix, least, self.random.choice((least, 16, 24, 32)))))
+
+    def action(self, way, peer):
+        said = ['pref %d' % self.random.choice((50, 100, 200)), 'med %d' % self.random.choice((0, 5, 20))]
+        if way == 'in' or peer.asn != self.local.asn:
+            said += ['nomed', 'prepend %d' % self.random.choice((0, 1, 2))]
+        return self.random.choice(said)
+
+    # ---- steps: interior routes and redistribution
+
+    def interior(self):
+        """A route that may hold next hops comes or goes, or all of a protocol go."""
+        if self.ways and self.chance(.6):
+            yield self.changed(*self.random.choice(sorted(self.ways)))
+        elif self.chance(.08):
+            protocol = self.random.choice(eventfile.PROTOCOLS[1:])
+            self.ways = {way for way in self.ways if way[0] != protocol}
+            yield 'lost %s' % protocol
+        elif self.chance(.15):
+            yield self.way('connected', self.random.choice(ATTACHED), 'direct %s 0' % self.random.choice(INTERFACES[1:]))
+        else:
+            yield self.way(self.random.choice(eventfile.PROTOCOLS[1:]), self.random.choice(HELD), self.reached())
+
+    def changed(self, protocol, prefix):
+        """One that is there goes, or is reached otherwise."""
+        if protocol == 'connected' or self.chance(.5):
+            self.ways.discard((protocol, prefix))
+            return 'route del %s %s' % (protocol, prefix)
+        return self.way(protocol, prefix, self.reached())
+
+    def way(self, protocol, prefix, reached):
+        self.ways.add((protocol, prefix))
+        return 'route add %s %s %s' % (protocol, prefix, reached)
+
+    def reached(self):
+        over = self.random.choice(('direct', 'via 192.0.2.98', 'via 192.0.2.99'))
+        return '%s %s %d' % (over, self.random.choice(INTERFACES), self.random.choice((0, 1, 5, 10, 20)))
+
+    def own(self):
+        """A route that may be redistributed comes or goes."""
+        protocol, prefix = self.random.choice(eventfile.PROTOCOLS[1:]), self.random.choice(OWN)
+        if (protocol, prefix) in self.ways and self.chance(.6):
+            self.ways.discard((protocol, prefix))
+            yield 'route del %s %s' % (protocol, prefix)
+        else:
+            yield self.way(protocol, prefix, 'via 192.0.2.99 eth0 %d' % self.random.choice((1, 5)))
+
+    def redistribute(self):
+        yield 'redist %s %s' % (self.random.choice(eventfile.PROTOCOLS[1:]), self.random.choice(('on', 'on', 'off')))
+
+
+def made(seed, router_class):
+    """The file of a seed for a daemon: its topics and its lines."""
+    maker = Maker(seed, router_class)
+    return maker.topics, list(maker.lines())

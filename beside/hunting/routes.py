@@ -1,0 +1,119 @@
+"""Announcements at random: few prefixes, and attributes that are alike up to some step of the decision."""
+import update
+import wire
+from hunting import parts
+
+PREFIXES = ('10.1.0.0/16', '10.1.0.0/16', '10.1.0.0/16', '10.2.0.0/16', '10.1.1.0/24', '10.1.128.0/17', '10.0.0.0/8', '10.1.1.1/32', '0.0.0.0/0')
+NEAR = ('192.0.2.60', '192.0.2.61', '192.0.2.200')  # next hops on the shared network that are nobody's
+FAR = ('172.16.0.9', '172.16.1.9', '172.17.0.9')  # next hops that interior routes resolve
+NEIGHBOURS = (65001, 65002)
+BEHIND = (65101, 65102, 65103)
+WIDE = (70000, 4200000001)
+CHOICES = {'pref': (100, 100, 200, 50), 'length': (0, 1, 1, 2), 'origin': (0, 0, 1, 2), 'med': (None, None, 0, 5, 10), 'hop': (0, 1)}
+UNKNOWN = (99, 100, 200)  # types that no standard has
+
+
+class Routes:
+    """What the routes of one file are like. `random` is the file's."""
+
+    def __init__(self, random, local, wide, reflects, far):
+        self.random, self.local, self.wide, self.reflects, self.far = random, local, wide, reflects, far
+        self.width = 4 if wide else 2
+        # one value in the whole file for those before some step of the decision, and for some behind it
+        depth = random.randrange(len(CHOICES) + 1)
+        self.fixed = {name: random.choice(values) if place < depth or self.chance(.3) else None
+                      for place, (name, values) in enumerate(CHOICES.items())}
+        self.odd = random.choice((.02, .05, .15))  # how often an attribute is one that few routes have
+
+    def chance(self, probability):
+        return self.random.random() < probability
+
+    def pick(self, name):
+        """A value that is the same in the whole file, or drawn anew."""
+        return self.random.choice(CHOICES[name]) if self.fixed[name] is None else self.fixed[name]
+
+    def prefix(self):
+        return self.random.choice(PREFIXES)
+
+    def prefixes(self, most):
+        return sorted({self.prefix() for _ in range(self.random.randint(1, most))})
+
+    def numbers(self):
+        return BEHIND + WIDE if self.wide else BEHIND
+
+    # ---- attributes
+
+    def path(self, peer):
+        """The segments of a path; an external peer's begins with its AS."""
+        length = self.pick('length')
+        behind = [self.random.choice(self.numbers()) for _ in range(length)]
+        if self.chance(self.odd):
+            behind.append(self.local.asn)
+        if self.chance(self.odd / 4):
+            behind += [self.random.choice(self.numbers())] * (254 - len(behind))
+        first = [peer.asn] if peer.asn != self.local.asn else [] if self.chance(.15) else [self.random.choice(NEIGHBOURS)]
+        said = [(2, first + behind)] if first or behind else []
+        if self.chance(self.odd * 2):
+            said.append((1, sorted(self.random.sample(self.numbers(), 2))))
+        return said
+
+    def hop(self, peer):
+        if self.chance(self.odd):
+            return self.random.choice((self.local.address, '192.0.2.1', '192.0.2.2', '192.0.2.3'))
+        if self.far and self.chance(.7):
+            return self.random.choice(FAR)
+        return self.random.choice(NEAR) if self.pick('hop') else peer.address
+
+    def attributes(self, peer):
+        """Those of one route, by type."""
+        origin = bytes([self.pick('origin')])
+        hop = bytes(int(octet) for octet in self.hop(peer).split('.'))
+        said = [(0x40, wire.ORIGIN, origin), (0x40, wire.AS_PATH, parts.path(self.path(peer), self.width)), (0x40, wire.NEXT_HOP, hop)]
+        med = self.pick('med')
+        if med is not None:
+            said.append((0x80, wire.MED, med.to_bytes(4, 'big')))
+        if peer.asn == self.local.asn or self.chance(self.odd / 2):
+            said.append((0x40, wire.LOCAL_PREF, self.pick('pref').to_bytes(4, 'big')))
+        said += self.rare()
+        if self.reflects and peer.asn == self.local.asn:
+            said += self.reflected()
+        said = [parts.Attribute(*one) for one in said]
+        return said if self.chance(.95) else self.random.sample(said, len(said))
+
+    def rare(self):
+        """ATOMIC_AGGREGATE, AGGREGATOR and unrecognized ones."""
+        if self.chance(self.odd * 2):
+            yield 0x40, wire.ATOMIC_AGGREGATE, b''
+        if self.chance(self.odd * 2):
+            yield 0xc0, wire.AGGREGATOR, self.random.choice(self.numbers()).to_bytes(self.width, 'big') + bytes([10, 9, 9, 9])
+        for kind in UNKNOWN:
+            if self.chance(self.odd):
+                yield self.random.choice((0xc0, 0xc0, 0xe0, 0x80)), kind, bytes(self.random.choice((0, 1, 4, 8)))
+
+    def reflected(self):
+        """What other reflectors added; now and then this speaker itself is among it."""
+        if self.chance(.5):
+            yield 0x80, wire.ORIGINATOR_ID, self.identifier(('192.0.2.1', '192.0.2.3', '192.0.2.70', '192.0.2.71'))
+        if self.chance(.4):
+            names = ('192.0.2.80', '192.0.2.81', '192.0.2.82')
+            yield 0x80, wire.CLUSTER_LIST, b''.join(self.identifier(names) for _ in range(self.random.randint(1, 3)))
+
+    def identifier(self, others):
+        name = self.local.identifier if self.chance(self.odd) else self.random.choice(others)
+        return bytes(int(octet) for octet in name.split('.'))
+
+    # ---- messages
+
+    def announcement(self, peer, most=1, withdrawn=(), announced=()):
+        """An UPDATE that announces some prefixes, drawn unless they are given, and withdraws others."""
+        came = [self.octets(prefix) for prefix in announced or self.prefixes(most)]
+        gone = [one for one in (update.prefix(prefix) for prefix in sorted(set(withdrawn))) if one not in came]
+        return parts.Parts(gone, self.attributes(peer), came)
+
+    def octets(self, prefix):
+        """A prefix; now and then with bits beyond its length."""
+        said = update.prefix(prefix)
+        return said[:-1] + bytes([said[-1] | 1]) if said[0] % 8 and self.chance(self.odd) else said
+
+    def withdrawal(self, prefixes):
+        return parts.Parts([update.prefix(prefix) for prefix in prefixes], [], [])

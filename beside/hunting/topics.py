@@ -1,0 +1,89 @@
+"""What the files of a hunt are about: each topic with its weight, the steps that it adds to a file, and what it can't hold.
+
+A file has the steps of `ALWAYS` and those of one to three topics. The numbers are weights: how often a step comes beside the others.
+"""
+import collections
+import textwrap
+
+Topic = collections.namedtuple('Topic', 'weight steps made left_out')
+
+ALWAYS = {'announce': 6, 'withdraw': 1, 'repeat': .5}
+
+TOPICS = {
+    'decision': Topic(
+        5, {'spread': 5, 'announce': 2, 'withdraw': 1},
+        'routes of several peers at one prefix that are alike up to any step: preference, path length, ORIGIN, MULTI_EXIT_DISC within and '
+        'between neighbour ASes, kind of peer, identifier (also equal ones), address; AS_SETs, empty paths',
+        "a first AS in an external peer's path that isn't the peer's"),
+    'passing on': Topic(
+        4, {'announce': 3, 'withdraw': 2, 'both': 3, 'many_at_once': 2},
+        'replacing, withdrawing, both in one message, many prefixes in one message; unrecognized attributes, AGGREGATOR, '
+        'ATOMIC_AGGREGATE, long paths; the own AS in the path, the own or the receiver\'s address as NEXT_HOP',
+        'communities, which daemons act on; more than 4,096 octets'),
+    'sessions': Topic(
+        3, {'lose': 3, 'back': 4, 'flap': 3, 'announce': 2},
+        'sessions lost and begun again, also with routes said anew before anything was deleted; a NOTIFICATION received',
+        'hold times, a second OPEN'),
+    'filters': Topic(
+        5, {'filter_in': 4, 'filter_out': 4},
+        'rules of both filters edited while routes stand, also twice between two `idle`; all conditions, actions and verdicts',
+        'an outgoing `prepend` or `nomed` for an internal peer'),
+    'next hops': Topic(
+        4, {'interior': 6, 'spread': 3},
+        'interior routes that come, go and change, nested, of four protocols, also a whole protocol lost; next hops that are resolved, not '
+        'resolved, or over another one',
+        'an interior route over which the sessions themselves go'),
+    'own routes': Topic(
+        2, {'own': 4, 'redistribute': 3},
+        'redistribution on and off of three protocols, beside routes of peers at the same prefixes',
+        'connected routes'),
+    'refresh': Topic(
+        2, {'refresh': 4},
+        'ROUTE-REFRESH of IPv4 unicast and of another family, between other events',
+        'other lengths than 23 octets'),
+    'reflection': Topic(
+        4, {'spread': 3, 'announce': 2, 'withdraw': 1},
+        '`reflect`, clients and non-clients, ORIGINATOR_ID and CLUSTER_LIST that tie and that name this speaker',
+        'lists of 64 entries, `reflect` without a client'),
+    'four octets': Topic(
+        2, {'announce': 2},
+        '`as4`: AS numbers above 65535 of peers, in paths, in AGGREGATOR, in rules',
+        'types 17 and 18'),
+    'faults': Topic(
+        2, {'fault': 4, 'octet': 3, 'other': 1, 'back': 2},
+        'each fault of attributes and prefixes that docs/BGP.md names, an octet of a sound message changed; by RFC 4271',
+        'message lengths that are wrong'),
+    'revised': Topic(
+        3, {'fault': 5, 'octet': 3, 'back': 1},
+        'the same with `revised`',
+        'the same'),
+}
+
+
+def possible(router_class):
+    """The topics that are made for a daemon."""
+    return [name for name in TOPICS if name not in router_class.leaves_out]
+
+
+def drawn(random, router_class):
+    """The topics of one file, and its steps with their weights."""
+    names = possible(router_class)
+    chosen = set(random.choices(names, [TOPICS[name].weight for name in names], k=random.choice((1, 2, 2, 3))))
+    steps = collections.Counter(ALWAYS)
+    for name in sorted(chosen):
+        steps.update(TOPICS[name].steps)
+    return sorted(chosen), steps
+
+
+def told(router_classes):
+    """The lines of docs/HUNT.md: each topic, what is made of it, and what isn't; then what isn't made for a daemon."""
+    for name, topic in TOPICS.items():
+        yield from wrapped('**%s** (%d): %s. Not made: %s.' % (name[0].upper() + name[1:], topic.weight, topic.made, topic.left_out))
+    for router_class in router_classes:
+        for name, reason in router_class.leaves_out.items():
+            yield from wrapped('Not for %s: %s, since %s.' % (router_class.name, name, reason))
+
+
+def wrapped(text):
+    """An item of a list."""
+    return textwrap.wrap(text, 100, initial_indent='- ', subsequent_indent='  ', break_long_words=False, break_on_hyphens=False)
