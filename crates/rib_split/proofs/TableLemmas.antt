@@ -1,4 +1,4 @@
--- What the splitter keeps of its links.
+-- The tables of the splitter.
 use Rattle.std.proofs.Common.{◌≡◌, Option, Some, None, sym, ap, ◌∙◌}
 use Rattle.std.specs.FinMap as map
 use Rattle.std.specs.FinMap.{FinMap}
@@ -8,7 +8,7 @@ use Rattle.rib_route.specs.declared.rows.External.{External}
 use Rattle.link_change.specs.Rows.{Rows, with_row}
 use Rattle.link_change.specs.declared.change.Change.{Change}
 use Rattle.link_change.proofs.RowLemmas.{same_function, rows_inserted, rows_removed, empty_rows}
-use Rattle.cache_stage.specs.Caches.{kept_after}
+use Rattle.rib_split.specs.Kept.{kept_after}
 use Rattle.rib_split.specs.declared.split.BgpLink.{BgpLink}
 use Rattle.rib_split.specs.declared.split.BgpLink.TheVariants.{Ebgp, Ibgp}
 use Rattle.rib_split.specs.declared.split.Split.{Split}

@@ -1,3 +1,4 @@
 pub mod Splitting
+pub mod Kept
 pub mod Tables
 pub mod Laws

@@ -88,9 +88,3 @@ IsSplitOf p before after Neither = after ≡ before
 IsSplitOf p before after (One link change) = IsChangeOn link p before after (Some change) × IsChangeOn (other link) p before after None
 IsSplitOf p before after (Moved link add delete) =
     IsChangeOn link p before after (Some add) × IsChangeOn (other link) p before after (Some delete) × (add.before ≡ None) × (delete.after ≡ None)
-
--- where a route moves, its row is deleted on the other link
-abbrev pub DeletesLast : Split → Type 0
-DeletesLast Neither = Unit {0}
-DeletesLast (One link change) = Unit {0}
-DeletesLast (Moved link add delete) = delete.after ≡ None

@@ -1,4 +1,4 @@
--- The tables of the splitter.
+-- The tables of the splitter: what contracts see of the rows of its links. No row is kept of them.
 use Rattle.std.specs.Prelude.{◌≡◌, Some}
 use Rattle.std.specs.FinMap as map
 use Rattle.std.specs.FinMap.{FinMap}
@@ -8,7 +8,7 @@ use Rattle.rib_route.specs.declared.rows.External.{External}
 use Rattle.link_change.specs.Rows.{Rows}
 use Rattle.link_change.specs.Changes.{IsSent}
 use Rattle.link_change.specs.declared.change.Change.{Change}
-use Rattle.cache_stage.specs.Caches.{kept_after}
+use Rattle.rib_split.specs.Kept.{kept_after}
 use Rattle.rib_split.specs.declared.split.BgpLink.{BgpLink}
 use Rattle.rib_split.specs.declared.split.BgpLink.TheVariants.{Ebgp, Ibgp}
 use Rattle.rib_split.specs.declared.split.Split.{Split}
@@ -20,16 +20,16 @@ abbrev pub table_of : Splitter → BgpLink → FinMap prefix_cmp External
 table_of s Ebgp = s.ebgp
 table_of s Ibgp = s.ibgp
 
--- the rows that are kept of each link
+-- the rows of each link
 abbrev pub kept_rows : Splitter → Parted
 kept_rows s link = map.get (table_of s link)
 
--- the row after a change of a link is kept
+-- with the row after a change of a link
 abbrev pub kept_on : Splitter → BgpLink → Change External → Splitter
 kept_on s Ebgp change = record s { ebgp = kept_after s.ebgp change.prefix change.after }
 kept_on s Ibgp change = record s { ibgp = kept_after s.ibgp change.prefix change.after }
 
--- the rows after all that goes on are kept
+-- with the rows after all that goes on
 abbrev pub kept_all : Splitter → Split → Splitter
 kept_all s Neither = s
 kept_all s (One link change) = kept_on s link change

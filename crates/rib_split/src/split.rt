@@ -1,7 +1,7 @@
 //! What a change of the best routes comes to.
 
 ghost use Rattle.std.specs.Prelude.{◌≡◌, Some, None};
-ghost use Rattle.rib_split.specs.Splitting.{external_of, external_row, link_of, other, adding, deleting, IsSplitOf};
+ghost use Rattle.rib_split.specs.Splitting.{external_of, external_row, link_of, on_link, other, adding, deleting, IsSplitOf};
 
 use addr4::{Addr, Prefix};
 use bgp_attr::{Neighbour, Route};
@@ -40,8 +40,8 @@ pub enum Split {
     Moved(BgpLink, Change<External>, Change<External>),
 }
 
-// What forwarding needs of a route, if a peer sent it.
-fn external_of(from: Option<Neighbour>, next_hop: Addr) -> Option<External>
+/// What forwarding needs of a route with this next hop, if a peer sent it.
+pub fn external_of(from: Option<Neighbour>, next_hop: Addr) -> Option<External>
     ensures { result ≡ external_of from next_hop }
 {
     match from {
@@ -72,6 +72,18 @@ fn link_of(row: &External) -> BgpLink
     } else {
         BgpLink::Ebgp
     }
+}
+
+/// The row, if it is one of this link.
+pub fn on_link(link: BgpLink, row: Option<External>) -> Option<External>
+    ensures { result ≡ on_link link row }
+{
+    let row = row?;
+    let own = match link {
+        BgpLink::Ebgp => !row.internal,
+        BgpLink::Ibgp => row.internal,
+    };
+    if own { Some(row) } else { None }
 }
 
 // A row comes.
