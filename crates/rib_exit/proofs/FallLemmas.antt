@@ -1,9 +1,7 @@
 -- What comes of a change of the best routes.
-use Rattle.std.proofs.Common.{◌≡◌, ◌⊎◌, ℕ, List, [], ◌++◌, Option, Some, None, Result, Ok, Err, IfOk, refl, sym, ap, subst, ◌∙◌, inl, inr}
+use Rattle.std.proofs.Common.{◌≡◌, ◌⊎◌, ℕ, Bool, true, false, not, cond, List, [], ◌++◌, Option, Some, None, Result, Ok, Err, IfOk, refl, sym, ap, subst, ◌∙◌, inl, inr}
 use Rattle.std.specs.Option.{option_or}
-use Rattle.std.specs.FinMap as map
-use Rattle.std.specs.FinMap.{FinMap}
-use Rattle.addr4.specs.Prefixes.{AddressPrefix, prefix_cmp}
+use Rattle.addr4.specs.Prefixes.{AddressPrefix}
 use Rattle.bgp_attr.specs.declared.route.Route.{Route}
 use Rattle.link_change.specs.Rows.{Rows}
 use Rattle.link_change.specs.Changes.{IsSent}
@@ -26,8 +24,8 @@ use Rattle.rib_split.specs.declared.split.BgpLink.TheVariants as sides
 use Rattle.rib_split.specs.declared.split.Split.{Split}
 use Rattle.rib_split.specs.declared.split.Split.TheVariants.{Neither, One, Moved}
 use Rattle.rib_split.specs.declared.splitter.Splitter.{Splitter}
-use Rattle.rib_split.specs.Splitting.{Parted, split_rows, other, first_on, IsSentOn, Moves, Splits}
-use Rattle.rib_split.specs.Tables.{table_of, kept_rows, SplitsOn}
+use Rattle.rib_split.specs.Splitting.{Parted, external_row, on_link, split_rows, other, first_on, IsSentOn, Moves, Splits}
+use Rattle.rib_split.specs.Tables.{kept_rows, SplitsOn}
 use Rattle.rib_split.specs.Laws.{merged_links}
 use Rattle.rib_split.proofs.MergedLemmas.{moved_changes_once}
 use Rattle.ext_int.specs.Fibs.{fib_table, TakesOver}
@@ -51,10 +49,30 @@ pub else_none : {X : Type 0} (o : Option X) → option_or o None ≡ o
 else_none None = refl
 else_none (Some x) = refl
 
--- the row of the other link, as it is looked up
-pub row_lent : (s : Splitter) (link side : BgpLink) (m : FinMap prefix_cmp External) (p : AddressPrefix) (row : Option External) → row ≡ map.get m p → m ≡ table_of s side → side ≡ other link
-    → row ≡ kept_rows s (other link) p
-row_lent s link side m p row at is on = at ∙ ap (λ (t : FinMap prefix_cmp External). map.get t p) (is ∙ ap (table_of s) on)
+-- where a row stands on one link, or comes there, the other has none: a best route is on one link
+on_one : (link : BgpLink) (row : Option External) → (on_link link row ≡ None → ⊥) → on_link (other link) row ≡ None
+on_one link None there = refl
+on_one sides.Ebgp (Some r) there = by r.internal there
+  where
+    by : (b : Bool) → (cond (not b) (Some r) None ≡ None → ⊥) → cond b (Some r) None ≡ None
+    by true there = absurd (there refl)
+    by false there = refl
+on_one sides.Ibgp (Some r) there = by r.internal there
+  where
+    by : (b : Bool) → (cond b (Some r) None ≡ None → ⊥) → cond (not b) (Some r) None ≡ None
+    by true there = refl
+    by false there = absurd (there refl)
+
+other_has_none : (link : BgpLink) (best now : Rows Route) (p : AddressPrefix) (change : Change External) → IsSentOn link (split_rows best) (split_rows now) p change
+    → split_rows best (other link) change.prefix ≡ None
+other_has_none link best now p change is = by change.before refl
+  where
+    by : (before : Option External) → change.before ≡ before → split_rows best (other link) change.prefix ≡ None
+    by (Some r) e = on_one link (external_row (best change.prefix)) (λ none. let clash : None ≡ Some r = sym none ∙ is.0.1.0 ∙ e in cc)
+    by None e =
+        ap (λ (rows : Rows External). rows change.prefix) (sym is.1)
+        ∙ on_one link (external_row (now change.prefix))
+        (λ none. is.0.1.1 (sym (e ∙ sym none ∙ ap (λ (rows : Rows External). rows change.prefix) is.0.2 ∙ with_row_here (split_rows best link) change.prefix change.after)))
 
 -- what is kept of next hops that stay
 keeps_same : (was : Registry Interior) (s : Resolving Way) → Keeps (told_of way_of was) s s
@@ -245,10 +263,9 @@ module _ (int : Rows Interior) (was is : Registry Interior) (e : RibExit) (s' : 
   counted_there best stands = subst (λ (r : Parted). AreCounted (named_by external_hop (merged_links r)) e.forwarding.counts) stands.links stands.counted
 
   module _ (change : Change Route) (kept : KeepsAgreed was is e') (before after : Journaled) where
-    pub takes_one : (link : BgpLink) (c : Change External) (row : Option External) (sent : Option (Change FibRow)) → SplitsOn e.splitter s' change (One link c)
-        → row ≡ kept_rows s' (other link) c.prefix → Adds (PassesDown link c row int was e.forwarding hops' sent) before after
-        → Adds (TakesExternal change int sent was is e e') before after
-    takes_one link c row sent law at passed =
+    pub takes_one : (link : BgpLink) (c : Change External) (sent : Option (Change FibRow)) → SplitsOn e.splitter s' change (One link c)
+        → Adds (PassesDown link c None int was e.forwarding hops' sent) before after → Adds (TakesExternal change int sent was is e e') before after
+    takes_one link c sent law passed =
         let d = passed.2 in (
           passed.0,
           passed.1,
@@ -261,9 +278,8 @@ module _ (int : Rows Interior) (was is : Registry Interior) (e : RibExit) (s' : 
             agreed = kept;
             goes = λ best now p stands led.
                 let l = law best now p led stands.links in
-                let here = ap (λ (r : Rows External). r c.prefix) (sym l.0.1) ∙ ap (λ (r : Parted). r (other link) c.prefix) (sym l.1) ∙ sym at in
                 falls_on p (One link c) d.caused nothing_caused passed.0 best now l.0 stands.links l.1
-                (falls_one p int was e.forwarding hops' link c row sent passed.0 d (split_rows best) (split_rows now) l.0 here (counted_there best stands));
+                (falls_one p int was e.forwarding hops' link c None sent passed.0 d (split_rows best) (split_rows now) l.0 (other_has_none link best now p c l.0) (counted_there best stands));
           },
         )
 

@@ -2,6 +2,7 @@ pub mod LinkLemmas
 pub mod PassLemmas
 pub mod FallLemmas
 pub mod BusyLemmas
+pub mod LentLemmas
 pub mod TurnLemmas
 pub mod ReachLemmas
 pub mod FewLemmas

@@ -1,9 +1,8 @@
 -- A turn of the task.
 use Rattle.std.proofs.Common.{◌≡◌, Option, Some, None, refl, sym, ap, subst, ◌∙◌}
-use Rattle.std.specs.FinMap as map
-use Rattle.std.specs.FinMap.{FinMap}
-use Rattle.addr4.specs.Prefixes.{AddressPrefix, prefix_cmp}
-use Rattle.link_change.specs.Rows.{Rows, Candidates, with_rows, together}
+use Rattle.addr4.specs.Prefixes.{AddressPrefix}
+use Rattle.bgp_attr.specs.declared.route.Route.{Route}
+use Rattle.link_change.specs.Rows.{Rows, Candidates, with_rows}
 use Rattle.link_change.specs.Changes.{IsSent}
 use Rattle.link_change.specs.Turns.{IsTurned, taken_turn}
 use Rattle.link_change.specs.declared.change.Change.{Change}
@@ -12,7 +11,6 @@ use Rattle.link_change.specs.declared.turn.Turn.TheVariants as turns
 use Rattle.rib_route.specs.declared.rows.Interior.{Interior}
 use Rattle.rib_route.specs.declared.rows.External.{External}
 use Rattle.rib_route.specs.declared.rows.FibRow.{FibRow}
-use Rattle.rib_merge.specs.Merging.{merged}
 use Rattle.register_interest.specs.Registers.{Registry, AllStand as MatchesStand}
 use Rattle.nexthop_known.specs.Counts.{Counts, AreCounted}
 use Rattle.nexthop_resolver.specs.declared.rows.Way.{Way}
@@ -23,41 +21,31 @@ use Rattle.nexthop_resolver.specs.Turns.{Rests, Turned, IsTurn}
 use Rattle.nexthop_resolver.proofs.TurnLemmas as resolver
 use Rattle.nexthop_resolver.proofs.AlikeLemmas.{tells_ways}
 use Rattle.nexthop_resolver.proofs.LeftLemmas.{turns_fall, rests_idle}
-use Rattle.rib_split.specs.declared.splitter.Splitter.{Splitter}
+use Rattle.rib_split.specs.Splitting.{external_row}
 use Rattle.rib_split.specs.Tables.{kept_rows}
-use Rattle.rib_split.specs.Laws.{merged_links}
 use Rattle.ext_int.specs.Fibs.{resolved_rows, fib_table, FollowsInt, FollowsTurn, TakesTurn}
 use Rattle.ext_int.proofs.FibLemmas.{turn_leads}
 use Rattle.journal_text.specs.Journals.{Journaled, with_entries, Adds}
 use Rattle.journal_text.proofs.JournalLemmas.{with_entries_none}
 use Rattle.rib_exit.specs.declared.exit.RibExit.{RibExit}
-use Rattle.rib_exit.specs.Exits.{ext_rows, ext_candidates, IsExit}
-use Rattle.rib_exit.specs.Passing.{external_distance}
+use Rattle.rib_exit.specs.Exits.{ext_rows, ext_candidates, IsExit, StandsOver}
 use Rattle.rib_exit.specs.Steps.{fib_entries, TakesInterior, TurnsExit, ComesOut}
 use Rattle.rib_exit.proofs.LinkLemmas.{fib_leads}
 use Rattle.rib_exit.proofs.FallLemmas.{agreed}
+use Rattle.rib_exit.proofs.LentLemmas.{ext_lent, candidates_lent}
 
--- ---- the link `ext` as it is lent
-pub rows_lent : (s : Splitter) (a b : FinMap prefix_cmp External) → a ≡ s.ebgp → b ≡ s.ibgp → merged external_distance (map.get a) (map.get b) ≡ merged_links (kept_rows s)
-rows_lent s a b first second = ap (λ (m : FinMap prefix_cmp External). merged external_distance (map.get m) (map.get b)) first ∙ ap (λ (m : FinMap prefix_cmp External). merged external_distance (map.get s.ebgp) (map.get m)) second
-
-pub candidates_lent : (s : Splitter) (hops : Resolving Way) (a b : FinMap prefix_cmp External) → a ≡ s.ebgp → b ≡ s.ibgp
-    → together (with_rows (map.get a)) (with_rows (map.get b)) ≡ ext_candidates (record { splitter = s; forwarding = hops })
-candidates_lent s hops a b first second =
-    ap (λ (m : FinMap prefix_cmp External). together (with_rows (map.get m)) (with_rows (map.get b))) first ∙ ap (λ (m : FinMap prefix_cmp External). together (with_rows (map.get s.ebgp)) (with_rows (map.get m))) second
-
-pub takes_lent : (int : Rows Interior) (was is : Registry Interior) (e : RibExit) (hops' : Resolving Way) (turn : Turn FibRow) (a b : FinMap prefix_cmp External) → a ≡ e.splitter.ebgp → b ≡ e.splitter.ibgp
-    → TakesTurn int (together (with_rows (map.get a)) (with_rows (map.get b))) (merged external_distance (map.get a) (map.get b)) was is e.forwarding hops' turn
-    → TakesTurn int (ext_candidates e) (ext_rows e) was is e.forwarding hops' turn
-takes_lent int was is e hops' turn a b first second t =
-    subst (λ (c : Candidates). TakesTurn int c (ext_rows e) was is e.forwarding hops' turn) (candidates_lent e.splitter e.forwarding a b first second)
-    (subst (λ (r : Rows External). TakesTurn int (together (with_rows (map.get a)) (with_rows (map.get b))) r was is e.forwarding hops' turn) (rows_lent e.splitter a b first second) t)
+-- ---- over the routes that are lent
+pub takes_lent : (int : Rows Interior) (was is : Registry Interior) (e : RibExit) (hops' : Resolving Way) (turn : Turn FibRow) (best : Rows Route) → StandsOver best e
+    → TakesTurn int (with_rows (λ q. external_row (best q))) (λ q. external_row (best q)) was is e.forwarding hops' turn → TakesTurn int (ext_candidates e) (ext_rows e) was is e.forwarding hops' turn
+takes_lent int was is e hops' turn best stands t =
+    subst (λ (c : Candidates). TakesTurn int c (ext_rows e) was is e.forwarding hops' turn) (candidates_lent e best stands)
+    (subst (λ (r : Rows External). TakesTurn int (with_rows (λ q. external_row (best q))) r was is e.forwarding hops' turn) (ext_lent e best stands) t)
 
 -- a change of the interior routes
-pub follows_lent : (e : RibExit) (change : Change Interior) (sent : Option (Change FibRow)) (a b : FinMap prefix_cmp External) → a ≡ e.splitter.ebgp → b ≡ e.splitter.ibgp
-    → FollowsInt (resolved_rows e.forwarding (merged external_distance (map.get a) (map.get b))) change sent → FollowsInt (resolved_rows e.forwarding (ext_rows e)) change sent
-follows_lent e change sent a b first second follows =
-    subst (λ (r : Rows External). FollowsInt (resolved_rows e.forwarding r) change sent) (rows_lent e.splitter a b first second) follows
+pub follows_lent : (e : RibExit) (change : Change Interior) (sent : Option (Change FibRow)) (best : Rows Route) → StandsOver best e
+    → FollowsInt (resolved_rows e.forwarding (λ q. external_row (best q))) change sent → FollowsInt (resolved_rows e.forwarding (ext_rows e)) change sent
+follows_lent e change sent best stands follows =
+    subst (λ (r : Rows External). FollowsInt (resolved_rows e.forwarding r) change sent) (ext_lent e best stands) follows
 
 pub takes_interior : (e : RibExit) (change : Change Interior) (sent : Option (Change FibRow)) (before after : Journaled) → FollowsInt (resolved_rows e.forwarding (ext_rows e)) change sent
     → after ≡ with_entries before (fib_entries sent) → Adds (TakesInterior change sent e) before after

@@ -1,5 +1,5 @@
--- What contracts see of the RIB's exit: the rows of `ebgp` and `ibgp`, and what is known of the next hops that rows of `ext`
--- name. What stands on `int`, with which `ext` comes together in `fib`, is told over any rows.
+-- What contracts see of the RIB's exit: the rows of `ebgp` and `ibgp`, of which none is kept, and what is known of the next hops
+-- that rows of `ext` name. What stands on `int`, with which `ext` comes together in `fib`, is told over any rows.
 use Rattle.std.specs.Prelude.{◌≡◌, ℕ, ◌+◌, Bool, true, false, cond, Option, Some, None, option_map}
 use Rattle.std.specs.FinMap as map
 use Rattle.addr4.specs.Prefixes.{AddressPrefix}

@@ -13,8 +13,8 @@ use journal_text::{Entry, Journal, Link};
 use rib_split::Splitter;
 use std::alloc::Global;
 
-/// The RIB's exit: the splitter with the rows of `ebgp` and `ibgp`, and the merge into the forwarding table with what is known
-/// of next hops.
+/// The RIB's exit: the splitter, and the merge into the forwarding table with what is known of next hops. Contracts see the rows
+/// of `ebgp` and `ibgp` too, of which none is kept.
 #[derive(Drop)]
 pub struct RibExit {
     pub(crate) splitter: Splitter,
@@ -27,7 +27,7 @@ impl RibExit {
         ensures { result ≡ nothing_yet }
     {
         RibExit {
-            splitter: Splitter::new(alloc),
+            splitter: Splitter::new(),
             forwarding: ExtInt::new(alloc),
         }
     }

@@ -7,10 +7,11 @@ ghost use Rattle.rib_route.specs.declared.rows.Interior.{Interior};
 ghost use Rattle.journal_text.specs.declared.value.Value.{Value};
 ghost use Rattle.journal_text.specs.Walk.{HasRow};
 ghost use Rattle.journal_text.specs.Values.{external_value, fib_value};
-ghost use Rattle.rib_exit.specs.Exits.{exit_links, exit_candidates};
+ghost use Rattle.rib_exit.specs.Exits.{exit_links, exit_candidates, StandsOver};
 
 use crate::exit::RibExit;
-use crate::merged::merged_rows;
+use crate::lent::{Ext, next_on, row_on};
+use crate::reading::Reading;
 use addr4::{Memory, Place, Prefix};
 use journal_text::{Link, Value};
 use link_change::Upstream;
@@ -45,33 +46,25 @@ impl RibExit {
         matches!(link, Link::Ebgp | Link::Ibgp | Link::Ext | Link::Fib)
     }
 
-    /// The row at a prefix of a link, over the rows of `int`; None where it has none. Memory only for want of memory.
-    pub fn asked<I: Upstream<Row = Interior>>(
+    /// The row at a prefix of a link, over the rows of `int` and the best routes; None where it has none. Memory only for want of
+    /// memory.
+    pub fn asked<I: Upstream<Row = Interior>, B: Reading>(
         &self,
         link: Link,
         int: &I,
+        best: &B,
         prefix: Prefix,
     ) -> Result<Option<Value>, Memory>
         requires own { IsSome (exit_links self.now (I.rows int.now) link) }
+        requires stands { StandsOver (B.rows best.now) self.now }
         ensures { IfOk result (HasRow (exit_links self.now (I.rows int.now)) link prefix) }
     {
         match link {
-            Link::Ebgp => {
-                let row = self.splitter.rows(BgpLink::Ebgp).asked(&prefix)?;
-                Ok(external_value(row))
-            }
-            Link::Ibgp => {
-                let row = self.splitter.rows(BgpLink::Ibgp).asked(&prefix)?;
-                Ok(external_value(row))
-            }
-            Link::Ext => {
-                let row = merged_rows(&self.splitter).asked(&prefix)?;
-                Ok(external_value(row))
-            }
+            Link::Ebgp => Ok(external_value(row_on(best, BgpLink::Ebgp, prefix))),
+            Link::Ibgp => Ok(external_value(row_on(best, BgpLink::Ibgp, prefix))),
+            Link::Ext => Ok(external_value(best.external(&prefix))),
             Link::Fib => {
-                let row = self
-                    .forwarding
-                    .asked(int, &merged_rows(&self.splitter), prefix)?;
+                let row = self.forwarding.asked(int, &Ext { best }, prefix)?;
                 Ok(fib_value(row))
             }
             _ => unreachable!(),
@@ -80,23 +73,23 @@ impl RibExit {
 
     /// The least candidate of a link that lies beyond a place: of `ebgp` and `ibgp` its rows, of `ext` the rows of both, and of
     /// `fib` these and the candidates of `int`, some of which may have no row.
-    pub fn next_candidate<I: Upstream<Row = Interior>>(
+    pub fn next_candidate<I: Upstream<Row = Interior>, B: Reading>(
         &self,
         link: Link,
         int: &I,
+        best: &B,
         after: Place,
     ) -> Option<Prefix>
         requires own { IsSome (exit_links self.now (I.rows int.now) link) }
+        requires stands { StandsOver (B.rows best.now) self.now }
         ensures next { IsNextCandidate (exit_candidates self.now (I.candidates int.now) link) (key_of after) result }
         ensures covers { (rows : Rows Value) → exit_links self.now (I.rows int.now) link ≡ Some rows → CoversRows (exit_candidates self.now (I.candidates int.now) link) rows }
     {
         match link {
-            Link::Ebgp => self.splitter.rows(BgpLink::Ebgp).next_candidate(&after),
-            Link::Ibgp => self.splitter.rows(BgpLink::Ibgp).next_candidate(&after),
-            Link::Ext => merged_rows(&self.splitter).next_candidate(&after),
-            Link::Fib => self
-                .forwarding
-                .next_candidate(int, &merged_rows(&self.splitter), after),
+            Link::Ebgp => next_on(best, BgpLink::Ebgp, after),
+            Link::Ibgp => next_on(best, BgpLink::Ibgp, after),
+            Link::Ext => best.next_external(&after),
+            Link::Fib => self.forwarding.next_candidate(int, &Ext { best }, after),
             _ => unreachable!(),
         }
     }

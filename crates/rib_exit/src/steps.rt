@@ -3,12 +3,13 @@
 ghost use Rattle.std.specs.Prelude.{◌≡◌, IfOk, OnOk, OnErr};
 ghost use Rattle.nexthop_resolver.specs.Registered.{KeepsOthers};
 ghost use Rattle.journal_text.specs.Journals.{Adds};
-ghost use Rattle.rib_exit.specs.Exits.{IsExit, AgreesWith};
+ghost use Rattle.rib_exit.specs.Exits.{IsExit, AgreesWith, StandsOver};
 ghost use Rattle.rib_exit.specs.Steps.{TakesExternal, TakesInterior, ComesOut, Stales, ReachesExit};
 
 use crate::exit::RibExit;
-use crate::merged::merged_rows;
+use crate::lent::Ext;
 use crate::passing::{pass, pass_both};
+use crate::reading::Reading;
 use addr4::{Memory, Prefix};
 use bgp_attr::Route;
 use journal_text::{Journal, Link};
@@ -33,15 +34,14 @@ impl RibExit {
         ensures taken { IfOk result (λ sent. Adds (TakesExternal change.now (I.rows int.now) sent register.old register.new self.old self.new) journal.old journal.new) }
         ensures memory { OnErr result (KeepsOthers 0 register.old register.new) }
     {
-        match self.splitter.take_in(change)? {
+        match self.splitter.take_in(change) {
             Split::Neither => {
                 register.known();
                 Ok(None)
             }
             Split::One(link, change) => {
-                let other = self.splitter.rows(link.other()).asked(&change.prefix)?;
                 let hops = &mut self.forwarding;
-                let sent = pass(hops, link, change, other, int, register, journal);
+                let sent = pass(hops, link, change, None, int, register, journal);
                 register.known();
                 sent
             }
@@ -56,16 +56,16 @@ impl RibExit {
 
     /// A change of the interior routes, as it comes out on `fib`; None exactly where its map stays the same. What the register
     /// gave up with it is told by another call ([`reach`](RibExit::reach)).
-    pub fn take_interior(
+    pub fn take_interior<B: Reading>(
         &self,
         change: &Change<Interior>,
+        best: &B,
         journal: &mut Journal,
     ) -> Result<Option<Change<FibRow>>, Memory>
+        requires stands { StandsOver (B.rows best.now) self.now }
         ensures { IfOk result (λ sent. Adds (TakesInterior change.now sent self.now) journal.old journal.new) }
     {
-        let sent = self
-            .forwarding
-            .take_int(change, &merged_rows(&self.splitter))?;
+        let sent = self.forwarding.take_int(change, &Ext { best })?;
         journal.push_sent(Link::Fib, &sent)?;
         Ok(sent)
     }
@@ -102,19 +102,20 @@ impl RibExit {
     /// One turn of the task `ext` (`ExtInt::unit`): a walk goes to the next candidate of `ext`, or ends; else the least stale
     /// next hop is asked for again; else a walk begins. Nothing exactly where there is no work; Quiet where no change comes out
     /// on `fib`.
-    pub fn turn<I: Upstream<Row = Interior>>(
+    pub fn turn<I: Upstream<Row = Interior>, B: Reading>(
         &mut self,
         int: &I,
+        best: &B,
         register: &mut Register<Interior>,
         journal: &mut Journal,
     ) -> Result<Turn<FibRow>, Memory>
         requires sound { IsExit self.old }
         requires agree { AgreesWith self.old register.old }
+        requires stands { StandsOver (B.rows best.now) self.old }
         ensures taken { IfOk result (ComesOut (I.rows int.now) register.old register.new self.old self.new journal.old journal.new) }
         ensures memory { OnErr result (KeepsOthers 0 register.old register.new) }
     {
-        let ext = merged_rows(&self.splitter);
-        let turn = self.forwarding.unit(int, &ext, register)?;
+        let turn = self.forwarding.unit(int, &Ext { best }, register)?;
         self.forwarding.are_named();
         register.known();
         match turn {

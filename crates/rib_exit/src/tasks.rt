@@ -1,12 +1,11 @@
 //! Whether the task `ext` has work, and how many next hops are known.
 
-ghost use Rattle.std.specs.Prelude.{◌≡◌};
-ghost use Rattle.rib_exit.specs.Exits.{has_ext_work, ext_lags, known_in};
+ghost use Rattle.std.specs.Prelude.{◌≡◌, option_map};
+ghost use Rattle.nexthop_resolver.specs.Kept.{external_hop};
+ghost use Rattle.rib_exit.specs.Exits.{ext_rows, has_ext_work, ext_lags, known_in};
 
 use crate::exit::RibExit;
-use addr4::Prefix;
-use rib_merge::preferred;
-use rib_split::BgpLink;
+use addr4::{Addr, Prefix};
 
 impl RibExit {
     /// Whether the task has work: a walk is on, a next hop is stale, or a fresh answer isn't in force.
@@ -16,17 +15,13 @@ impl RibExit {
         self.forwarding.busy()
     }
 
-    /// Whether the task holds up a prefix: the next hop of the row of `ext` there is stale, or its fresh answer isn't in force
-    /// there. Takes no memory.
-    pub fn holds_up(&self, p: Prefix) -> bool
+    /// Whether the task holds up a prefix: the next hop of the row of `ext` there, if there is one, is stale, or its fresh answer
+    /// isn't in force there. Takes no memory.
+    pub fn holds_up(&self, hop: Option<Addr>, p: Prefix) -> bool
+        requires { hop ≡ option_map external_hop (ext_rows self.now p) }
         ensures { result ≡ ext_lags self.now p }
     {
-        let ebgp = self.splitter.rows(BgpLink::Ebgp).row(p).copied();
-        let ibgp = self.splitter.rows(BgpLink::Ibgp).row(p).copied();
-        match preferred(ebgp, ibgp) {
-            None => false,
-            Some(row) => self.forwarding.holds_up(Some(row.next_hop), p),
-        }
+        self.forwarding.holds_up(hop, p)
     }
 
     /// How many next hops are known.

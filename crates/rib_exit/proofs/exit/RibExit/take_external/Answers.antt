@@ -1,16 +1,16 @@
 use Rattle.std.proofs.Common.{subst}
 use Rattle.rib_split.specs.declared.split.Split.{Split}
 use Rattle.rib_split.specs.Tables.{SplitsOn}
-use Rattle.rib_exit.proofs.FallLemmas.{if_ok, row_lent, agreed, takes_neither, takes_one, takes_both}
+use Rattle.rib_exit.proofs.FallLemmas.{if_ok, agreed, takes_neither, takes_one, takes_both}
 use Rattle.rib_exit.proofs.exit.RibExit.take_external.Goals as goal
 
 pub returns-in-Neither-clause-taken : goal.returns-in-Neither-clause-taken
 returns-in-Neither-clause-taken g c =
-    let law = subst (λ (split : Split). SplitsOn c.args.self.now.splitter c.take_in.new.self c.args.change.now split) c.in-Neither.is c.in_ok-take_in.ensures.law in
+    let law = subst (λ (split : Split). SplitsOn c.args.self.now.splitter c.take_in.new.self c.args.change.now split) c.in-Neither.is c.take_in.ensures in
     takes_neither (g.I.Upstream.rows c.args.int.now) c.args.register.now c.args.self.now c.take_in.new.self c.args.change.now c.args.journal.now c.requires.sound c.requires.agree c.known.ensures law
 
-pub returns-in_ok-other-in-One-clause-taken : goal.returns-in_ok-other-in-One-clause-taken
-returns-in_ok-other-in-One-clause-taken g c =
+pub returns-in-One-clause-taken : goal.returns-in-One-clause-taken
+returns-in-One-clause-taken g c =
     let int = g.I.Upstream.rows c.args.int.now in
     let was = c.args.register.now in
     let is = c.pass-sent.new.register in
@@ -18,10 +18,9 @@ returns-in_ok-other-in-One-clause-taken g c =
     let s' = c.take_in.new.self in
     let hops' = c.pass-sent.new.hops in
     let change = c.args.change.now in
-    let law = subst (λ (split : Split). SplitsOn e.splitter s' change split) c.in-One.is c.in_ok-take_in.ensures.law in
-    let at = row_lent s' c.in-One.link c.other.result c.rows.result.now c.in-One.change.prefix c.in_ok-other-in-One.other c.in_ok-other-in-One.ensures c.rows.ensures c.other.ensures in
+    let law = subst (λ (split : Split). SplitsOn e.splitter s' change split) c.in-One.is c.take_in.ensures in
     let kept = agreed int was is e s' hops' c.requires.sound c.pass-sent.ensures.client c.pass-sent.ensures.named c.pass-sent.ensures.agrees c.pass-sent.ensures.others c.known-in-One.ensures in
-    if_ok c.pass-sent.result (λ sent passed. takes_one int was is e s' hops' change kept c.args.journal.now c.pass-sent.new.journal c.in-One.link c.in-One.change c.in_ok-other-in-One.other sent law at passed)
+    if_ok c.pass-sent.result (λ sent passed. takes_one int was is e s' hops' change kept c.args.journal.now c.pass-sent.new.journal c.in-One.link c.in-One.change sent law passed)
     c.pass-sent.ensures.passed
 
 pub returns-in-Moved-clause-taken : goal.returns-in-Moved-clause-taken
@@ -33,7 +32,7 @@ returns-in-Moved-clause-taken g c =
     let s' = c.take_in.new.self in
     let hops' = c.pass_both-sent.new.hops in
     let change = c.args.change.now in
-    let law = subst (λ (split : Split). SplitsOn e.splitter s' change split) c.in-Moved.is c.in_ok-take_in.ensures.law in
+    let law = subst (λ (split : Split). SplitsOn e.splitter s' change split) c.in-Moved.is c.take_in.ensures in
     let kept = agreed int was is e s' hops' c.requires.sound c.pass_both-sent.ensures.client c.pass_both-sent.ensures.named c.pass_both-sent.ensures.agrees c.pass_both-sent.ensures.others c.known-in-Moved.ensures in
     if_ok c.pass_both-sent.result (λ sent passed. takes_both int was is e s' hops' change kept c.args.journal.now c.pass_both-sent.new.journal c.in-Moved.link c.in-Moved.add c.in-Moved.delete sent law passed)
     c.pass_both-sent.ensures.passed

@@ -9,8 +9,7 @@ returns-in-Nothing-clause-taken g c =
     let e = c.args.self.now in
     let hops' = c.unit.new.self in
     let turn = c.in_ok-turn.turn in
-    let ext = c.merged_rows-ext.result in
-    let t = takes_lent int was is e hops' turn ext.ebgp.now ext.ibgp.now c.merged_rows-ext.ensures.ebgp c.merged_rows-ext.ensures.ibgp c.in_ok-turn.ensures.taken in
+    let t = takes_lent int was is e hops' turn (g.B.Reading.rows c.args.best.now) c.requires.stands c.in_ok-turn.ensures.taken in
     rests_out int was is e hops' c.requires.sound c.are_named.ensures c.unit.ensures.agrees c.unit.ensures.others c.known.ensures c.args.journal.now turn t c.in-Nothing.is
 
 pub returns-in-Quiet-clause-taken : goal.returns-in-Quiet-clause-taken
@@ -21,8 +20,7 @@ returns-in-Quiet-clause-taken g c =
     let e = c.args.self.now in
     let hops' = c.unit.new.self in
     let turn = c.in_ok-turn.turn in
-    let ext = c.merged_rows-ext.result in
-    let t = takes_lent int was is e hops' turn ext.ebgp.now ext.ibgp.now c.merged_rows-ext.ensures.ebgp c.merged_rows-ext.ensures.ibgp c.in_ok-turn.ensures.taken in
+    let t = takes_lent int was is e hops' turn (g.B.Reading.rows c.args.best.now) c.requires.stands c.in_ok-turn.ensures.taken in
     quiet_out int was is e hops' c.requires.sound c.are_named.ensures c.unit.ensures.agrees c.unit.ensures.others c.known.ensures c.args.journal.now turn t c.in-Quiet.is
 
 pub returns-in_ok-push_change-in-Sent-clause-taken : goal.returns-in_ok-push_change-in-Sent-clause-taken
@@ -33,7 +31,6 @@ returns-in_ok-push_change-in-Sent-clause-taken g c =
     let e = c.args.self.now in
     let hops' = c.unit.new.self in
     let turn = c.in_ok-turn.turn in
-    let ext = c.merged_rows-ext.result in
-    let t = takes_lent int was is e hops' turn ext.ebgp.now ext.ibgp.now c.merged_rows-ext.ensures.ebgp c.merged_rows-ext.ensures.ibgp c.in_ok-turn.ensures.taken in
+    let t = takes_lent int was is e hops' turn (g.B.Reading.rows c.args.best.now) c.requires.stands c.in_ok-turn.ensures.taken in
     sent_out int was is e hops' c.requires.sound c.are_named.ensures c.unit.ensures.agrees c.unit.ensures.others c.known.ensures c.args.journal.now turn t c.in-Sent.change c.push_change.new.self c.in-Sent.is
     c.in_ok-push_change-in-Sent.ensures
