@@ -20,6 +20,18 @@ pub struct Best<'a, B: Branches> {
     ghost counted: { kept contests.now ≡ best_candidates (B.candidates all.now) },
 }
 
+impl<'a, B: Branches> Best<'a, B> {
+    ghost use Rattle.decision.specs.Lineups.{at_prefix, chosen};
+
+    /// The branch whose row is the best one at a prefix: where one is answered its row there is the best one, if it has one, and
+    /// where none is answered no branch has a row.
+    pub fn winner(&self, p: &Prefix) -> Option<u8>
+        ensures { best_rows (B.rows self.now.all.now) p.now ≡ chosen (at_prefix (B.rows self.now.all.now) p.now) result }
+    {
+        self.contests.winner(p)
+    }
+}
+
 impl<'a, B: Branches> Upstream for Best<'a, B> {
     type Row = Route;
 

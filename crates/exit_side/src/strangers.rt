@@ -2,11 +2,13 @@
 //! they were ([`StrangersReadOn`](../specs/Laws.antt)).
 
 ghost use Rattle.std.specs.Prelude.{◌≡◌, IfOk, OnErr, IfSome, IsSome, length, [], None};
+ghost use Rattle.std.specs.Option.{option_copied};
 ghost use Rattle.std.specs.FinMap as map;
 ghost use Rattle.addr4.specs.Places.{key_of};
-ghost use Rattle.link_change.specs.Rows.{IsNextCandidate, CoversRows};
+ghost use Rattle.bgp_attr.specs.declared.route.Route.{Route};
+ghost use Rattle.link_change.specs.Rows.{Rows, IsNextCandidate, CoversRows};
 ghost use Rattle.fanout_queue.specs.Queues.{Takes, AllBelowRead};
-ghost use Rattle.fanout_queue.specs.Readers.{read_rows, read_candidates};
+ghost use Rattle.fanout_queue.specs.Readers.{read_rows, read_candidates, row_before};
 ghost use Rattle.exit_side.specs.Exits.{with_queue};
 
 use crate::exits::Exits;
@@ -57,6 +59,15 @@ impl Exits {
         ensures { IfOk result (λ row. row ≡ read_rows self.now.queue reader.now (U.rows best.now) prefix) }
     {
         self.queue.asked(reader, best, prefix)
+    }
+
+    /// The first change at a prefix that the reader hasn't taken, if there is one. What the reader has there is the row before it,
+    /// or else the best one.
+    pub fn first_unread(&self, reader: &Reader, prefix: Prefix) -> Option<&Change<Route>>
+        requires { IsSome (map.get self.now.queue reader.now) }
+        ensures { (best : Rows Route) → read_rows self.now.queue reader.now best prefix ≡ row_before (option_copied result) (best prefix) }
+    {
+        self.queue.first_unread(reader, prefix)
     }
 
     /// Where the reader's next row may stand, beyond a place.

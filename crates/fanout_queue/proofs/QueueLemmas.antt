@@ -19,6 +19,7 @@ use Rattle.link_change.specs.declared.change.Change.{Change}
 use Rattle.link_change.specs.InOrder.{rows_before, with_last, changed_in}
 use Rattle.fanout_queue.specs.Queues.{Queued, AppendsToAll, Takes, AllBelowRead, IsMostUnread}
 use Rattle.fanout_queue.specs.Entries.{Numbered, stands_at, readers_at, first_readers, unread_at, IsPlace, Indexes, Puts, Enters, Leaves, Trims, Passes, first_before}
+use Rattle.fanout_queue.specs.Readers.{unread_or_none, read_rows, row_before}
 use Rattle.fanout_queue.specs.Places.{SetsPlace, AllBelowPlaced, queued_from, queued_of, IsPlaced, IsQueue}
 use Rattle.fanout_queue.proofs.Cases.{by_bool, by_number, same_number, other_number, if_some}
 use Rattle.fanout_queue.proofs.IndexLemmas.{or_else, first_of_rows, changed_is_first}
@@ -392,6 +393,18 @@ module _ {R : Type 0} where
       (is ∙ by_found found ∙ ap is_some first ∙ sym (changed_is_first (unread_at entries place) p))
     where
       by_found : (o : Option (Change R)) → is_some o ≡ is_some (option_map (λ (change : Change R). change.before) o)
+      by_found None = refl
+      by_found (Some change) = refl
+
+  -- what the reader has is the row before the first change at the prefix that isn't taken, or else the best one
+  pub told_first : (entries : Numbered R) (places : List (Option ℕ)) (m : Queued R) (number reader place : ℕ) → queued_of entries places ≡ m → number ≡ reader → get_or places number None ≡ Some place
+      → (p : AddressPrefix) (found : Option (Change R)) → option_map (λ change. change.before) found ≡ first_before p (unread_at entries place)
+      → (best : Rows R) → read_rows m reader best p ≡ row_before found (best p)
+  told_first entries places m number reader place view same at p found first best =
+      ap (λ (o : Option (List (Change R))). rows_before (unread_or_none o) best p) (has_unread entries places m view number reader same place at) ∙ first_of_rows best (unread_at entries place) p
+      ∙ ap (λ f. or_else f (best p)) (sym first) ∙ by_found found
+    where
+      by_found : (o : Option (Change R)) → or_else (option_map (λ (change : Change R). change.before) o) (best p) ≡ row_before o (best p)
       by_found None = refl
       by_found (Some change) = refl
 

@@ -19,6 +19,11 @@ module _ {R : Type 0} where
   abbrev pub read_rows : Queued R → ℕ → Rows R → Rows R
   read_rows queued reader best = rows_before (unread_by queued reader) best
 
+  -- the row before a change, or where there is none this row
+  abbrev pub row_before : Option (Change R) → Option R → Option R
+  row_before None best = best
+  row_before (Some change) best = change.before
+
   -- where walks over these rows go, where these are the candidates of the best ones
   abbrev pub read_candidates : Queued R → ℕ → Candidates → Candidates
   read_candidates queued reader candidates = together candidates (changed_in (unread_by queued reader))

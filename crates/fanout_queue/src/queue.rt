@@ -2,10 +2,12 @@
 
 ghost use Rattle.std.specs.Prelude.{◌≡◌, length, [], IfOk, OnOk, OnErr, IfSome, IsSome, None};
 ghost use Rattle.std.specs.FinMap as map;
+ghost use Rattle.std.specs.Option.{option_copied};
 ghost use Rattle.addr4.specs.Places.{key_of};
-ghost use Rattle.link_change.specs.Rows.{IsNextCandidate, CoversRows, together};
+ghost use Rattle.link_change.specs.Rows.{Rows, IsNextCandidate, CoversRows, together};
 ghost use Rattle.link_change.specs.InOrder.{rows_before, changed_in};
 ghost use Rattle.fanout_queue.specs.Queues.{AppendsToAll, Takes, KeepsReaders, AllBelowRead, IsMostUnread};
+ghost use Rattle.fanout_queue.specs.Readers.{read_rows, row_before};
 
 use crate::entries::Entries;
 use crate::places;
@@ -129,6 +131,16 @@ impl<R: Row> Queue<R> {
     {
         let place = places::place_of(self.places.as_slice(), reader.number);
         self.entries.first_at(place, prefix).is_some()
+    }
+
+    /// The first change at a prefix that the reader hasn't taken, if there is one. What the reader has there is the row before it,
+    /// or else the best one.
+    pub fn first_unread(&self, reader: &Reader, prefix: Prefix) -> Option<&Change<R>>
+        requires { IsSome (map.get self.now reader.now) }
+        ensures { (best : Rows R) → read_rows self.now reader.now best prefix ≡ row_before (option_copied result) (best prefix) }
+    {
+        let place = places::place_of(self.places.as_slice(), reader.number);
+        self.entries.first_at(place, prefix)
     }
 
     /// How many changes are kept: as many as the reader hasn't taken that has taken the fewest.

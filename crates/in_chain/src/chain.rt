@@ -75,6 +75,13 @@ impl Chain {
         self.number
     }
 
+    /// The peer, whose routes come in at the chain's top.
+    pub fn peer(&self) -> &Neighbour
+        ensures { result.now ≡ self.now.peer }
+    {
+        &self.peer
+    }
+
     /// The lowest of the stages whose links carry attributes, the one above `in.K`. A deletion stage holds the stage above it
     /// in its box, up to the live routes.
     pub fn lowest(&self) -> &Stage<SharedAttrs>

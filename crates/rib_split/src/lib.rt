@@ -22,5 +22,5 @@ mod splitter;
 mod told;
 
 pub use laws::{a_moved_row_changes_once, tables_begin_empty};
-pub use split::{BgpLink, Split, external_of, on_link};
+pub use split::{BgpLink, Split, external_of, external_row, on_link};
 pub use splitter::Splitter;

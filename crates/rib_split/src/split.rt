@@ -53,8 +53,8 @@ pub fn external_of(from: Option<Neighbour>, next_hop: Addr) -> Option<External>
     }
 }
 
-// The row that a best route makes on one of the links.
-fn external_row(route: &Option<Route>) -> Option<External>
+/// What forwarding needs of a best route, if there is one and a peer sent it: the row that it makes on one of the links.
+pub fn external_row(route: &Option<Route>) -> Option<External>
     ensures { result ≡ external_row route.now }
 {
     match route {
