@@ -1,5 +1,6 @@
 -- What the decision's state knows within a step: behind a change of `res.K` or `red`, of `filt.K`, and of `int`.
-use Rattle.router_moments.proofs.Common.{get-empty, nat_cmp, cond, sym, subst, ◌∙◌, ap, ◌≡◌, ℕ, refl, List, true, arith, false, Bool, ◌≤◌, ◌<◌, suc, zero, ◌≢◌, AddressPrefix, Route, Speaker, Declaration, Exited, Resolvers, res_at, ComesOn, GoesOn, IsSent, Rows, CoversRows, Candidates, Change, Turn, Passed, Protos, passed_rows, redistributed, Chained, filt_rows, filt_candidates, chain_at, Chains, filt_at, filt_by, Registry, Interior, int_rows, Treed, int_candidates, own_rows, lent_rows, Moment, own_of, with_exits, with_hops, with_chains, with_redist, with_tree, Stands, Resolves, Entry, Value, Line, Proto, Journaled, sent_of}
+use Rattle.router_moments.proofs.CoreLemmas.{readers_of}
+use Rattle.router_moments.proofs.Common.{HaveReaders, get-empty, nat_cmp, cond, sym, subst, ◌∙◌, ap, ◌≡◌, ℕ, refl, List, true, arith, false, Bool, ◌≤◌, ◌<◌, suc, zero, ◌≢◌, AddressPrefix, Route, Speaker, Declaration, Exited, Resolvers, res_at, ComesOn, GoesOn, IsSent, Rows, CoversRows, Candidates, Change, Turn, Passed, Protos, passed_rows, redistributed, Chained, filt_rows, filt_candidates, chain_at, Chains, filt_at, filt_by, Registry, Interior, int_rows, Treed, int_candidates, own_rows, lent_rows, Moment, own_of, with_exits, with_hops, with_chains, with_redist, with_tree, Stands, Resolves, Entry, Value, Line, Proto, Journaled, sent_of}
 use Rattle.std.proofs.Common.{Option, Some, None, is_some, IsSome, nat_lt}
 use Rattle.std.specs.FinMap as tables
 use Rattle.loss_chain.proofs.TableLemmas.{other_by}
@@ -211,10 +212,11 @@ pub over_some : (sent : Option (Change Interior)) (change : Change Interior) (co
 over_some sent change contests m is over = subst (λ (s : Option (Change Interior)). InformedOver s contests m) is over
 
 -- a tree whose `int` moved by what was sent
-pub tree_over : (sent : Option (Change Interior)) (contests : Contested) (m v : Moment) (t : Treed) (p : AddressPrefix) → v ≡ m → IsSent (int_rows v.tree) (int_rows t) p sent → Informed contests m → InformedOver sent contests (with_tree v t)
-tree_over sent contests m v t p view moves informed =
+pub tree_over : (sent : Option (Change Interior)) (contests : Contested) (m v : Moment) (t : Treed) (p : AddressPrefix) → v ≡ m → Stands m → IsSent (int_rows v.tree) (int_rows t) p sent → Informed contests m → InformedOver sent contests (with_tree v t)
+tree_over sent contests m v t p view stands moves informed =
     let known : Informed contests v = subst (Informed contests) (sym view) informed in
-    record { int = int_rows v.tree; prefix = p; comes = moves; knows = known.knows; counts = known.counts }
+    let readers : HaveReaders v = subst HaveReaders (sym view) (readers_of m stands) in
+    record { int = int_rows v.tree; prefix = p; comes = moves; knows = known.knows; counts = known.counts; read = record { reader = readers.reader; external = readers.external } }
 
 -- and one whose `int` stayed
 pub tree_quiet : (contests : Contested) (m v : Moment) (t : Treed) → v ≡ m → int_rows t ≡ int_rows v.tree → Informed contests m → Informed contests (with_tree v t)
@@ -286,11 +288,11 @@ tree_taken proto n v t turns.Nothing before j some taken = absurd (some refl)
 tree_taken proto n v t turns.Quiet before j some taken = (taken.2.prefix, taken.2.rows)
 tree_taken proto n v t (turns.Sent change) before j some taken = (taken.2.prefix, taken.2.rows)
 
-pub tree_turned : (proto : Proto) (n : ℕ) (contests : Contested) (m v : Moment) (t : Treed) (turn : Turn Interior) (sent : Option (Change Interior)) (before j : Journaled) → turn ≢ turns.Nothing → v ≡ m → sent ≡ sent_of turn → IsTakenTree v.tree t (Rdel proto n) before j turn
+pub tree_turned : (proto : Proto) (n : ℕ) (contests : Contested) (m v : Moment) (t : Treed) (turn : Turn Interior) (sent : Option (Change Interior)) (before j : Journaled) → turn ≢ turns.Nothing → v ≡ m → Stands m → sent ≡ sent_of turn → IsTakenTree v.tree t (Rdel proto n) before j turn
     → Informed contests m → InformedOver sent contests (with_tree v t)
-tree_turned proto n contests m v t turn sent before j some view is taken i =
+tree_turned proto n contests m v t turn sent before j some view stands is taken i =
     let moved = tree_taken proto n v t turn before j some taken in
-    by_turn (λ (o : Option (Change Interior)). InformedOver o contests (with_tree v t)) turn sent is (tree_over (sent_of turn) contests m v t moved.0 view moved.1 i)
+    by_turn (λ (o : Option (Change Interior)). InformedOver o contests (with_tree v t)) turn sent is (tree_over (sent_of turn) contests m v t moved.0 view stands moved.1 i)
 
 -- the loss of a protocol moves no row of `int`
 pub protocol_informed : (proto : Proto) (contests : Contested) (m m' : Moment) (said : List Line) → EndsProtocol proto m m' said → int_rows m'.tree ≡ int_rows m.tree → Informed contests m → Informed contests m'

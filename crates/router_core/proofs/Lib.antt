@@ -1,18 +1,22 @@
+mod ExternalRows
 mod LocalLemmas
+mod ReadRows
 mod ShownRows
-pub mod RoomLemmas
+pub mod BranchRows
+pub mod ChainShifts
+pub mod Counting
+pub mod IntShifts
+pub mod KnownRows
+pub mod Lents
 pub mod LossLemmas
-pub mod StepLemmas
-pub mod ProtocolLosses
-pub mod RouteRoom
-pub mod RouteSteps
 pub mod PolicyLemmas
+pub mod ProtocolLosses
+pub mod QuietSteps
 pub mod ReadLemmas
 pub mod RedistEdits
-pub mod BranchRows
-pub mod Counting
-pub mod KnownRows
-pub mod IntShifts
-pub mod ChainShifts
-pub mod QuietSteps
-pub mod Lents
+pub mod RoomLemmas
+pub mod RouteRoom
+pub mod RouteSteps
+pub mod StepLemmas
+mod IntReads
+mod ReadStands

@@ -1,15 +1,11 @@
 -- Lookups in what reads `best`.
-use Rattle.router_moments.proofs.Common.{sym, ◌∙◌, ap, ◌≡◌, ℕ, same_Some, AddressPrefix, Route, best_rows, Declaration, read_rows, Resolvers, route_value, route_rows, Links, HasRow, Link, Value, Rows, Candidates, IsNextCandidate, CoversRows, Passed, Chains, Protos, int_rows, Treed, own_rows, lent_rows, Moment, best_of, read_by, read_links, Stands, HaveReaders}
+use Rattle.router_moments.proofs.Common.{sym, ◌∙◌, ap, ◌≡◌, ℕ, same_Some, AddressPrefix, Route, best_rows, Declaration, read_rows, Resolvers, route_value, route_rows, Links, HasRow, Link, Value, Rows, Candidates, IsNextCandidate, CoversRows, Passed, Chains, Protos, int_rows, Treed, own_rows, lent_rows, Moment, best_of, read_by, read_links}
 use Rattle.std.proofs.Common.{Option, Some}
 use Rattle.std.specs.Prelude.{option_map}
 use Rattle.journal_text.specs.declared.link.Link.TheVariants.{ReadRib}
 use Rattle.exit_side.specs.Exits.{exit_links}
 use Rattle.router_moments.specs.Lookups.{IsNextPlace}
 use Rattle.router_moments.proofs.BestLemmas.{lent_best}
-use Rattle.router_moments.proofs.QueueLemmas.{reader_live}
-
-pub have_readers : (m : Moment) → Stands m → HaveReaders m
-have_readers m stands = record { exits = stands.exits.each; reader = reader_live m stands }
 
 module _ (m v : Moment) (d : Declaration) (t : Treed) (s : Passed Protos) (a : Chains) (h : Resolvers) (view : v ≡ m) (declared : d ≡ m.declared) (tree : t ≡ m.tree) (redist : s ≡ m.redist) (chains : a ≡ m.chains) (hops : h ≡ m.hops) where
   abbrev lent : Rows Route

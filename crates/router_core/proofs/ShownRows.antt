@@ -169,9 +169,8 @@ pub has_forward : {E : Type 0} (m v : Moment) (link : Link) (p : AddressPrefix) 
 has_forward m v link p result view here live has =
     IfOk-weaker result (HasRow (external_links v.rib (int_rows v.tree)) link p) (HasRow (router_links m) link p) (λ row is. (is.0, forward_is m v link view here live ∙ is.1, is.2)) has
 
-pub next_forward : (m v : Moment) (link : Link) (place result : Option AddressPrefix) (candidates : Candidates) → v ≡ m → region_of link ≡ Forward → IsSome (router_links m link) → IsNextCandidate candidates place result
-    → ((rows : Rows Value) → external_links v.rib (int_rows v.tree) link ≡ Some rows → CoversRows candidates rows) → IsNextPlace (router_links m link) place result
-next_forward m v link place result candidates view here live next covers = (candidates, next, λ rows is. covers rows (sym (forward_is m v link view here live) ∙ is))
+pub next_forward : (m : Moment) (link : Link) (place result : Option AddressPrefix) → region_of link ≡ Forward → IsSome (router_links m link) → IsNextPlace (external_links m.rib (int_rows m.tree) link) place result → IsNextPlace (router_links m link) place result
+next_forward m link place result here live next = subst (λ (o : Option (Rows Value)). IsNextPlace o place result) (sym (forward_is m m link refl here live)) next
 
 -- `red` where it is live: some of its candidates have no row
 own_here : (s : Option Speaker) (rows : Rows Route) (link : Link) → IsSome (own_links s rows link) → own_links s rows link ≡ Some (route_rows rows)

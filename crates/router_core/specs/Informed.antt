@@ -17,6 +17,7 @@ use Rattle.rib_route.specs.declared.rows.Interior.{Interior}
 use Rattle.rib_tree.specs.Trees.{int_rows, int_candidates}
 use Rattle.router_moments.specs.Bests.{own_rows, lent_rows, lent_candidates}
 use Rattle.router_moments.specs.Moments.{Moment, own_of}
+use Rattle.router_core.specs.Reads.{ReadOver}
 
 -- what is kept at each prefix
 abbrev pub Contested : Type 0
@@ -72,13 +73,15 @@ pub record KnowsAbove (k : ℕ) (sent : Option (Change Route)) (contests : Conte
 abbrev pub rows_over_int : Rows Interior → Moment → AllRows
 rows_over_int int m = lent_rows (own_rows m.declared.speaker m.redist int) m.chains m.hops
 
--- And behind a change of `int`, if one came: the state knows the rows over those of `int` before it, and counted its candidates then.
+-- And behind a change of `int`, if one came: the state knows the rows over those of `int` before it, and counted its candidates then; and
+-- the forwarding side has what it has of the best routes over these.
 pub record InformedOver (sent : Option (Change Interior)) (contests : Contested) (m : Moment) : Type 0 where
   pub int : Rows Interior
   pub prefix : AddressPrefix
   pub comes : IsSent int (int_rows m.tree) prefix sent
   pub knows : Knows contests (rows_over_int int m)
   pub counts : Counts contests (lent_candidates (with_rows int) m.chains)
+  pub read : ReadOver int m
 
 -- the same without the candidates, where the change has a prefix that is kept
 pub record KnowsOver (change : Change Interior) (contests : Contested) (m : Moment) : Type 0 where

@@ -8,7 +8,8 @@ ghost use Rattle.link_change.specs.Rows.{IsNextCandidate, CoversRows};
 ghost use Rattle.exit_side.specs.Exits.{IsExits};
 ghost use Rattle.router_moments.specs.Works.{Decides};
 ghost use Rattle.rib_tree.specs.Trees.{int_rows};
-ghost use Rattle.router_moments.specs.Bests.{own_rows, lent_chain, lent_resolved, candidates_by};
+ghost use Rattle.router_moments.specs.Bests.{own_rows, lent_chain, lent_resolved, lent_rows, candidates_by};
+ghost use Rattle.rib_split.specs.Splitting.{external_row};
 ghost use Rattle.peer_side.specs.Peers.{chain_at};
 ghost use Rattle.router_moments.specs.Moments.{best_of, candidates_of};
 ghost use Rattle.decision.specs.Contests.{Knows};
@@ -25,6 +26,8 @@ use journal_text::Journal;
 use link_change::Change;
 use peer_side::Peers;
 use redist::Redist;
+use rib_route::External;
+use rib_split::external_of;
 use rib_tree::Tree;
 
 /// At most how many branches there are.
@@ -69,6 +72,22 @@ impl<'a> Lent<'a> {
             return Ok(None);
         };
         self.hops.asked(u32::from(branch), chain, *p)
+    }
+
+    /// What forwarding needs of the row of a branch at a prefix, if a peer sent it: no route of this speaker's own does. No row is
+    /// made. Takes no memory.
+    pub(crate) fn external(&self, branch: u8, p: &Prefix) -> Option<External>
+        ensures { result ≡ external_row (lent_rows (own_rows self.now.declared.now.speaker self.now.redist.now (int_rows self.now.tree.now)) self.now.chains.now self.now.hops.now branch p.now) }
+    {
+        if branch == 0 {
+            return None;
+        }
+        let chain = self.chain(branch)?;
+        let next_hop = chain.next_hop(*p)?;
+        if !self.hops.has(u32::from(branch), Some(next_hop), *p) {
+            return None;
+        }
+        external_of(Some(*chain.peer()), next_hop)
     }
 
     /// Whether `red` has a row at a prefix. Takes no memory.
@@ -166,17 +185,12 @@ impl Network {
         contests.asked(&self.lent(), &p)
     }
 
-    /// Whether there is a best route at a prefix: each branch is asked, whatever is known. Takes no memory.
-    pub(crate) fn has_best(&self, p: Prefix) -> bool
+    /// Whether there is a best route at a prefix. Takes no memory.
+    pub(crate) fn has_best(&self, p: Prefix, contests: &Contests) -> bool
+        requires informed { Informed contests.now self.now }
         ensures { result ≡ is_some (best_of self.now p) }
     {
-        let lent = self.lent();
-        for number in 0..MOST {
-            if lent.has(number, &p) {
-                return true;
-            }
-        }
-        false
+        contests.has(&self.lent(), &p)
     }
 
     /// Where the next best route may stand, beyond a place.

@@ -1,6 +1,7 @@
 //! What peers are sent, and what the forwarding side reads of `best`: both read the queue of its changes (NSDI 2005, section 5.1).
 
-ghost use Rattle.std.specs.Prelude.{◌≡◌, ◌≢◌, [], None, IfOk, OnOk, IsSome, MatchBool};
+ghost use Rattle.std.specs.Prelude.{◌≡◌, ◌≢◌, [], None, IfOk, OnOk, IsSome, MatchBool, option_map};
+ghost use Rattle.std.specs.Option.{option_copied};
 ghost use Rattle.std.specs.FinMap as map;
 ghost use Rattle.addr4.specs.Places.{key_of};
 ghost use Rattle.link_change.specs.declared.turn.Turn.TheVariants as turns;
@@ -12,7 +13,9 @@ ghost use Rattle.event_text.specs.declared.event.Event.TheVariants as events;
 ghost use Rattle.event_text.specs.Declarations.{peer_at, refusal};
 ghost use Rattle.exit_side.specs.Exits.{IsExits, exit_links, chain_at as exit_at};
 ghost use Rattle.router_moments.specs.declared.tasks.Phase.TheVariants as phases;
-ghost use Rattle.rib_exit.specs.Exits.{IsExit, AgreesWith};
+ghost use Rattle.nexthop_resolver.specs.Kept.{external_hop};
+ghost use Rattle.rib_exit.specs.Exits.{IsExit, AgreesWith, ext_rows, exit_links as external_links};
+ghost use Rattle.rib_tree.specs.Trees.{int_rows};
 ghost use Rattle.router_moments.specs.Moments.{best_of, read_links, rules_to};
 ghost use Rattle.router_moments.specs.Stands.{Stands, HaveReaders};
 ghost use Rattle.router_moments.specs.Lookups.{IsNextPlace};
@@ -23,16 +26,18 @@ ghost use Rattle.router_core.specs.Informed.{Informed};
 
 use crate::best::Lent;
 use crate::network::Network;
-use addr4::{Memory, Place, Prefix};
+use crate::reads::ReadRoutes;
+use addr4::{Addr, Memory, Place, Prefix};
 use bgp_attr::Route;
 use bgp_wire::RouteRefresh;
-use decision::Contests;
+use decision::{Best, Contests};
 use exit_side::Exits;
 use exit_side::laws::a_stranger_reads;
 use fanout_queue::Reader;
 use journal_text::{Entry, Journal, Link, Task, Value};
 use link_change::{Change, Turn};
 use policy_rules::Rules;
+use rib_exit::Reading;
 use router_moments::Done;
 use std::alloc::Global;
 use std::collections::BTreeMap;
@@ -170,6 +175,7 @@ impl Network {
     }
 
     /// One turn of a peer's exit, and the text of its lines.
+    #[inline(never)]
     pub(crate) fn turn_exit(
         &mut self,
         number: u32,
@@ -197,6 +203,7 @@ impl Network {
     }
 
     /// One turn of a peer's refresh, and the text of its line: the next row that the peer was sent is said to it again. No link changes.
+    #[inline(never)]
     pub(crate) fn turn_refresh(
         &mut self,
         number: u32,
@@ -215,6 +222,7 @@ impl Network {
 
     /// One turn of the forwarding side: the first change that it hasn't read comes on `read.rib`, and goes down through the RIB's
     /// exit to `fib`.
+    #[inline(never)]
     pub(crate) fn turn_reader(&mut self, journal: &mut Journal) -> Result<Done, Memory>
         requires { Stands self.old }
         ensures { IfOk result (TakesTurn tasks.ReadRib self.old self.new journal.old journal.new) }
@@ -250,12 +258,34 @@ impl Network {
         }
     }
 
-    /// One turn of the next hops of external routes.
-    pub(crate) fn turn_external(&mut self, journal: &mut Journal) -> Result<Done, Memory>
-        requires { Stands self.old }
+    /// One turn of the next hops of external routes. What the forwarding side hasn't read is prepared for the questions of a walk.
+    #[inline(never)]
+    pub(crate) fn turn_external(
+        &mut self,
+        contests: &Contests,
+        journal: &mut Journal,
+    ) -> Result<Done, Memory>
+        requires stands { Stands self.old }
+        requires informed { Informed contests.now self.old }
         ensures { IfOk result (TakesTurn tasks.Ext self.old self.new journal.old journal.new) }
     {
-        let turn = self.rib.turn(&self.tree, &mut self.registry, journal)?;
+        self.exits.prepare()?;
+        let lent = Lent {
+            declared: &self.declared,
+            tree: &self.tree,
+            redist: &self.redist,
+            chains: &self.chains,
+            hops: &self.hops,
+        };
+        let best = contests.best(&lent);
+        let read = ReadRoutes {
+            exits: &self.exits,
+            reader: self.reader.as_ref(),
+            best: &best,
+        };
+        let turn = self
+            .rib
+            .turn(&self.tree, &read, &mut self.registry, journal)?;
         if rested(turn) {
             return Ok(Done::Nothing);
         }
@@ -311,6 +341,68 @@ impl Network {
             Some(route) => Ok(Some(Value::Route(route))),
             None => Ok(None),
         }
+    }
+
+    /// The routes that the forwarding side has, over the best ones.
+    pub(crate) fn read_routes<'a>(&'a self, best: &'a Best<'a, Lent<'a>>) -> ReadRoutes<'a>
+        requires { HaveReaders self.now }
+        ensures exits { result.exits.now ≡ self.now.exits }
+        ensures reader { option_copied result.reader ≡ self.now.reader }
+        ensures best { result.best.now ≡ best.now }
+    {
+        ReadRoutes {
+            exits: &self.exits,
+            reader: self.reader.as_ref(),
+            best,
+        }
+    }
+
+    /// The row at a prefix of a link of the RIB's exit.
+    pub(crate) fn forwarded(
+        &self,
+        link: Link,
+        p: Prefix,
+        contests: &Contests,
+    ) -> Result<Option<Value>, Memory>
+        requires readers { HaveReaders self.now }
+        requires live { IsSome (external_links self.now.rib (int_rows self.now.tree) link) }
+        requires informed { Informed contests.now self.now }
+        ensures { IfOk result (HasRow (external_links self.now.rib (int_rows self.now.tree)) link p) }
+    {
+        let lent = self.lent();
+        let best = contests.best(&lent);
+        let read = self.read_routes(&best);
+        self.rib.asked(link, &self.tree, &read, p)
+    }
+
+    /// Where the next row of a link of the RIB's exit may stand, beyond a place.
+    pub(crate) fn next_forwarded(
+        &self,
+        link: Link,
+        after: Place,
+        contests: &Contests,
+    ) -> Option<Prefix>
+        requires readers { HaveReaders self.now }
+        requires live { IsSome (external_links self.now.rib (int_rows self.now.tree) link) }
+        requires informed { Informed contests.now self.now }
+        ensures { IsNextPlace (external_links self.now.rib (int_rows self.now.tree) link) (key_of after) result }
+    {
+        let lent = self.lent();
+        let best = contests.best(&lent);
+        let read = self.read_routes(&best);
+        self.rib.next_candidate(link, &self.tree, &read, after)
+    }
+
+    /// The next hop of the row of `ext` at a prefix. Takes no memory.
+    pub(crate) fn external_hop(&self, p: Prefix, contests: &Contests) -> Option<Addr>
+        requires readers { HaveReaders self.now }
+        requires informed { Informed contests.now self.now }
+        ensures { result ≡ option_map external_hop (ext_rows self.now.rib p) }
+    {
+        let lent = self.lent();
+        let best = contests.best(&lent);
+        let row = self.read_routes(&best).external(&p)?;
+        Some(row.next_hop)
     }
 
     /// Where the next row of `read.rib` may stand, beyond a place.

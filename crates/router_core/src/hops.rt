@@ -77,6 +77,7 @@ impl Network {
     }
 
     /// One turn of a task of a peer's chain, and the text of its lines.
+    #[inline(never)]
     pub(crate) fn turn_peer(
         &mut self,
         task: Task,
@@ -101,6 +102,7 @@ impl Network {
     }
 
     /// One turn of the next hops of a peer, and the text of its lines.
+    #[inline(never)]
     pub(crate) fn turn_hops(
         &mut self,
         number: u32,

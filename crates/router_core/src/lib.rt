@@ -27,6 +27,7 @@ mod lookups;
 mod network;
 mod own;
 mod peers;
+mod reads;
 mod router;
 mod routes;
 mod sessions;

@@ -82,7 +82,7 @@ impl Network {
             Region::InteriorRoutes => self.tree.asked(link, p),
             Region::Redistributed => self.own(link, p),
             Region::External => self.read(p, contests),
-            Region::Forward => self.rib.asked(link, &self.tree, p),
+            Region::Forward => self.forwarded(link, p, contests),
             Region::Outward => self.sent(link, p, contests),
         }
     }
@@ -101,7 +101,7 @@ impl Network {
             Region::InteriorRoutes => self.tree.next_candidate(link, after),
             Region::Redistributed => self.redist.next_candidate(&self.tree, after),
             Region::External => self.next_read(after, contests),
-            Region::Forward => self.rib.next_candidate(link, &self.tree, after),
+            Region::Forward => self.next_forwarded(link, after, contests),
             Region::Outward => self.next_sent(link, after, contests),
         }
     }

@@ -72,6 +72,7 @@ impl Network {
     }
 
     /// One turn of the walk of redistribution, and the text of its lines.
+    #[inline(never)]
     pub(crate) fn turn_own(
         &mut self,
         contests: &mut Contests,

@@ -140,7 +140,7 @@ impl Core {
         ensures { Tells self.now.moment p result }
     {
         the_first_task_tells();
-        self.network.first_held(p, self.network.has_best(p))
+        self.network.first_held(p, &self.contests)
     }
 
     /// How many rows a link has; None exactly where it isn't live. Memory for want of memory: each row of `filt.K` is judged.

@@ -16,10 +16,11 @@ ghost use Rattle.router_moments.specs.Moments.{Gives};
 ghost use Rattle.loss_chain.specs.Steps.{live_after};
 ghost use Rattle.live_state.specs.Lives.{interior_fed};
 ghost use Rattle.router_moments.specs.Lives.{live_state};
-ghost use Rattle.router_moments.specs.Stands.{Stands};
+ghost use Rattle.router_moments.specs.Stands.{Stands, HaveReaders};
 ghost use Rattle.router_moments.specs.Turns.{Registers};
 ghost use Rattle.router_moments.specs.Works.{TakesTurn, Informs, MayFollow, Follows, Settles, Turned, SetsRoute, HasProtocolRoom, EndsProtocol, HasStepped, Pushes};
 ghost use Rattle.router_core.specs.Informed.{Informed, InformedOver};
+ghost use Rattle.router_core.specs.Reads.{TakesInto};
 
 use crate::candidates::{enter, leave};
 use crate::network::Network;
@@ -227,8 +228,26 @@ impl Network {
         self.inform(change)?;
         self.redistribute(change, contests, journal)?;
         leave(contests, change.prefix, had, has)?;
+        self.prepare()?;
+        self.take_interior(change, contests, journal)
+    }
+
+    /// A change of the interior routes comes out on `fib`, beside the row of `ext` at its prefix.
+    fn take_interior(
+        &self,
+        change: &Change<Interior>,
+        contests: &Contests,
+        journal: &mut Journal,
+    ) -> Result<(), Memory>
+        requires readers { HaveReaders self.now }
+        requires informed { Informed contests.now self.now }
+        ensures { OnOk result (TakesInto change.now self.now journal.old journal.new) }
+    {
+        let lent = self.lent();
+        let best = contests.best(&lent);
+        let read = self.read_routes(&best);
         // By cases: rattle's borrow checker can't plan a `?` on a value that holds a forwarding row.
-        match self.rib.take_interior(change, journal) {
+        match self.rib.take_interior(change, &read, journal) {
             Ok(_) => Ok(()),
             Err(error) => Err(error),
         }
@@ -247,6 +266,7 @@ impl Network {
     }
 
     /// One turn of the stage of a protocol's loss, and the text of its lines.
+    #[inline(never)]
     pub(crate) fn turn_route(
         &mut self,
         proto: Proto,

@@ -3,11 +3,11 @@
 //! goes over the rows of a table: a phase without work is passed over, and each task of another is asked once, which looks at the
 //! one prefix, and a lost table of interior routes also at the 33 that hold a next hop.
 
-ghost use Rattle.std.specs.Prelude.{◌≡◌, ℕ, ◌<◌, ◌≤◌, IfOk, is_some, None};
+ghost use Rattle.std.specs.Prelude.{◌≡◌, ℕ, ◌<◌, ◌≤◌, IfOk, None};
 ghost use Rattle.event_text.specs.declared.event.Event.TheVariants as events;
 ghost use Rattle.peer_side.specs.Peers.{chain_at};
 ghost use Rattle.router_moments.specs.declared.tasks.Phase.TheVariants as phases;
-ghost use Rattle.router_moments.specs.Moments.{Gives, best_of};
+ghost use Rattle.router_moments.specs.Moments.{Gives};
 ghost use Rattle.router_moments.specs.Stands.{Stands, AllHaveExits};
 ghost use Rattle.router_moments.specs.Holding.{held_in, first_held};
 ghost use Rattle.router_moments.specs.Works.{HasStepped};
@@ -36,21 +36,21 @@ impl Network {
     {
         the_first_task_tells();
         self.prepare()?;
-        let there = contests.has(&self.lent(), &p);
-        journal.push_line(Line::Settled(p, self.first_held(p, there)))?;
+        let held = self.first_held(p, contests);
+        journal.push_line(Line::Settled(p, held))?;
         journal.flush()?;
         Ok(0)
     }
 
-    /// The first task, in the order of an idle, that holds up a prefix, by whether there is a best route.
-    pub(crate) fn first_held(&self, p: Prefix, there: bool) -> Option<Task>
+    /// The first task, in the order of an idle, that holds up a prefix.
+    pub(crate) fn first_held(&self, p: Prefix, contests: &Contests) -> Option<Task>
         requires stands { Stands self.now }
-        requires there { there ≡ is_some (best_of self.now p) }
+        requires informed { Informed contests.now self.now }
         ensures { result ≡ first_held self.now p }
     {
         let phases = phases();
         for i in 0..phases.len() {
-            if let Some(task) = self.held_in(phases[i], p, there) {
+            if let Some(task) = self.held_in(phases[i], p, contests) {
                 return Some(task);
             }
         }
@@ -58,9 +58,9 @@ impl Network {
     }
 
     /// The first one of a phase; none of a phase without work.
-    fn held_in(&self, phase: Phase, p: Prefix, there: bool) -> Option<Task>
+    fn held_in(&self, phase: Phase, p: Prefix, contests: &Contests) -> Option<Task>
         requires stands { Stands self.now }
-        requires there { there ≡ is_some (best_of self.now p) }
+        requires informed { Informed contests.now self.now }
         ensures { result ≡ held_in phase self.now p }
     {
         only_work_holds_up();
@@ -72,8 +72,8 @@ impl Network {
             Phase::Fin => self.chains.first_walk_at(p),
             Phase::Nh => task_of(self.hops.first_held(&self.lent(), p)),
             Phase::ReadRib => self.reader_held(p),
-            Phase::Out => exit_of(self.exits.first_held(there, p)),
-            Phase::Ext => self.external_held(p),
+            Phase::Out => self.exit_held(p, contests),
+            Phase::Ext => self.external_held(p, contests),
             Phase::Ref => None,
         }
     }
@@ -126,11 +126,23 @@ impl Network {
         None
     }
 
+    /// The first peer's exit that holds up a prefix.
+    fn exit_held(&self, p: Prefix, contests: &Contests) -> Option<Task>
+        requires stands { Stands self.now }
+        requires informed { Informed contests.now self.now }
+        ensures { result ≡ held_in phases.Out self.now p }
+    {
+        let there = self.has_best(p, contests);
+        exit_of(self.exits.first_held(there, p))
+    }
+
     /// The next hops of external routes, where they hold up a prefix.
-    fn external_held(&self, p: Prefix) -> Option<Task>
+    fn external_held(&self, p: Prefix, contests: &Contests) -> Option<Task>
+        requires stands { Stands self.now }
+        requires informed { Informed contests.now self.now }
         ensures { result ≡ held_in phases.Ext self.now p }
     {
-        if self.rib.holds_up(p) {
+        if self.rib.holds_up(self.external_hop(p, contests), p) {
             return Some(Task::Ext);
         }
         None

@@ -16,7 +16,8 @@ use journal_text::{Journal, Task};
 use router_moments::{Done, Phase, only_work_holds_up, rows_at_rest_are_exact};
 
 impl Network {
-    /// One turn of a task, and the text of its lines.
+    /// One turn of a task, and the text of its lines. Each task's turn stays a function of its own, so that one pays for its own
+    /// locals and not for those of all.
     pub(crate) fn turn(
         &mut self,
         task: Task,
@@ -32,7 +33,7 @@ impl Network {
             Task::Rdel(proto, loss) => self.turn_route(proto, loss, contests, journal),
             Task::Nh(number) => self.turn_hops(number, contests, journal),
             Task::Red => self.turn_own(contests, journal),
-            Task::Ext => self.turn_external(journal),
+            Task::Ext => self.turn_external(contests, journal),
             Task::ReadRib => self.turn_reader(journal),
             Task::Out(number) => self.turn_exit(number, contests, journal),
             Task::Ref(number) => self.turn_refresh(number, journal),

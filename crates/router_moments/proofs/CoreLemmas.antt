@@ -84,7 +84,7 @@ core_tells c m n failed p answer view stands tells is =
 
 -- what lookups ask for
 pub readers_of : (m : Moment) → Stands m → HaveReaders m
-readers_of m stands = record { exits = stands.exits.each; reader = λ r is. (reads_as m stands r is).live }
+readers_of m stands = record { exits = stands.exits.each; reader = λ r is. (reads_as m stands r is).live; external = stands.exits.external }
 
 -- ---- a core by its parts
 module _ (old : Cored) (m : Moment) (n : ℕ) (failed : Bool) (view : record { moment = m; events = n; failed = failed } ≡ old) (off : failed ≡ false) (stands : old.failed ≡ false → CoreStands old) where
@@ -109,6 +109,7 @@ module _ (old : Cored) (m : Moment) (n : ℕ) (failed : Bool) (view : record { m
 
     pub core_stepped : CoreStands (cored m' (n + 1))
     core_stepped = record {
+      good = refl;
       stands = g.2.keeps.stands;
       printable = prints.now;
       exits = event_exits m m' stood.stands stood.exits event g.0 turns (subst (λ (c : Cored). refusal c.moment.declared event ≡ None) (sym view) admitted) declared g.2.block;
@@ -124,6 +125,7 @@ module _ (old : Cored) (m : Moment) (n : ℕ) (failed : Bool) (view : record { m
 
   pub core_worked : (m' : Moment) (said inner : List Line) → Keeps (live_state m) m m' said → HaveSameExits m m' → Goes m inner m' → CoreStands (cored m' n)
   core_worked m' said inner work same goes = record {
+    good = refl;
     stands = work.stands;
     printable = (goes.prints stood.printable).now;
     exits = λ k p at up. same k ∙ stood.exits k p (ap (λ (l : LiveState). peer_at k l.declared.peers) (sym work.live) ∙ at) up;
@@ -136,7 +138,7 @@ module _ (old : Cored) (m : Moment) (n : ℕ) (failed : Bool) (view : record { m
     core_comes done t = subst (λ (c : Cored). Comes task c.moment m' before now done) view (turn_comes task m m' before now done stood.stands t)
 
     pub core_turned : (done : Done) → TakesTurn task m m' before now done → CoreStands (cored m' n)
-    core_turned Nothing t = subst (λ (x : Moment). CoreStands (cored x n)) (sym t.1) (record { stands = stood.stands; printable = stood.printable; exits = stood.exits; numbered = stood.numbered })
+    core_turned Nothing t = subst (λ (x : Moment). CoreStands (cored x n)) (sym t.1) (record { good = refl; stands = stood.stands; printable = stood.printable; exits = stood.exits; numbered = stood.numbered })
     core_turned Taken t = core_worked m' t.0 t.0 (turn_works task m t.0 m' stood.stands t.2).keeps (turn_same task m t.0 m' stood.stands t.2) (turn_goes task m t.0 m' stood.stands t.2)
 
   -- a phase of an idle
@@ -193,6 +195,7 @@ first_moment_stands law = record {
 
 pub first_stands : ANewTreeStands → CoreStands (cored first_moment 0)
 first_stands law = record {
+  good = refl;
   stands = first_moment_stands law;
   printable = record {
     declared = refl;

@@ -148,13 +148,15 @@ pub record Stands (m : Moment) : Type 0 where
 abbrev pub AllHaveExits : Moment → Type 0
 AllHaveExits m = (k : ℕ) (p : DeclaredPeer) → peer_at k m.declared.peers ≡ Some p → p.up ≡ true → IsSome (exit_at k m.exits)
 
--- What lookups ask for: each reader is one of the queue's.
+-- What lookups ask for: each reader is one of the queue's, and `ebgp` and `ibgp` are the parts of what the forwarding side's has.
 pub record HaveReaders (m : Moment) : Type 0 where
   pub exits : IsExits m.exits
   pub reader : (r : ℕ) → m.reader ≡ Some r → IsSome (tables.get m.exits.queue r)
+  pub external : StandsOver (read_of m) m.rib
 
--- What holds of a core between two calls, unless memory ran out: all that stands can be printed, and losses are counted by events.
+-- What holds of a core between two calls, where memory didn't run out: all that stands can be printed, and losses are counted by events.
 pub record CoreStands (c : Cored) : Type 0 where
+  pub good : c.failed ≡ false
   pub stands : Stands c.moment
   pub printable : IsPrintableMoment c.moment
   pub exits : AllHaveExits c.moment

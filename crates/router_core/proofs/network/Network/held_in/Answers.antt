@@ -1,12 +1,11 @@
-use Rattle.router_moments.proofs.Common.{sym, ◌∙◌, ap, route_hop, Chains, filt_at, Moment, best_of}
+use Rattle.router_moments.proofs.Common.{sym, ◌∙◌, ap, route_hop, Chains, filt_at, Moment}
 use Rattle.std.proofs.Common.{option_map}
 use Rattle.std.specs.List.{find}
 use Rattle.std.specs.FinMap as tables
 use Rattle.hop_side.specs.Resolvers.{hop_holds_up}
 use Rattle.router_moments.specs.declared.tasks.Phase.TheVariants.{Del, Fin}
 use Rattle.router_moments.proofs.StandLemmas.{peers_sound}
-use Rattle.router_moments.proofs.HopTurns.{exits_sound}
-use Rattle.router_moments.proofs.NextLemmas.{held_of_peers, held_of_hops, held_of_exits, held_of_losses, held_of_refreshes}
+use Rattle.router_moments.proofs.NextLemmas.{held_of_peers, held_of_hops, held_of_losses, held_of_refreshes}
 use Rattle.router_moments.proofs.SettledLemmas.{none_held}
 use Rattle.router_core.proofs.network.Network.held_in.Goals as goal
 
@@ -18,9 +17,6 @@ first_loss_at-requires c = peers_sound c.args.self.now _ c.self.view_is c.requir
 
 pub first_walk_at-requires : goal.first_walk_at-requires
 first_walk_at-requires c = peers_sound c.args.self.now _ c.self.view_is c.requires.stands
-
-pub first_held-requires-in-Out : goal.first_held-requires-in-Out
-first_held-requires-in-Out c = record { sound = exits_sound c.args.self.now _ c.self.view_is c.requires.stands }
 
 pub returns-in-Rdel : goal.returns-in-Rdel
 returns-in-Rdel c = held_of_losses c.args.phase c.args.self.now c.args.p c.loss_held.result c.in-Rdel.is c.loss_held.ensures
@@ -39,8 +35,3 @@ returns-in-Nh c =
 
 pub returns-in-Ref : goal.returns-in-Ref
 returns-in-Ref c = held_of_refreshes c.args.phase c.args.self.now c.args.p c.in-Ref.is
-
-pub returns-in-Out : goal.returns-in-Out
-returns-in-Out c =
-    held_of_exits c.args.phase c.args.self.now _ c.args.p c.first_held-in-Out.result c.exit_of.result c.in-Out.is c.self.view_is
-    (c.first_held-in-Out.ensures (best_of c.args.self.now) c.requires.there) c.exit_of.ensures

@@ -4,11 +4,11 @@ use Rattle.router_moments.specs.Moments.{Gives}
 use Rattle.router_moments.specs.Stands.{HaveReaders}
 use Rattle.router_moments.proofs.KeepLemmas.{gives_pushed}
 use Rattle.router_core.proofs.ShownRows.{show_stepped}
-use Rattle.router_core.proofs.ReadLemmas.{have_readers}
+use Rattle.router_moments.proofs.CoreLemmas.{readers_of}
 use Rattle.router_core.proofs.network.Network.list.Goals as goal
 
 pub show-requires-clause-readers : goal.show-requires-clause-readers
-show-requires-clause-readers c = subst HaveReaders (sym c.prepare.ensures) (have_readers c.args.self.now c.requires.stands)
+show-requires-clause-readers c = subst HaveReaders (sym c.prepare.ensures) (readers_of c.args.self.now c.requires.stands)
 
 pub returns : goal.returns
 returns c =

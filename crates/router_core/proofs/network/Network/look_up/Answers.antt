@@ -3,11 +3,11 @@ use Rattle.event_text.specs.declared.event.Event.TheVariants as events
 use Rattle.router_moments.specs.Moments.{Gives}
 use Rattle.router_moments.specs.Stands.{HaveReaders}
 use Rattle.router_core.proofs.ShownRows.{ask_stepped}
-use Rattle.router_core.proofs.ReadLemmas.{have_readers}
+use Rattle.router_moments.proofs.CoreLemmas.{readers_of}
 use Rattle.router_core.proofs.network.Network.look_up.Goals as goal
 
 pub ask-requires-clause-readers : goal.ask-requires-clause-readers
-ask-requires-clause-readers c = subst HaveReaders (sym c.prepare.ensures) (have_readers c.args.self.now c.requires.stands)
+ask-requires-clause-readers c = subst HaveReaders (sym c.prepare.ensures) (readers_of c.args.self.now c.requires.stands)
 
 pub returns : goal.returns
 returns c =

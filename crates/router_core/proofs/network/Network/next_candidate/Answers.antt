@@ -21,10 +21,9 @@ returns-in-Redistributed c =
     next_own c.args.self.now _ c.args.link (key_of c.args.after) c.next_candidate-in-Redistributed.result _ c.self.view_is (sym c.region_of.ensures ∙ c.in-Redistributed.is) c.requires.live c.next_candidate-in-Redistributed.ensures.next
     c.next_candidate-in-Redistributed.ensures.covers
 
-pub next_candidate-requires-in-Forward : goal.next_candidate-requires-in-Forward
-next_candidate-requires-in-Forward c = record { own = forward_live c.args.self.now _ c.args.link c.self.view_is (sym c.region_of.ensures ∙ c.in-Forward.is) c.requires.live }
+pub next_forwarded-requires-clause-live : goal.next_forwarded-requires-clause-live
+next_forwarded-requires-clause-live c = forward_live c.args.self.now c.args.self.now c.args.link refl (sym c.region_of.ensures ∙ c.in-Forward.is) c.requires.live
 
 pub returns-in-Forward : goal.returns-in-Forward
 returns-in-Forward c =
-    next_forward c.args.self.now _ c.args.link (key_of c.args.after) c.next_candidate-in-Forward.result _ c.self.view_is (sym c.region_of.ensures ∙ c.in-Forward.is) c.requires.live c.next_candidate-in-Forward.ensures.next
-    c.next_candidate-in-Forward.ensures.covers
+    next_forward c.args.self.now c.args.link (key_of c.args.after) c.next_forwarded.result (sym c.region_of.ensures ∙ c.in-Forward.is) c.requires.live c.next_forwarded.ensures

@@ -1,11 +1,12 @@
-use Rattle.router_moments.proofs.Common.{sym, subst, Adds}
-use Rattle.std.proofs.Common.{OnOk, Some}
+use Rattle.router_moments.proofs.Common.{sym, subst, on_ok_weaker, Adds, Moment, HaveReaders}
+use Rattle.std.proofs.Common.{Some}
 use Rattle.router_moments.specs.Works.{Follows}
 use Rattle.rib_exit.proofs.LawLemmas.{on_ok}
 use Rattle.router_moments.proofs.RouteLemmas.{followed}
+use Rattle.router_core.specs.Informed.{Informed}
+use Rattle.router_core.proofs.IntReads.{int_readers}
 use Rattle.router_core.proofs.IntShifts.{int_shifts, int_has_shift, int_known, int_has_shifted, int_informed}
 use Rattle.router_core.proofs.network.Network.pass_on.Goals as goal
-use Rattle.router_core.proofs.network.Network.pass_on.Goals.{in-Ok, in-Err}
 
 pub enter-requires : goal.enter-requires
 enter-requires c = int_has_shift c.args.change.now c.is_some-had.result c.is_some-has.result c.args.contests.now c.args.self.now c.is_some-had.ensures c.is_some-has.ensures c.requires.informed
@@ -24,21 +25,35 @@ leave-requires c =
     int_has_shifted change c.is_some-had.result c.is_some-has.result c.args.contests.now c.args.self.now c.is_some-had.ensures c.is_some-has.ensures over c.enter.new.contests c.redistribute.new.contests
     (c.in_ok-enter.ensures.counts 0 _ _ (int_shifts change c.is_some-had.result c.is_some-has.result c.args.contests.now c.args.self.now c.is_some-had.ensures c.is_some-has.ensures over) over.counts) c.in_ok-redistribute.ensures.counts
 
+pub take_interior-requires-clause-readers : goal.take_interior-requires-clause-readers
+take_interior-requires-clause-readers c =
+    let own = c.in_ok-redistribute.ensures.redistributes in
+    subst HaveReaders (sym c.prepare.ensures) (int_readers c.args.change.now c.args.contests.now c.args.self.now c.inform.new.self c.redistribute.new.self own.0 c.requires.informed c.in_ok-inform.ensures own.2 c.requires.follow.exits)
+
+pub take_interior-requires-clause-informed : goal.take_interior-requires-clause-informed
+take_interior-requires-clause-informed c =
+    let change = c.args.change.now in
+    let over = c.requires.informed in
+    subst (Informed c.leave.new.contests) (sym c.prepare.ensures)
+    (int_informed change c.is_some-had.result c.is_some-has.result c.args.contests.now c.args.self.now c.is_some-had.ensures c.is_some-has.ensures over c.enter.new.contests c.redistribute.new.contests c.leave.new.contests c.inform.new.self c.redistribute.new.self
+    c.in_ok-redistribute.ensures.redistributes.0 c.in_ok-inform.ensures c.in_ok-redistribute.ensures.redistributes.2
+    (c.in_ok-enter.ensures.counts 0 _ _ (int_shifts change c.is_some-had.result c.is_some-has.result c.args.contests.now c.args.self.now c.is_some-had.ensures c.is_some-has.ensures over) over.counts) c.in_ok-redistribute.ensures.counts
+    c.in_ok-redistribute.ensures.known c.in_ok-leave.ensures.counts c.in_ok-leave.ensures.known)
+
 pub returns-clause-follows : goal.returns-clause-follows
 returns-clause-follows c =
-    elim c.match-take_interior.branch [
-      | in-Ok w ↦
-          on_ok c.match-take_interior.result _
-          (followed c.args.change.now _ c.args.self.now c.inform.new.self c.redistribute.new.self _ c.args.journal.now c.redistribute.new.journal c.take_interior.new.journal c.in_ok-inform.ensures c.in_ok-redistribute.ensures.redistributes c.self.view_is w.in-Ok.ensures)
-      | in-Err w ↦ subst (λ r. OnOk r (Adds (Follows (Some c.args.change.now) c.args.self.now c.redistribute.new.self) c.args.journal.now c.take_interior.new.journal)) (sym w.result-is) tt
-    ]
+    on_ok_weaker c.take_interior.result
+    (λ taken. subst (λ (n : Moment). Adds (Follows (Some c.args.change.now) c.args.self.now n) c.args.journal.now c.take_interior.new.journal) (sym c.prepare.ensures)
+    (followed c.args.change.now taken.0 c.args.self.now c.inform.new.self c.redistribute.new.self c.prepare.new.self c.args.journal.now c.redistribute.new.journal c.take_interior.new.journal c.in_ok-inform.ensures c.in_ok-redistribute.ensures.redistributes c.prepare.ensures taken.1))
+    c.take_interior.ensures
 
 pub returns-clause-informed : goal.returns-clause-informed
 returns-clause-informed c =
     let change = c.args.change.now in
     let over = c.requires.informed in
-    on_ok c.match-take_interior.result _
+    on_ok c.take_interior.result _
+    (subst (Informed c.leave.new.contests) (sym c.prepare.ensures)
     (int_informed change c.is_some-had.result c.is_some-has.result c.args.contests.now c.args.self.now c.is_some-had.ensures c.is_some-has.ensures over c.enter.new.contests c.redistribute.new.contests c.leave.new.contests c.inform.new.self c.redistribute.new.self
     c.in_ok-redistribute.ensures.redistributes.0 c.in_ok-inform.ensures c.in_ok-redistribute.ensures.redistributes.2
     (c.in_ok-enter.ensures.counts 0 _ _ (int_shifts change c.is_some-had.result c.is_some-has.result c.args.contests.now c.args.self.now c.is_some-had.ensures c.is_some-has.ensures over) over.counts) c.in_ok-redistribute.ensures.counts
-    c.in_ok-redistribute.ensures.known c.in_ok-leave.ensures.counts c.in_ok-leave.ensures.known)
+    c.in_ok-redistribute.ensures.known c.in_ok-leave.ensures.counts c.in_ok-leave.ensures.known))

@@ -43,7 +43,7 @@ returns-in_ok-sent-in-Some-clause-sets c =
     c.settle-in-Some.ensures.settles
 
 pub settle-requires-clause-informed : goal.settle-requires-clause-informed
-settle-requires-clause-informed c = tree_over c.in_ok-sent-in-None.sent c.args.contests.now c.args.self.now _ c.feed.new.self c.args.p c.self.view_is c.in_ok-sent-in-None.ensures.sent c.requires.informed
+settle-requires-clause-informed c = tree_over c.in_ok-sent-in-None.sent c.args.contests.now c.args.self.now _ c.feed.new.self c.args.p c.self.view_is c.requires.stands c.in_ok-sent-in-None.ensures.sent c.requires.informed
 
 pub settle-requires-in-Some-clause-informed : goal.settle-requires-in-Some-clause-informed
-settle-requires-in-Some-clause-informed c = tree_over c.in_ok-sent-in-Some.sent c.args.contests.now c.args.self.now _ c.feed-in-Some.new.self c.args.p c.self-in-Some.view_is c.in_ok-sent-in-Some.ensures.sent c.requires.informed
+settle-requires-in-Some-clause-informed c = tree_over c.in_ok-sent-in-Some.sent c.args.contests.now c.args.self.now _ c.feed-in-Some.new.self c.args.p c.self-in-Some.view_is c.requires.stands c.in_ok-sent-in-Some.ensures.sent c.requires.informed

@@ -37,7 +37,7 @@ returns-in-Sent-clause-taken c =
     c.turned-in-Sent.new.journal c.turned-in-Sent.result c.in-Sent.is c.in_ok-unit.ensures.taken c.turned-in-Sent.ensures.turned)
 
 pub turned-requires-clause-informed : goal.turned-requires-clause-informed
-turned-requires-clause-informed c = tree_turned c.args.proto c.args.loss c.args.contests.now c.args.self.now _ c.unit.new.self c.in_ok-unit.field-0 None c.args.journal.now c.unit.new.journal (λ e. cc) c.self.view_is (ap sent_of (sym c.in-Quiet.is)) c.in_ok-unit.ensures.taken c.requires.informed
+turned-requires-clause-informed c = tree_turned c.args.proto c.args.loss c.args.contests.now c.args.self.now _ c.unit.new.self c.in_ok-unit.field-0 None c.args.journal.now c.unit.new.journal (λ e. cc) c.self.view_is c.requires.stands (ap sent_of (sym c.in-Quiet.is)) c.in_ok-unit.ensures.taken c.requires.informed
 
 pub turned-requires-in-Sent-clause-informed : goal.turned-requires-in-Sent-clause-informed
-turned-requires-in-Sent-clause-informed c = tree_turned c.args.proto c.args.loss c.args.contests.now c.args.self.now _ c.unit.new.self c.in_ok-unit.field-0 (Some c.in-Sent.change) c.args.journal.now c.unit.new.journal (λ e. cc) c.self.view_is (ap sent_of (sym c.in-Sent.is)) c.in_ok-unit.ensures.taken c.requires.informed
+turned-requires-in-Sent-clause-informed c = tree_turned c.args.proto c.args.loss c.args.contests.now c.args.self.now _ c.unit.new.self c.in_ok-unit.field-0 (Some c.in-Sent.change) c.args.journal.now c.unit.new.journal (λ e. cc) c.self.view_is c.requires.stands (ap sent_of (sym c.in-Sent.is)) c.in_ok-unit.ensures.taken c.requires.informed

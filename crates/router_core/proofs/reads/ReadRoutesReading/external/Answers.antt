@@ -1,0 +1,18 @@
+use Rattle.router_moments.proofs.Common.{sym, ap, ◌∙◌, Route}
+use Rattle.std.proofs.Common.{Option, Bor}
+use Rattle.std.specs.Option.{option_copied}
+use Rattle.link_change.specs.declared.change.Change.{Change}
+use Rattle.fanout_queue.specs.Readers.{row_before}
+use Rattle.rib_split.specs.Splitting.{external_row}
+use Rattle.router_core.proofs.Lents.{best_lent}
+use Rattle.router_core.proofs.ReadRows.{read_by_one}
+use Rattle.router_core.proofs.reads.ReadRoutesReading.external.Goals as goal
+
+pub returns-in-None : goal.returns-in-None
+returns-in-None c =
+    let s = c.args.self.now in
+    let best = best_lent s.best.now.all.now in
+    let p = c.args.p.now in
+    c.best_external.ensures
+    ∙ sym (ap external_row (ap (λ (rows : _). rows p) (read_by_one s.exits.now.queue s.reader c.in_ok-reader.reader best c.in_ok-reader.was) ∙ c.first_unread.ensures best
+    ∙ ap (λ (o : Option (Bor (Change Route))). row_before (option_copied o) (best p)) c.in-None.is))
