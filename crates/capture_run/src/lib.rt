@@ -8,8 +8,6 @@
 mod command;
 mod conversion;
 mod ending;
-#[cfg(test)]
-mod tests;
 
 pub use command::convert;
 pub use ending::Ending;

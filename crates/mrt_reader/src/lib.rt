@@ -15,8 +15,6 @@ mod laws;
 mod lines;
 mod reader;
 mod sessions;
-#[cfg(test)]
-mod tests;
 mod unread;
 
 pub use answer::{Code, Next, Stop};

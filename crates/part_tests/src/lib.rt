@@ -1,6 +1,6 @@
 //! Calls of single crates that no event file makes by themselves: texts in and outside the languages, changes that are applied
 //! to a map, the nodes of a table, a queue that is prepared for lookups, what a route becomes on its way to a peer, streams that
-//! fail, and the router's own turns. What event files give is shown by the stories of the crate story_tests.
+//! fail, records of captures, and the router's own turns. What event files give is shown by the stories of the crate story_tests.
 //!
 //! The crates that these tests are of have none of their own: a crate with tests is proved once more with them.
 #![tactic(auto)]
@@ -12,7 +12,11 @@ mod announcements;
 #[cfg(test)]
 mod attributes;
 #[cfg(test)]
+mod captures;
+#[cfg(test)]
 mod changes;
+#[cfg(test)]
+mod conversions;
 #[cfg(test)]
 mod cores;
 #[cfg(test)]

@@ -1,7 +1,6 @@
-//! The worked row, and reads and writes that fail.
+//! The command over captures: the worked row, and reads and writes that fail.
 
-use crate::command::convert;
-use crate::ending::Ending;
+use capture_run::{Ending, convert};
 use edge_io::{MemorySink, MemorySource};
 use std::alloc::{AllocError, Global};
 use std::test::Fail;

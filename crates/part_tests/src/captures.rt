@@ -1,10 +1,9 @@
-//! The worked rows, a malformed record, and a source that gives an octet at a time.
+//! Records of a capture: the worked rows, a malformed record, and a source that gives an octet at a time.
 
 ghost use Rattle.std.specs.Prelude.{Some};
 
-use crate::answer::{Code, Next, Stop};
-use crate::reader::Reader;
 use edge_io::{Failed, MemorySource, Source};
+use mrt_reader::{Code, Next, Reader, Stop};
 use std::alloc::Global;
 use std::test::Fail;
 
