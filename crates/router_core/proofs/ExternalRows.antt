@@ -1,16 +1,14 @@
 -- What forwarding needs of the rows of all branches.
-use Rattle.router_moments.proofs.Common.{sym, subst, ◌∙◌, ap, ◌≡◌, ◌≢◌, ℕ, refl, true, false, Bool, cond, zero, suc, AddressPrefix, Route, Speaker, Rows, Resolvers, resolver_at, rows_by, Resolving, Metric, Passed, Protos, Chained, filt_rows, Chains, filt_by, Interior, own_rows, lent_rows, function_at}
+use Rattle.router_moments.proofs.Common.{sym, ◌∙◌, ap, ◌≡◌, ◌≢◌, ℕ, refl, true, false, Bool, cond, zero, suc, AddressPrefix, Route, Speaker, Rows, Resolvers, resolver_at, rows_by, Resolving, Metric, Passed, Protos, Chained, filt_rows, Chains, filt_by, Interior, own_rows, lent_rows, function_at}
 use Rattle.std.proofs.Common.{Option, Some, None, is_some}
 use Rattle.std.specs.Prelude.{option_map, if◌then◌else◌}
 use Rattle.bgp_attr.specs.declared.attrs.Attrs.{Attrs}
-use Rattle.policy_rules.specs.declared.rule.Rule.{Rule}
 use Rattle.filter_bank.specs.Filtered.{filtered, route_hop}
 use Rattle.filter_bank.proofs.LawLemmas.{filtered_keeps_attrs}
 use Rattle.in_chain.specs.Incomings.{in_rows}
 use Rattle.nexthop_resolver.specs.Kept.{with_igp, with_metric}
 use Rattle.nexthop_resolver.specs.Resolving.{Answers, passes, made_by, goes_on}
 use Rattle.redist.specs.Local.{is_on, local_route}
-use Rattle.rib_route.specs.declared.rows.External.{External}
 use Rattle.rib_split.specs.Splitting.{external_of, external_row}
 use Rattle.router_moments.specs.Bests.{lent_chain, lent_resolved}
 

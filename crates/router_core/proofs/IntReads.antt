@@ -1,5 +1,5 @@
 -- What the forwarding side has, behind a change of `int` and what it made of this speaker's own routes.
-use Rattle.router_moments.proofs.Common.{sym, subst, ◌∙◌, ap, ◌≡◌, ℕ, List, Route, Speaker, Rows, IsSent, Change, Interior, int_rows, own_rows, all_at, best_at, Moment, with_exits, Entry, Value, Exited, IsExits, PeerRows, filt_at, StandsOver, HaveReaders, Chains, Resolvers}
+use Rattle.router_moments.proofs.Common.{sym, subst, ◌∙◌, ap, ◌≡◌, List, Route, Speaker, Rows, IsSent, Change, Interior, int_rows, own_rows, all_at, best_at, Moment, with_exits, Entry, Value, IsExits, PeerRows, filt_at, StandsOver, HaveReaders}
 use Rattle.std.proofs.Common.{Option, Some}
 use Rattle.router_moments.specs.Moments.{read_rows_by}
 use Rattle.router_moments.specs.Turns.{FollowsOwn}

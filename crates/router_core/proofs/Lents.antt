@@ -1,7 +1,5 @@
 -- What `Best` lends is what was lent to it.
-use Rattle.router_moments.proofs.Common.{sym, subst, ◌∙◌, ap, ◌≡◌, ℕ, refl, true, false, ◌<◌, AddressPrefix, best_is_a_branchs, Declaration, Treed, Passed, Protos, Chains, Resolvers, Candidates, Route, Rows, best_rows, int_rows, int_candidates, own_rows, lent_rows, Moment}
-use Rattle.std.proofs.Common.{Option, Some, None, is_some}
-use Rattle.decision.proofs.LawLemmas.{no_best_only_without_routes}
+use Rattle.router_moments.proofs.Common.{sym, subst, ap, ◌≡◌, Declaration, Treed, Passed, Protos, Chains, Resolvers, Candidates, Route, Rows, best_rows, int_rows, int_candidates, own_rows, lent_rows, Moment}
 use Rattle.decision.specs.Branches.{AllRows, best_candidates}
 use Rattle.decision.specs.Contests.{Knows, Counts}
 use Rattle.router_moments.specs.Bests.{lent_candidates}
@@ -42,18 +40,3 @@ module _ (contests : Contested) (m : Moment) (d : Declaration) (t : Treed) (s : 
 
   pub lent_counted : Counts contests (lent_candidates (int_candidates t) a)
   lent_counted = subst (Counts contests) (sym (lent_candidates_are m d t s a h declared tree redist chains hops)) i.counts
-
--- ---- whether there is a best row, by each branch
-pub best_there : (rows : AllRows) (p : AddressPrefix) (b : ℕ) → b < 65 → is_some (rows b p) ≡ true → true ≡ is_some (best_rows rows p)
-best_there rows p b small there = by_best (best_rows rows p) refl
-  where
-    by_best : (o : Option Route) → best_rows rows p ≡ o → true ≡ is_some o
-    by_best None is = sym there ∙ ap is_some (no_best_only_without_routes rows p is b small)
-    by_best (Some r) is = refl
-
-pub best_absent : (rows : AllRows) (p : AddressPrefix) → ((b : ℕ) → b < 65 → is_some (rows b p) ≡ false) → false ≡ is_some (best_rows rows p)
-best_absent rows p none = by_best (best_rows rows p) refl
-  where
-    by_best : (o : Option Route) → best_rows rows p ≡ o → false ≡ is_some o
-    by_best None is = refl
-    by_best (Some r) is = let b = best_is_a_branchs rows p r is in sym (none b.0 b.1) ∙ ap is_some b.2

@@ -11,7 +11,7 @@ use Rattle.router_moments.specs.Moments.{read_of, read_rows_by}
 use Rattle.router_moments.proofs.BestLemmas.{lent_best}
 use Rattle.router_core.specs.declared.best.Lent.{Lent}
 use Rattle.router_core.specs.declared.reads.ReadRoutes.{ReadRoutes}
-use Rattle.router_core.proofs.Lents.{best_lent, same_declared, same_tree, same_redist, same_chains, same_hops}
+use Rattle.router_core.proofs.Lents.{best_lent}
 use Rattle.router_core.proofs.ReadRows.{rows_read}
 
 -- what is lent is of this moment

@@ -1,5 +1,4 @@
-use Rattle.router_moments.proofs.Common.{sym, ap, ◌∙◌, ℕ, Route}
-use Rattle.std.proofs.Common.{Option, Some}
+use Rattle.router_moments.proofs.Common.{sym, ap, ◌∙◌}
 use Rattle.decision.specs.Lineups.{at_prefix, chosen}
 use Rattle.rib_split.specs.Splitting.{external_row}
 use Rattle.router_core.proofs.Lents.{rows_lent}

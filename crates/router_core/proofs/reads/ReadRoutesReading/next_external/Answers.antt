@@ -1,4 +1,4 @@
-use Rattle.router_moments.proofs.Common.{sym, subst, Rows, Route, Candidates, CoversRows, key_of}
+use Rattle.router_moments.proofs.Common.{sym, subst, CoversRows, key_of}
 use Rattle.std.proofs.Common.{true, false, Some, None}
 use Rattle.router_core.proofs.Lents.{best_lent}
 use Rattle.router_core.proofs.ReadRows.{rows_read, read_by_one, tested, none_more, one_found, goes_on}
