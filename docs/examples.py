@@ -51,7 +51,8 @@ TOPICS = [
      'own_route_wins own_routes_go_out own_route_to_two_peers own_next_hops redistribution_is_edited '
      'lost_under_redistribution'),
     ('The forwarding table', 'docs/LANGUAGE.md, "The forwarding table".',
-     'by_distance over_the_gateway another_way_out from_one_link_to_the_other forgotten_by_both '
+     'by_distance over_the_gateway another_way_out from_one_link_to_the_other '
+     'what_was_read_is_forwarded forgotten_by_both '
      'unread_on_the_forwarding_side external_names'),
     ('Is it settled?', 'docs/LANGUAGE.md, "Settled prefixes".',
      'settled_by_phase settled_in_a_walk settled_in_walks_of_all_kinds settled_after_losses settled_over_next_hops '
