@@ -1,5 +1,5 @@
 """UPDATEs of a capture, taken apart and put together again, so that a session of IPv4 unicast with AS numbers of four octets says the same
-(RFC 4271, section 4.3; RFC 4760; RFC 6793; RFC 7911; RFC 8654; RFC 8950).
+(RFC 4271, section 4.3; RFC 4760; RFC 5065; RFC 6793; RFC 7911; RFC 8654; RFC 8950).
 """
 import collections
 import os
@@ -13,6 +13,8 @@ MOST = 4096  # octets of a message without RFC 8654
 MP_REACH, MP_UNREACH, AS4_PATH, AS4_AGGREGATOR = 14, 15, 17, 18
 IPV4_UNICAST, IPV6_UNICAST = b'\0\1\1', b'\0\2\1'  # AFI and SAFI
 AS_SET, AS_SEQUENCE = 1, 2
+CONFEDERATION = (3, 4)  # types of segments (RFC 5065, section 3)
+OF_A_CONFEDERATION = tuple(bytes([kind]) for kind in CONFEDERATION)  # how such a path begins
 EXTENDED = 0x10  # the flag of a length of two octets
 # the flags of attributes whose standard leaves no choice but the partial bit
 FLAGS = {1: 0x40, 2: 0x40, 3: 0x40, 4: 0x80, 5: 0x40, 6: 0x40, 7: 0xc0, 8: 0xc0, 9: 0x80, 10: 0x80, 14: 0x80, 15: 0x80, 16: 0xc0, 32: 0xc0}
@@ -133,6 +135,17 @@ def widened(said):
             one = one._replace(value=wide_aggregator if is_trans and wide_aggregator else b'\0\0' + one.value)
         if one.kind not in (AS4_PATH, AS4_AGGREGATOR):
             found.append(one)
+    return found
+
+
+def outside(said):
+    """The attributes with the path that a confederation tells outside: without its segments, which stand in front (RFC 5065, section 4.1), and
+    which count nothing in a path's length (section 5.3). ValueError where such a path can't be read."""
+    found = []
+    for one in said:
+        if one.kind == wire.AS_PATH and one.value[:1] in OF_A_CONFEDERATION:
+            one = one._replace(value=path_octets([segment for segment in segments(one.value, 4) if segment[0] not in CONFEDERATION]))
+        found.append(one)
     return found
 
 

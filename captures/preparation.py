@@ -13,10 +13,12 @@ from report import Report, counted
 AHEAD = 1000  # records of each file that are looked at for the local side before a dump is told
 FLUSHED = 1 << 20  # octets
 KEPT = 1 << 16  # attributes of dumps of which what they became is kept
-# what an UPDATE may have among its attributes that isn't passed on as it stands: types 14 and 15, and a NEXT_HOP that no host has
-ODD = re.compile(rb'[\x80-\xff][\x0e\x0f]|\x03\x00?\x04[\x00\x7f\xe0-\xff]')
+# what an UPDATE may have among its attributes that isn't passed on as it stands: types 14 and 15, a NEXT_HOP that no host has, and a path that
+# begins with a segment of a confederation
+ODD = re.compile(rb'[\x80-\xff][\x0e\x0f]|\x03\x00?\x04[\x00\x7f\xe0-\xff]|[\x40\x60]\x02.[\x03\x04]|[\x50\x70]\x02..[\x03\x04]', re.DOTALL)
 REFRESH_OCTETS = 23
 IDLE, OPEN_CONFIRM = 1, 5
+NO_STATES = 'no change of state: the routes of a session that fell stay, until a NOTIFICATION, an OPEN or a table dump tells its end'
 DUMPED = (mrt.RIB_IPV4, mrt.RIB_IPV6, mrt.RIB_IPV4_ADDPATH, mrt.RIB_IPV6_ADDPATH)
 
 
@@ -238,6 +240,7 @@ class Preparation:
             if not is_wide:
                 said = said._replace(attributes=messages.widened(said.attributes))
                 self.report.change('two')
+            said = said._replace(attributes=self.outside(said.attributes))
             parts = list(self.parts(said, with_paths))
         except ValueError:
             self.take_unreadable(when, peer, octets, is_wide and not with_paths)
@@ -250,6 +253,13 @@ class Preparation:
             self.say_part(when, peer, part, with_paths)
         if not parts:
             self.report.skip('family')
+
+    def outside(self, said):
+        """The attributes with the path that a confederation tells outside."""
+        found = messages.outside(said)
+        if found != said:
+            self.report.change('confederation')
+        return found
 
     def take_unreadable(self, when, peer, octets, is_in_form):
         """An UPDATE that can't be read: the program answers it as it stands, if its form is that of the session."""
@@ -353,6 +363,7 @@ class Preparation:
             if len(self.dumped) >= KEPT:
                 self.dumped.clear()
             said, other = dumps.mended(octets, width)
+            said = self.outside(said)
             hop = messages.value_of(said, wire.NEXT_HOP, 4)
             hop = hop if hop and any(hop) else other or told.address
             self.dumped[key] = b''.join(map(messages.spelled, messages.with_hop(said, self.addresses.of(hop))))
@@ -367,9 +378,15 @@ class Preparation:
 
     # ---- the end
 
+    def has_states(self):
+        """Whether any change of state was told."""
+        return any(peer.tells_states for peer in self.peers.values())
+
     def lines(self):
         """What became of all, and who is who."""
         yield from self.report.lines()
+        if any(peer.has_spoken for peer in self.peers.values()) and not self.has_states():
+            yield NO_STATES
         yield from self.addresses.told()
         taken = sum(self.asked.peers.has(number, address) for (address, _), number in self.numbers.items())
         yield '%s%s' % (counted(len(self.numbers), 'peer'), '' if taken == len(self.numbers) else ', of which --peers %s takes %d' % (self.asked.peers.text, taken))

@@ -9,6 +9,7 @@ Files come in order of time, also packed by gzip, bzip2 or xz; `-` is standard i
   path identifiers       are taken out: the first route of a prefix is the peer's, each further one that of a stand-in
   addresses              of IPv6, of 127.0.0.0/8 and others that no host has, of peers and next hops: a stand-in
   IPv4 in types 14, 15   goes to the UPDATE's own fields (RFC 4760, RFC 8950)
+  confederations         a path is what they tell outside: their segments are taken out (RFC 5065)
   long UPDATEs           above 4,096 octets (RFC 8654) become several
   changes of state       of which neither end is Established are those of another connection, and are left out; so are NOTIFICATIONs where
                          changes of state tell the ends; where none does, a NOTIFICATION and an OPEN end the session before

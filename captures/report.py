@@ -8,6 +8,7 @@ CHANGED = {
     'own': 'UPDATEs with IPv4 routes in types 14 and 15, which stand in their own fields now',
     'hop': 'UPDATEs with a NEXT_HOP that no host has, for which another one stands now',
     'no hop': 'UPDATEs with a NEXT_HOP and no prefix of their own, without it now',
+    'confederation': 'paths with segments of a confederation (RFC 5065), without them now',
     'long': 'UPDATEs of more than 4,096 octets, which are several now',
     'ends': 'changes of state whose two ends were exchanged',
     'ended': 'NOTIFICATIONs and OPENs that end a session, where no change of state tells ends',

@@ -83,8 +83,9 @@ class Sessions(unittest.TestCase):
 
     def test_without_changes_of_state_messages_tell_the_end(self):
         note = message(wire.message(wire.NOTIFICATION, b'\6\2'))
-        written, _ = prepared(message(SAID) + note + message(SAID) + message(wire.opening(65001, '192.0.2.1')) + message(SAID))
+        written, told = prepared(message(SAID) + note + message(SAID) + message(wire.opening(65001, '192.0.2.1')) + message(SAID))
         end = mrt.made_states(True, 6, 1)
+        self.assertIn(preparation.NO_STATES, told)
         self.assertEqual(written, message(SAID) + note + end + message(SAID) + end + message(SAID))
 
     def test_ends_that_are_exchanged(self):
@@ -142,6 +143,18 @@ class Numbers(unittest.TestCase):
         self.assertEqual(messages.merged([(sequence, [1])], [(sequence, [70000, 3])]), [(sequence, [1])])
         self.assertEqual(messages.merged([(sequence, [1, 2]), (a_set, [3, 4])], [(a_set, [70000, 4])]), [(sequence, [1, 2]), (a_set, [70000, 4])])
         self.assertEqual(messages.merged([(sequence, [1, 2])], [(3, [9]), (sequence, [70000])]), [(sequence, [1, 70000])])
+
+    def test_segments_of_a_confederation(self):
+        """RFC 5065, section 4.1: outside the path has none of them; what can't be read stays."""
+        path, wide = struct.pack('>BBIBBIBBI', 3, 1, 65101, 4, 1, 65102, 2, 1, 65001), struct.pack('>BBI', 2, 1, 65001)
+        for front in b'\x40\2\x12', b'\x50\2\0\x12':
+            written, told = prepared(UP + message(SAID) + message(update(b'', ORIGIN + front + path + HOP, EIGHT)))
+            self.assertEqual(written, UP + message(SAID) + message(update(b'', ORIGIN + front[:-1] + b'\6' + wide + HOP, EIGHT)))
+            self.assertIn('changed 1: paths with segments of a confederation (RFC 5065), without them now', told)
+        narrow = struct.pack('>BBHBBH', 3, 1, 65101, 2, 1, 65001)
+        self.assertEqual(prepared(mrt.made_message(False, update(b'', ORIGIN + b'\x40\2\x08' + narrow + HOP, EIGHT)))[0], message(SAID))
+        cut = message(update(b'', ORIGIN + b'\x40\2\5\3\1\0\0\xfe' + HOP, EIGHT))
+        self.assertEqual(prepared(cut)[0], cut)
 
     def test_the_wider_number_of_a_peer_is_its_number(self):
         narrow = update(b'', ORIGIN + PATH_OF_TWO + HOP, EIGHT)

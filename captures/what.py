@@ -42,9 +42,6 @@ class Look(preparation.Preparation):
         """Whether anything would be written."""
         return bool(self.said or self.sessions)
 
-    def has_states(self):
-        return any(peer.tells_states for peer in self.peers.values())
-
     def is_dump(self):
         return any(kind in (mrt.TABLE_DUMP, mrt.TABLE_DUMP_V2) for kind, _ in self.kinds)
 
@@ -62,7 +59,7 @@ class Look(preparation.Preparation):
         yield from self.told_of_peers()
         yield from self.report.reasons('put right', 'left out')
         if self.said and not self.is_dump() and not self.has_states():
-            yield 'no change of state: a session that fell isn\'t seen, unless by a NOTIFICATION or an OPEN; have the router write all'
+            yield preparation.NO_STATES + '; have the router write all'
 
     def told_of_peers(self):
         peers = [peer for peer in self.peers.values() if self.said[peer.address] or self.sessions[peer.address]]
