@@ -25,9 +25,13 @@ import shown
 import tables
 
 
+# the captures of a daemon, and the files of each in their order; the last two only where it tells no ends of sessions (make.py)
+FILES = {'all': ['all.mrt'], 'dump': ['dump.mrt', 'behind.mrt'], 'told': ['told.mrt'], 'later': ['later.mrt']}
+
+
 def captures(folder):
-    """The captures of a daemon: name, and the files in their order."""
-    for name, files in (('all', ['all.mrt']), ('dump', ['dump.mrt', 'behind.mrt'])):
+    """The captures of a daemon that are there: name, and the paths of the files."""
+    for name, files in FILES.items():
         paths = [os.path.join(folder, file) for file in files]
         if all(map(os.path.isfile, paths)):
             yield name, paths
@@ -47,7 +51,7 @@ def prepared(paths):
 
 
 def told(folder, events, output, stand_ins):
-    """Prints of each peer how many prefixes differ, and the first of them; yields its number and how many."""
+    """Prints of each peer how many prefixes differ, and the first of them; yields its number, how many it has, and how many differ."""
     peers = {words[1]: words[4] for words in map(str.split, events) if words[:1] == ['peer']}
     links = tables.Tables().take_all(output).links
     ours = shown.with_real_hops(shown.of_tables(links, peers, stand_ins), stand_ins)
@@ -57,7 +61,7 @@ def told(folder, events, output, stand_ins):
         print('    peer %d: %d prefixes, %d differ' % (number, count, len(differing)))
         for prefix in differing[:3]:
             print('      %s: program %s; daemon %s' % (prefix, ours.get(number, {}).get(prefix), theirs.get(number, {}).get(prefix)))
-        yield number, len(differing)
+        yield number, count, len(differing)
 
 
 def read(name, suffix):
@@ -78,7 +82,7 @@ def main():
             octets, stand_ins = prepared(paths)
             is_same = octets == read(name, '.mrt')
             print('%s: %s' % (name, 'as kept' if is_same else 'prepare.py makes another capture of it'))
-            wrong += sum(count for _, count in told(folder, lines(read(name, '.events')), lines(read(name, '.out')), stand_ins)) + (not is_same)
+            wrong += sum(differing for _, _, differing in told(folder, lines(read(name, '.events')), lines(read(name, '.out')), stand_ins)) + (not is_same)
     return 1 if wrong else 0
 
 

@@ -166,10 +166,11 @@ class Peer(session.Connection):
 
 
 class Eight:
-    """All of them, with a hold time that is 0 or longer than the story. `rest` waits until the router has done what it has to do."""
+    """All of them, with a hold time that is 0 or longer than the story. `rest` waits until the router has done what it has to do; `ended`
+    is told the number of a peer whose session has ended."""
 
-    def __init__(self, count, rest, hold=0):
-        self.rest, self.hold = rest, hold
+    def __init__(self, count, rest, ended, hold=0):
+        self.rest, self.ended, self.hold = rest, ended, hold
         self.peers = {number: Peer(number, hold) for number in ASES}
         self.said = {number: said_by(number, count) for number in self.peers}
         self.left_out = [number for number, peer in self.peers.items() if not peer.takes()]
@@ -242,6 +243,7 @@ class Eight:
         self.peers[number].close()
         self.rest()
         time.sleep(1)
+        self.ended(number)
 
     def back(self, number):
         """A session anew; a router may refuse it for a while after the end of the last one."""

@@ -8,15 +8,21 @@ in the middle of it a table dump. Of the whole capture, and of the dump with wha
   1. prepare.py makes a capture of it that `mrt --as4` reads whole, `mrt` an event file, and `run` the tables
   2. the rows of each peer's `filt.K`, and of its stand-ins, are compared with the routes that the daemon shows at the end
 
-How many differ is said of each peer, and the first of them. `--kept` writes captures/kept/ anew, with the stories in examples/: small captures with
-the daemon's own table, so that captures/check.py compares without a daemon. `--keep FOLDER` keeps all files.
+How many differ is said of each peer, and the first of them; at the end of all a table in Markdown (bench/README.md). Where a router records no change
+of state (GoBGP), a capture lacks the ends of sessions, and the peers whose sessions ended may differ. Then two captures more are compared, in which
+nothing may: `told`, the whole one with a change of state put in where each session ended, and `later`, a table dump written at the end.
+
+`--kept` writes captures/kept/ anew, with the stories in examples/: small captures with the daemon's own table, so
+that captures/check.py compares without a daemon. `--keep FOLDER` keeps all files.
 
 Statuses: 0; 1 where something differs; 2 where nothing could be compared. Needs root, `ip netns`, and Debian's `bird2`, `frr`, `openbgpd`, `gobgpd`;
 what isn't installed is left out.
 """
 import argparse
+import io
 import os
 import signal
+import socket
 import subprocess
 import sys
 import tempfile
@@ -25,6 +31,7 @@ import time
 sys.dont_write_bytecode = True
 import check
 import eight
+import mrt
 import namespaces
 import program
 import router
@@ -34,6 +41,9 @@ from recorders import RECORDERS
 
 SMALL = 12  # routes of each peer of a story
 QUIET = .3  # seconds
+SPECIAL = {4: 'long messages', 5: 'several paths of a prefix', 8: 'IPv4 over IPv6'}  # of peers
+HEAD = '''| Router | Prefixes | Whole | Dump | Lacks | Not taken by the router |
+|---|---|---|---|---|---|'''
 
 
 class Bench:
@@ -71,18 +81,38 @@ def rest_of(recorder):
 
 
 def recorded(recorder, routes):
-    """The whole capture of a daemon, its dump with what is behind it, what it shows at the end, and what it doesn't take."""
-    rest = rest_of(recorder)
-    peers = eight.Eight(routes, rest, recorder.hold)
+    """The captures of a daemon by file, what it shows at the end, the peers of which it doesn't take what is special, and those of which the
+    capture lacks the ends of sessions."""
+    ends = []
+    peers = eight.Eight(routes, rest_of(recorder), lambda number: ends.append((number, len(recorder.capture()))), recorder.hold)
     try:
         peers.announce()
         peers.connect_twice()
-        dump, size = (recorder.dump(), len(recorder.capture())) if recorder.dumps_table else (None, 0)
+        dump, size = recorder.dump(), len(recorder.capture())
         peers.change()
         whole, shows = recorder.capture(), recorder.shows()
+        files = {'all.mrt': whole, 'dump.mrt': dump, 'behind.mrt': whole[size:]}
+        is_told = has_states(whole)
+        if not is_told:
+            files.update({'told.mrt': with_ends(whole, ends), 'later.mrt': recorder.dump()})
     finally:
         peers.close()
-    return {'all.mrt': whole} if dump is None else {'all.mrt': whole, 'dump.mrt': dump, 'behind.mrt': whole[size:]}, shows, peers.left_out
+    return files, shows, peers.left_out, set() if is_told else {number for number, _ in ends}
+
+
+def has_states(octets):
+    """Whether a capture has a change of state."""
+    return any(kind in (mrt.BGP4MP, mrt.BGP4MP_ET) and subtype in (mrt.STATE_CHANGE, mrt.STATE_CHANGE_AS4)
+               for _, kind, subtype, _ in mrt.records(io.BytesIO(octets)))
+
+
+def with_ends(octets, ends):
+    """A capture with a change of state at each of these places."""
+    found, at = [], 0
+    for number, place in ends:
+        found += octets[at:place], mrt.made_states(True, mrt.ESTABLISHED, 1, peer_as=eight.ASES[number], peer=socket.inet_aton(eight.address(number)))
+        at = place
+    return b''.join(found) + octets[at:]
 
 
 def write(folder, files, shows):
@@ -94,25 +124,54 @@ def write(folder, files, shows):
         file.write(shown.stored(shows))
 
 
-def compared(folder, words, lacks):
-    """Prints what differs between the program's tables and those that the daemon shows; how much that is, but for what a capture lacks."""
-    wrong = 0
+def compared(folder, words):
+    """Compares the program's tables with those that the daemon shows, and prints what differs; of each capture the prefixes, and how many
+    of them differ, by peer."""
+    found = {}
     for name, paths in check.captures(folder):
         octets, stand_ins = check.prepared(paths)
         events = subprocess.run(words + ['mrt', '--as4'], input=octets, stdout=subprocess.PIPE, check=True).stdout
         ran = subprocess.Popen(words + ['run'], stdin=subprocess.PIPE, stdout=subprocess.PIPE)
         output = ran.communicate(events)[0].decode('ascii').split('\n')[:-1]
         print('  %s: %d octets, %d lines of events, %d of output' % (name, len(octets), events.count(b'\n'), len(output)))
-        for number, count in check.told(folder, events.decode('ascii').split('\n'), output, stand_ins):
-            if number in lacks:
-                print('    (the capture tells no end of a session of peer %d)' % number)
-            else:
-                wrong += count
-    return wrong
+        found[name] = list(check.told(folder, events.decode('ascii').split('\n'), output, stand_ins))
+    return found
+
+
+class Row:
+    """A daemon's row of the table."""
+
+    def __init__(self, name, found, left_out, untold):
+        self.name, self.found, self.left_out, self.untold = name, found, left_out, untold
+
+    def excused(self, capture):
+        """The peers that may differ in a capture, since it lacks the ends of their sessions."""
+        return self.untold if capture in ('all', 'dump') else set()
+
+    def wrong(self):
+        """How many prefixes differ, but for what the capture lacks."""
+        return sum(differing for capture, peers in self.found.items() for number, _, differing in peers if number not in self.excused(capture))
+
+    def cell(self, capture):
+        """How many differ in a capture, and of which peers."""
+        peers = self.found.get(capture, [])
+        differing = [(number, count) for number, _, count in peers if count]
+        return '' if not peers else '0' if not differing else ', '.join('%s of peer %d' % (format(count, ','), number) for number, count in differing)
+
+    def lacks(self):
+        if not self.untold:
+            return ''
+        return 'the ends of sessions of peer %s: with them %s, by a later dump %s' % (
+            ', '.join(map(str, sorted(self.untold))), self.cell('told'), self.cell('later'))
+
+    def words(self):
+        prefixes = sum(count for _, count, _ in self.found['told' if 'told' in self.found else 'all'])
+        return '| %s | %s | %s | %s | %s | %s |' % (
+            self.name, format(prefixes, ','), self.cell('all'), self.cell('dump'), self.lacks(), '; '.join(SPECIAL[number] for number in self.left_out))
 
 
 def made(name, routes, words, folder):
-    """One daemon's captures in a folder, compared; how much differs."""
+    """One daemon's captures in a folder, compared: its row of the table."""
     bench, recorder = Bench(), None
     with tempfile.TemporaryDirectory(prefix='captures-') as home:
         os.chmod(home, 0o755)
@@ -123,7 +182,7 @@ def made(name, routes, words, folder):
             with open('/proc/self/ns/net', encoding='ascii') as own:
                 namespaces.enter(bench.peers)
                 try:
-                    files, shows, left_out = recorded(recorder, routes)
+                    files, shows, left_out, untold = recorded(recorder, routes)
                 finally:
                     namespaces.set_to(own)
         finally:
@@ -133,7 +192,9 @@ def made(name, routes, words, folder):
     write(folder, files, shows)
     print('%s %s: %s%s' % (name, recorder.version(), ', '.join('%s of %d octets' % (one, len(files[one])) for one in files),
                            '; it does not take what is special of peer %s' % ', '.join(map(str, left_out)) if left_out else ''))
-    return compared(folder, words, recorder.lacks)
+    if untold:
+        print('  it records no change of state: the ends of sessions of peer %s aren\'t in `all` and `dump`' % ', '.join(map(str, sorted(untold))))
+    return Row('%s %s' % (name, recorder.version()), compared(folder, words), left_out, untold)
 
 
 def stories(name, folder, words):
@@ -169,12 +230,12 @@ def main():
         return 2
     for sign in (signal.SIGINT, signal.SIGTERM):
         signal.signal(sign, signal.default_int_handler)
-    wrong, failed = 0, 0
+    rows, failed = [], 0
     with tempfile.TemporaryDirectory(prefix='captures-') as made_folder:
         for name in there:
             folder = os.path.join(check.KEPT if asked.kept else asked.keep or made_folder, name)
             try:
-                wrong += made(name, SMALL if asked.kept else asked.routes, asked.program.split(' '), folder)
+                rows.append(made(name, SMALL if asked.kept else asked.routes, asked.program.split(' '), folder))
                 if asked.kept:
                     stories(name, folder, asked.program.split(' '))
             except (OSError, EOFError, router.Failed, session.Refused, subprocess.SubprocessError) as error:
@@ -182,7 +243,8 @@ def main():
                 print('%s: no capture: %s' % (name, error))
             except KeyboardInterrupt:
                 return 130
-    return 1 if wrong else 2 if failed else 0
+    print('\n'.join([HEAD] + [row.words() for row in rows]))
+    return 1 if any(row.wrong() for row in rows) else 2 if failed else 0
 
 
 if __name__ == '__main__':

@@ -3,7 +3,6 @@
 What a router shows is one table a peer: of each prefix the routes, each as a Route. Fields that it doesn't show are None.
 """
 import collections
-import glob
 import json
 import os
 import re
@@ -69,7 +68,12 @@ GOBGP = '''[global.config]
 [[mrt-dump]]
   [mrt-dump.config]
     dump-type = "updates"
-    file-name = "FOLDER/all.mrt"
+    file-name = "all.mrt"
+[[mrt-dump]]
+  [mrt-dump.config]
+    dump-type = "table"
+    file-name = "dumps.mrt"
+    dump-interval = 60
 '''
 GOBGP_PEER = '''[[neighbors]]
   [neighbors.config]
@@ -103,8 +107,7 @@ def origin(word):
 class Recorder(router.Router):
     """A router that writes a capture into a folder. Not for other folders' `wanted`: it has the eight peers."""
 
-    dumps_table, hold = True, 0
-    lacks = ()  # peers of which the capture doesn't tell all
+    hold = 0
     limit = 300  # a whole table takes a while
 
     def __init__(self, folder, namespace):
@@ -130,16 +133,19 @@ class Recorder(router.Router):
         """The routes of each peer: by its number, then by prefix."""
         raise NotImplementedError
 
-    def dumped(self, pattern, seconds=90):
-        """The octets of a dump, once it is written and grows no more."""
+    def dumped(self, name, behind=0, seconds=90):
+        """The octets of a dump, which begins at that place of a file, once it is written and grows no more."""
+        def size():
+            return os.path.getsize(self.path(name)) if os.path.exists(self.path(name)) else 0
+
         def is_whole():
-            paths = glob.glob(self.path(pattern))
-            sizes = [os.path.getsize(path) for path in paths]
+            before = size()
             time.sleep(.5)
-            return bool(paths) and min(sizes) > 0 and sizes == [os.path.getsize(path) for path in paths]
+            return behind < before == size()
         if not namespaces.until(is_whole, seconds):
             raise router.Failed('%s writes no table dump' % self.name)
-        with open(sorted(glob.glob(self.path(pattern)))[-1], 'rb') as file:
+        with open(self.path(name), 'rb') as file:
+            file.seek(behind)
             return file.read()
 
 
@@ -241,9 +247,7 @@ class OpenBgpd(Recorder):
 
 class GoBgp(Recorder):
     name, package, programs = 'gobgp', 'gobgpd', ('gobgpd', 'gobgp')
-    # it writes a table dump a minute at most; where the hold time is 0, it gives itself no time to write a message
-    dumps_table, hold = False, 240
-    lacks = (6,)  # it records no change of state: the routes of a lost session stay
+    hold = 240  # where it is 0, it gives itself no time to write a message
 
     def configuration(self):
         return GOBGP + of_each(GOBGP_PEER, eight.ASES)
@@ -252,8 +256,14 @@ class GoBgp(Recorder):
         return self.command(['gobgp'] + words.split(), may_fail)
 
     def start(self):
-        self.run(['gobgpd', '-f', self.conf(), '-t', 'toml'])
+        # it takes the name of a file for a form of the time, so digits of a folder become those of the day: no folder stands in it
+        self.run(['sh', '-c', 'cd "$0" && exec "$@"', self.folder, 'gobgpd', '-f', self.conf(), '-t', 'toml'])
         self.wait(lambda: 'AS' in self.gobgp('global', True))
+
+    def dump(self):
+        """The next one: it writes one a minute, behind the others."""
+        behind = os.path.getsize(self.path('dumps.mrt'))
+        return self.dumped('dumps.mrt', behind)
 
     def shows(self):
         found = collections.defaultdict(lambda: collections.defaultdict(list))
