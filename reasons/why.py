@@ -182,18 +182,28 @@ def answer(asked, lines):
     return 0 if any(made.row('in.%d' % number) for number in found.peers()) or made.row('red') else 1
 
 
+def compared(found, wanted):
+    """Each prefix with a route: the row that the steps give, the one on `best`, and the number of the last step at which a route lost; 0 where
+    there is one alone, or an own one."""
+    resolved = {number: found.links['res.%d' % number] for number in wanted.peers}
+    for prefix in sorted(set(found.links['best']).union(found.links['red'], *resolved.values()), key=values.prefix_key):
+        own = found.row('red', prefix)
+        if own:
+            yield prefix, own, found.row('best', prefix), 0
+            continue
+        winner, lost = decision.decided([decision.candidate(wanted, number, rows[prefix]) for number, rows in resolved.items() if prefix in rows])
+        yield prefix, resolved[winner.peer][prefix], found.row('best', prefix), max((step.number for step, _ in lost.values()), default=0)
+
+
 def agree(asked, lines):
     """Prints at how many prefixes the decision gives the row of `best`; the status."""
-    found, wanted, wrong = tables_of(asked, lines, [], lambda link, one: True), declared(lines), 0
-    resolved = {number: found.links['res.%d' % number] for number in wanted.peers}
-    prefixes = set(found.links['best']).union(found.links['red'], *resolved.values())
-    for prefix in sorted(prefixes, key=values.prefix_key):
-        candidates = [decision.candidate(wanted, number, rows[prefix]) for number, rows in resolved.items() if prefix in rows]
-        best = found.row('red', prefix) or resolved[decision.decided(candidates)[0].peer][prefix]
-        if best != found.row('best', prefix):
+    count, wrong = 0, 0
+    for prefix, ours, theirs, _ in compared(tables_of(asked, lines, [], lambda link, one: True), declared(lines)):
+        count += 1
+        if ours != theirs:
             wrong += 1
-            print('%s: by the steps %s, on `best` %s' % (prefix, best, found.row('best', prefix)))
-    print('%d prefixes, %d differ' % (len(prefixes), wrong))
+            print('%s: by the steps %s, on `best` %s' % (prefix, ours, theirs))
+    print('%d prefixes, %d differ' % (count, wrong))
     return 1 if wrong else 0
 
 
