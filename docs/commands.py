@@ -39,6 +39,8 @@ SAMPLES = {
     'bgp.mrt': 'examples/captured_by_bird.mrt',
     'rib.20260101.0000.bz2': 'captures/kept/bird/dump.mrt',
     'updates.20260101.0000.bz2': 'examples/captured_by_frr.mrt',
+    'table.mrt': 'captures/kept/bird/dump.mrt',
+    'gobgp.mrt': 'examples/captured_by_frr.mrt',
 }
 SECONDS = 900
 
