@@ -12,6 +12,7 @@ import os
 import sys
 
 sys.dont_write_bytecode = True
+import files
 import mrt
 
 FLUSHED = 1 << 24  # octets that are kept before they are written
@@ -55,7 +56,7 @@ def main(folder, paths):
     parts, status = Parts(folder), 0
     for path in paths or ['-']:
         try:
-            for when, kind, subtype, body in mrt.read(path):
+            for when, kind, subtype, body in files.read(path):
                 address = peer_of(kind, subtype, body)
                 if address:
                     parts.take(address, mrt.record(kind, subtype, body, when))

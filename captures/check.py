@@ -26,7 +26,7 @@ import tables
 
 
 # the captures of a daemon, and the files of each in their order; the last two only where it tells no ends of sessions (make.py)
-FILES = {'all': ['all.mrt'], 'dump': ['dump.mrt', 'behind.mrt'], 'told': ['told.mrt'], 'later': ['later.mrt']}
+FILES = {'all': ['all.mrt'], 'dump': ['dump.mrt', 'behind.mrt'], 'bmp': ['stream.bmp'], 'told': ['told.mrt'], 'later': ['later.mrt']}
 
 
 def captures(folder):

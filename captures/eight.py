@@ -28,7 +28,7 @@ import wire
 
 ROUTER, ROUTER6, ROUTER_AS = '192.0.2.254', '2001:db8::fe', 65000
 ASES = {1: 65001, 2: 4200000002, 3: 65003, 4: 65004, 5: 65005, 6: 65006, 7: 65007, 8: 65008}
-EXTENDED_MESSAGES, EXTENDED_NEXT_HOP, PATHS = 6, 5, 69  # capabilities
+EXTENDED_MESSAGES, EXTENDED_NEXT_HOP = 6, 5  # capabilities
 CEASE = wire.message(wire.NOTIFICATION, bytes([6, 4]))
 OPENED_WITHIN = 60  # seconds
 
@@ -43,20 +43,8 @@ def capability(code, value=b''):
 
 def families(number):
     """The capabilities of a peer's OPEN."""
-    more = {4: capability(EXTENDED_MESSAGES), 5: capability(PATHS, b'\0\1\1\2'), 8: capability(EXTENDED_NEXT_HOP, b'\0\1\0\1\0\2')}
+    more = {4: capability(EXTENDED_MESSAGES), 5: capability(messages.PATHS, b'\0\1\1\2'), 8: capability(EXTENDED_NEXT_HOP, b'\0\1\0\1\0\2')}
     return wire.IPV4_UNICAST + more.get(number, b'')
-
-
-def capabilities(body):
-    """The capabilities of an OPEN (RFC 5492), by their codes."""
-    found, at = {}, 10
-    while at + 2 <= len(body):
-        kind, value = body[at], body[at + 2:at + 2 + body[at + 1]]
-        at += 2 + len(value)
-        while kind == 2 and len(value) >= 2:
-            found[value[0]] = value[2:2 + value[1]]
-            value = value[2 + value[1]:]
-    return found
 
 
 # ---- what they say
@@ -137,7 +125,7 @@ class Peer(session.Connection):
     def __init__(self, number, hold):
         self.number, self.hold, self.heard = number, hold, None  # the last NOTIFICATION
         super().__init__(session.connect(address(number), (ROUTER6 if number == 8 else ROUTER, 179), OPENED_WITHIN))
-        self.theirs = capabilities(self.open(self.ours(), OPENED_WITHIN))
+        self.theirs = messages.capabilities(self.open(self.ours(), OPENED_WITHIN))
         threading.Thread(target=self.listen, daemon=True).start()
 
     def ours(self):
@@ -160,7 +148,7 @@ class Peer(session.Connection):
     def takes(self):
         """Whether the router takes what is special of this peer."""
         if self.number == 5:
-            found = self.theirs.get(PATHS, b'')
+            found = self.theirs.get(messages.PATHS, b'')
             return any(found[at:at + 3] == messages.IPV4_UNICAST and found[at + 3] & 1 for at in range(0, len(found), 4))
         return {4: EXTENDED_MESSAGES, 8: EXTENDED_NEXT_HOP}.get(self.number, 0) in self.theirs or self.number not in (4, 8)
 

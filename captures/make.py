@@ -19,6 +19,7 @@ Statuses: 0; 1 where something differs; 2 where nothing could be compared. Needs
 what isn't installed is left out.
 """
 import argparse
+import contextlib
 import io
 import os
 import signal
@@ -37,13 +38,13 @@ import program
 import router
 import session
 import shown
-from recorders import RECORDERS
+from recorders import RECORDERS, Station
 
 SMALL = 12  # routes of each peer of a story
 QUIET = .3  # seconds
 SPECIAL = {4: 'long messages', 5: 'several paths of a prefix', 8: 'IPv4 over IPv6'}  # of peers
-HEAD = '''| Router | Prefixes | Whole | Dump | Lacks | Not taken by the router |
-|---|---|---|---|---|---|'''
+HEAD = '''| Router | Prefixes | Whole | Dump | BMP | Lacks | Not taken by the router |
+|---|---|---|---|---|---|---|'''
 
 
 class Bench:
@@ -67,6 +68,17 @@ class Bench:
             namespaces.delete(name)
 
 
+@contextlib.contextmanager
+def inside(namespace):
+    """This process in a namespace, for a while."""
+    with open('/proc/self/ns/net', encoding='ascii') as own:
+        namespaces.enter(namespace)
+        try:
+            yield
+        finally:
+            namespaces.set_to(own)
+
+
 def rest_of(recorder):
     """What waits until a daemon takes hardly any CPU."""
     def rest():
@@ -80,7 +92,7 @@ def rest_of(recorder):
     return rest
 
 
-def recorded(recorder, routes):
+def recorded(recorder, station, routes):
     """The captures of a daemon by file, what it shows at the end, the peers of which it doesn't take what is special, and those of which the
     capture lacks the ends of sessions."""
     ends = []
@@ -91,7 +103,7 @@ def recorded(recorder, routes):
         dump, size = recorder.dump(), len(recorder.capture())
         peers.change()
         whole, shows = recorder.capture(), recorder.shows()
-        files = {'all.mrt': whole, 'dump.mrt': dump, 'behind.mrt': whole[size:]}
+        files = {'all.mrt': whole, 'dump.mrt': dump, 'behind.mrt': whole[size:], **({'stream.bmp': station.octets} if station else {})}
         is_told = has_states(whole)
         if not is_told:
             files.update({'told.mrt': with_ends(whole, ends), 'later.mrt': recorder.dump()})
@@ -166,28 +178,29 @@ class Row:
 
     def words(self):
         prefixes = sum(count for _, count, _ in self.found['told' if 'told' in self.found else 'all'])
-        return '| %s | %s | %s | %s | %s | %s |' % (
-            self.name, format(prefixes, ','), self.cell('all'), self.cell('dump'), self.lacks(), '; '.join(SPECIAL[number] for number in self.left_out))
+        return '| %s | %s | %s | %s | %s | %s | %s |' % (
+            self.name, format(prefixes, ','), self.cell('all'), self.cell('dump'), self.cell('bmp'), self.lacks(), '; '.join(SPECIAL[number] for number in self.left_out))
 
 
 def made(name, routes, words, folder):
     """One daemon's captures in a folder, compared: its row of the table."""
-    bench, recorder = Bench(), None
+    bench, recorder, station = Bench(), None, None
     with tempfile.TemporaryDirectory(prefix='captures-') as home:
         os.chmod(home, 0o755)
         try:
             bench.make()
             recorder = RECORDERS[name](home, bench.router)
+            if recorder.speaks_bmp:
+                with inside(bench.router):
+                    station = Station()
             recorder.start()
-            with open('/proc/self/ns/net', encoding='ascii') as own:
-                namespaces.enter(bench.peers)
-                try:
-                    files, shows, left_out, untold = recorded(recorder, routes)
-                finally:
-                    namespaces.set_to(own)
+            with inside(bench.peers):
+                files, shows, left_out, untold = recorded(recorder, station, routes)
         finally:
             if recorder:
                 recorder.stop()
+            if station:
+                station.close()
             bench.delete()
     write(folder, files, shows)
     print('%s %s: %s%s' % (name, recorder.version(), ', '.join('%s of %d octets' % (one, len(files[one])) for one in files),

@@ -12,6 +12,7 @@ import wire
 MOST = 4096  # octets of a message without RFC 8654
 MP_REACH, MP_UNREACH, AS4_PATH, AS4_AGGREGATOR = 14, 15, 17, 18
 IPV4_UNICAST, IPV6_UNICAST = b'\0\1\1', b'\0\2\1'  # AFI and SAFI
+WIDE, PATHS = 65, 69  # capabilities: AS numbers of four octets, path identifiers
 AS_SET, AS_SEQUENCE = 1, 2
 CONFEDERATION = (3, 4)  # types of segments (RFC 5065, section 3)
 OF_A_CONFEDERATION = tuple(bytes([kind]) for kind in CONFEDERATION)  # how such a path begins
@@ -56,6 +57,18 @@ def read(octets, with_paths=False):
     """What an UPDATE says, by its own fields. ValueError where they don't fit."""
     gone, said, come = wire.fields(octets[19:])
     return Said(prefixes(gone, with_paths), attributes(said), prefixes(come, with_paths))
+
+
+def capabilities(body):
+    """The capabilities of an OPEN (RFC 5492), by their codes."""
+    found, at = {}, 10
+    while at + 2 <= len(body):
+        kind, value = body[at], body[at + 2:at + 2 + body[at + 1]]
+        at += 2 + len(value)
+        while kind == 2 and len(value) >= 2:
+            found[value[0]] = value[2:2 + value[1]]
+            value = value[2 + value[1]:]
+    return found
 
 
 def segments(octets, width):

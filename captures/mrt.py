@@ -1,23 +1,21 @@
-"""MRT files (RFC 6396, RFC 8050): their records, read one by one or made; also of files that gzip, bzip2 or xz packed."""
-import bz2
+"""MRT files (RFC 6396, RFC 8050): their records, read one by one or made."""
 import collections
-import contextlib
-import gzip
 import lzma
 import socket
 import struct
-import sys
 import zlib
 
 TABLE_DUMP, TABLE_DUMP_V2, BGP4MP, BGP4MP_ET = 12, 13, 16, 17
+BMP = 1 << 16  # no type of a record: what bmp.py has no use for
 STATE_CHANGE, MESSAGE, MESSAGE_AS4, STATE_CHANGE_AS4 = 0, 1, 4, 5
 MESSAGE_ADDPATH, MESSAGE_AS4_ADDPATH = 8, 9
 LOCAL_MESSAGES = (6, 7, 10, 11)  # what the router itself said
 PEER_INDEX_TABLE = 1
 RIB_IPV4, RIB_IPV6, RIB_IPV4_ADDPATH, RIB_IPV6_ADDPATH = 2, 4, 8, 10
 ESTABLISHED = 6
+AS_TRANS = 23456
 
-TYPES = {11: 'OSPFv2', 12: 'TABLE_DUMP', 13: 'TABLE_DUMP_V2', 16: 'BGP4MP', 17: 'BGP4MP_ET', 32: 'ISIS', 33: 'ISIS_ET', 48: 'OSPFv3', 49: 'OSPFv3_ET'}
+TYPES = {11: 'OSPFv2', 12: 'TABLE_DUMP', 13: 'TABLE_DUMP_V2', 16: 'BGP4MP', 17: 'BGP4MP_ET', 32: 'ISIS', 33: 'ISIS_ET', 48: 'OSPFv3', 49: 'OSPFv3_ET', BMP: 'BMP'}
 SUBTYPES = {
     TABLE_DUMP: {1: 'AFI_IPv4', 2: 'AFI_IPv6'},
     TABLE_DUMP_V2: {1: 'PEER_INDEX_TABLE', 2: 'RIB_IPV4_UNICAST', 3: 'RIB_IPV4_MULTICAST', 4: 'RIB_IPV6_UNICAST', 5: 'RIB_IPV6_MULTICAST',
@@ -26,25 +24,13 @@ SUBTYPES = {
     BGP4MP: {0: 'STATE_CHANGE', 1: 'MESSAGE', 4: 'MESSAGE_AS4', 5: 'STATE_CHANGE_AS4', 6: 'MESSAGE_LOCAL', 7: 'MESSAGE_AS4_LOCAL',
              8: 'MESSAGE_ADDPATH', 9: 'MESSAGE_AS4_ADDPATH', 10: 'MESSAGE_LOCAL_ADDPATH', 11: 'MESSAGE_AS4_LOCAL_ADDPATH'},
 }
+SUBTYPES[BMP] = {0: 'Route Monitoring', 1: 'Statistics Report', 2: 'Peer Down', 3: 'Peer Up', 4: 'Initiation', 5: 'Termination', 6: 'Route Mirroring'}
 SUBTYPES[BGP4MP_ET] = SUBTYPES[BGP4MP]
 WITH_WIDE_NUMBERS = (4, 5, 7, 9, 11)  # subtypes of BGP4MP whose AS numbers have four octets
 
 HEAD = struct.Struct('>IHHI')
 BLOCK = 1 << 20
 MOST = 1 << 24  # octets of a record: no router or collector writes one that is longer
-
-# what else a file may be, by its first octets
-PACKED = {b'\x1f\x8b': ('gzip', gzip.open), b'BZh': ('bzip2', bz2.open), b'\xfd7zXZ': ('xz', lzma.open)}
-FOREIGN = {
-    b'\x28\xb5\x2f\xfd': 'it is packed by zstd: unpack it first (zstd -d)',
-    b'PK\3\4': 'it is a zip archive: unpack it first (unzip)',
-    b'\xd4\xc3\xb2\xa1': 'it is a packet capture (pcap, as tcpdump writes it): a router or collector has to write the MRT file',
-    b'\xa1\xb2\xc3\xd4': 'it is a packet capture (pcap, as tcpdump writes it): a router or collector has to write the MRT file',
-    b'\x4d\x3c\xb2\xa1': 'it is a packet capture (pcap, as tcpdump writes it): a router or collector has to write the MRT file',
-    b'\x0a\x0d\x0d\x0a': 'it is a packet capture (pcapng, as Wireshark writes it): a router or collector has to write the MRT file',
-    b'\xff' * 16: 'it has bare BGP messages, without the records of an MRT file around them',
-    b'\3\0\0': 'it is a BMP stream (RFC 7854): a BMP station has to write the MRT file',
-}
 
 Sides = collections.namedtuple('Sides', 'peer_as local_as family peer local rest')
 
@@ -53,56 +39,20 @@ class Wrong(Exception):
     """Why a file is none of MRT, or can't be read on."""
 
 
-def foreign(head):
-    """What a file is by its first octets, where it is no MRT file; None where it may be one."""
-    for magic, told in FOREIGN.items():
-        if head.startswith(magic):
-            return told
-    if head and all(octet in b'\t\n\r' or 32 <= octet < 127 for octet in head):
-        return 'it is a text, which begins with %s' % ascii(head[:24].decode('ascii'))
-    return None
-
-
-@contextlib.contextmanager
-def opened(path):
-    """The octets of a file as one can read them, and how it is packed; `-` is standard input. Wrong where it is no MRT file by its
-    first octets."""
-    with contextlib.ExitStack() as stack:
-        file, packing = sys.stdin.buffer if path == '-' else stack.enter_context(open(path, 'rb')), None
-        head = file.peek(64)[:64]
-        for magic, (name, unpack) in PACKED.items():
-            if head.startswith(magic):
-                file, packing = stack.enter_context(unpack(file)), name
-                head = peeked(file)
-        told = foreign(head)
-        if told:
-            raise Wrong(told)
-        yield file, packing
-
-
-def read(path):
-    """The records of a file, as `records` has them."""
-    with opened(path) as (file, _):
-        yield from records(file)
-
-
-def peeked(file):
-    """The first octets of a packed file."""
+def block(file, number):
+    """The next octets of a file. Wrong where it is packed and can't be unpacked on, behind so many records."""
     try:
-        return file.peek(64)[:64]
+        return file.read(BLOCK)
     except (EOFError, OSError, zlib.error, lzma.LZMAError) as error:
-        raise Wrong('it is packed and damaged: %s' % error) from error
+        raise Wrong('it is packed and cut or damaged behind record %d: %s' % (number, error)) from error
 
 
 def records(file):
     """Time, type, subtype and body of each record. Wrong where the file ends within one, or one can't be."""
     rest, number = b'', 0
     while True:
-        try:
-            block = file.read(BLOCK)
-        except (EOFError, OSError, zlib.error, lzma.LZMAError) as error:
-            raise Wrong('it is packed and cut or damaged behind record %d: %s' % (number, error)) from error
-        octets, at = rest + block, 0
+        more = block(file, number)
+        octets, at = rest + more, 0
         end = len(octets)
         while at + 12 <= end:
             when, kind, subtype, size = HEAD.unpack_from(octets, at)
@@ -114,7 +64,7 @@ def records(file):
             yield when, kind, subtype, octets[at + 12:at + 12 + size]
             at += 12 + size
         rest = octets[at:]
-        if not block:
+        if not more:
             break
     if rest:
         raise Wrong('it ends within the %s of record %d: it was cut, or is still being written' % ('header' if len(rest) < 12 else 'body', number + 1))
@@ -130,6 +80,12 @@ def sides(subtype, body):
         raise ValueError('the fields of the record run beyond its length')
     return Sides(int.from_bytes(body[:width], 'big'), int.from_bytes(body[width:2 * width], 'big'), family,
                  body[at:at + size], body[at + size:at + 2 * size], body[at + 2 * size:])
+
+
+def sides_octets(is_wide, told):
+    """The fields of a record of BGP4MP, as `sides` reads them."""
+    numbers = (told.peer_as, told.local_as) if is_wide else [number if number < 65536 else AS_TRANS for number in (told.peer_as, told.local_as)]
+    return struct.pack('>IIHH' if is_wide else '>HHHH', *numbers, 0, told.family) + told.peer + told.local
 
 
 def shown(address):

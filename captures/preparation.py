@@ -4,6 +4,7 @@ import re
 import struct
 
 import dumps
+import files
 import messages
 import mrt
 import speakers
@@ -39,7 +40,7 @@ class Preparation:
         """All records of a file."""
         self.report.files += 1
         begin, until, plain, out, is_plain = self.asked.begin, self.asked.until, self.plain, self.out, self.is_plain
-        for when, kind, subtype, body in mrt.read(path):
+        for when, kind, subtype, body in files.read(path):
             self.report.records += 1
             if subtype == mrt.MESSAGE_AS4 and kind == mrt.BGP4MP and body[:20] in plain and begin <= when <= until and is_plain(body):
                 out += mrt.HEAD.pack(when, kind, subtype, len(body)), body
@@ -87,7 +88,7 @@ class Preparation:
         elif kind == mrt.TABLE_DUMP and subtype in (1, 2):
             self.take_prefix(when, dumps.old_rib(subtype, body), False)
         elif kind not in (mrt.BGP4MP, mrt.BGP4MP_ET) or subtype not in mrt.SUBTYPES[mrt.BGP4MP]:
-            self.report.skip('kind')
+            self.report.skip('bmp' if kind == mrt.BMP else 'kind')
         elif subtype in mrt.LOCAL_MESSAGES:
             self.report.skip('local')
         else:
@@ -398,7 +399,7 @@ def local_side(paths):
     """The first local side of a session in some files: AS and address, or None. A dump doesn't tell the router's AS."""
     for path in paths:
         try:
-            for (_, kind, subtype, body), _ in zip(mrt.read(path), range(AHEAD)):
+            for (_, kind, subtype, body), _ in zip(files.read(path), range(AHEAD)):
                 if kind in (mrt.BGP4MP, mrt.BGP4MP_ET) and subtype in (mrt.MESSAGE, mrt.MESSAGE_AS4, mrt.MESSAGE_AS4_ADDPATH):
                     told = mrt.sides(subtype, body[4:] if kind == mrt.BGP4MP_ET else body)
                     if told.local_as and speakers.usable(told.local):

@@ -1,7 +1,8 @@
 #!/usr/bin/env python3
 """Makes of any MRT files one that `replay mrt --as4` reads whole: prepare.py [OPTIONS] FILE.. | replay mrt --as4 > bgp.events
 
-Files come in order of time, also packed by gzip, bzip2 or xz; `-` is standard input. What stands in them (RFC 6396, RFC 8050):
+Files come in order of time, also packed by gzip, bzip2 or xz; `-` is standard input. A file may be a stream of BMP, too (RFC 7854). What stands
+in them (RFC 6396, RFC 8050):
 
   table dumps            of TABLE_DUMP_V2 and TABLE_DUMP: the peer's session begins, and an UPDATE says each route; updates go behind them,
                          and a later dump stands in the place of an earlier one
@@ -19,7 +20,7 @@ Files come in order of time, also packed by gzip, bzip2 or xz; `-` is standard i
 On standard error: how many records were taken, changed and skipped, a line a reason; which address stands for which; how many peers. With
 --what nothing is written but what is in the files, and the command that fits (docs/CAPTURES.md).
 
-Statuses: 0; 1 where a file is none of MRT or ends within a record (what stands before it was written), or standard output was closed; 2 where
+Statuses: 0; 1 where a file is neither MRT nor BMP, or ends within a record (what stands before it was written), or standard output was closed; 2 where
 a word is wrong or a file isn't there.
 """
 import argparse

@@ -6,7 +6,9 @@ import collections
 import json
 import os
 import re
+import socket
 import sys
+import threading
 import time
 
 HERE = os.path.dirname(os.path.abspath(__file__))
@@ -15,6 +17,7 @@ import eight
 import namespaces
 import router
 
+BMP_PORT = 11019
 Route = collections.namedtuple('Route', 'path origin hop med aggregator')
 
 BIRD = '''router id 192.0.2.254;
@@ -30,6 +33,10 @@ BIRD_PEER = '''protocol bgp peer%(number)d {
 '''
 FRR = '''dump bgp all FOLDER/all.mrt
 router bgp 65000
+ bmp targets station
+  bmp connect 127.0.0.1 port 11019 min-retry 100 max-retry 200
+  bmp monitor ipv4 unicast pre-policy
+ exit
  bgp router-id 192.0.2.254
  no bgp ebgp-requires-policy
  no bgp network import-check
@@ -74,6 +81,10 @@ GOBGP = '''[global.config]
     dump-type = "table"
     file-name = "dumps.mrt"
     dump-interval = 60
+[[bmp-servers]]
+  [bmp-servers.config]
+    address = "127.0.0.1"
+    port = 11019
 '''
 GOBGP_PEER = '''[[neighbors]]
   [neighbors.config]
@@ -108,6 +119,7 @@ class Recorder(router.Router):
     """A router that writes a capture into a folder. Not for other folders' `wanted`: it has the eight peers."""
 
     hold = 0
+    speaks_bmp = False  # to a station at BMP_PORT of 127.0.0.1 in its namespace
     limit = 300  # a whole table takes a while
 
     def __init__(self, folder, namespace):
@@ -149,6 +161,26 @@ class Recorder(router.Router):
             return file.read()
 
 
+class Station:
+    """A monitoring station: keeps what is sent to it. Made in the namespace of the router."""
+
+    def __init__(self):
+        self.octets, self.listening = b'', socket.create_server(('127.0.0.1', BMP_PORT))
+        threading.Thread(target=self.listen, daemon=True).start()
+
+    def listen(self):
+        try:
+            while True:
+                with self.listening.accept()[0] as made:
+                    while more := made.recv(1 << 16):
+                        self.octets += more
+        except OSError:
+            pass
+
+    def close(self):
+        self.listening.close()
+
+
 class Bird(Recorder):
     name, package, programs = 'bird', 'bird2', ('bird', 'birdc')
 
@@ -188,6 +220,7 @@ class Bird(Recorder):
 
 class Frr(Recorder):
     name, package, programs = 'frr', 'frr', ('/usr/lib/frr/bgpd', 'vtysh')
+    speaks_bmp = True
     run_folder = 'frr'
 
     def configuration(self):
@@ -200,7 +233,7 @@ class Frr(Recorder):
 
     def start(self):
         self.run([self.programs[0], '-f', self.conf(), '-i', self.path('pid'), '-z', self.path('none'), '--vty_socket', self.folder, '-P', '0',
-                  '-S', '-n', '-Z', '-l', eight.ROUTER, '-l', eight.ROUTER6])
+                  '-S', '-n', '-Z', '-M', 'bmp', '-l', eight.ROUTER, '-l', eight.ROUTER6])
         self.wait(lambda: '192.0.2.254' in self.vtysh('show bgp summary', may_fail=True))
 
     def dump(self):
@@ -248,6 +281,7 @@ class OpenBgpd(Recorder):
 class GoBgp(Recorder):
     name, package, programs = 'gobgp', 'gobgpd', ('gobgpd', 'gobgp')
     hold = 240  # where it is 0, it gives itself no time to write a message
+    speaks_bmp = True
 
     def configuration(self):
         return GOBGP + of_each(GOBGP_PEER, eight.ASES)

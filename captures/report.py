@@ -24,6 +24,7 @@ SKIPPED = {
     'local': 'messages that the router sent (MESSAGE_LOCAL)',
     'family': 'UPDATEs of other families than IPv4 unicast',
     'dump6': 'prefixes of IPv6 in table dumps (--ipv6 keeps them)',
+    'bmp': 'messages of BMP that tell no session of the global table and no route before policy',
     'kind': 'records of other types, subtypes and families',
     'own': 'routes of table dumps that are the router\'s own',
     'index': 'routes of table dumps whose peer no index names',

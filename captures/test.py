@@ -16,6 +16,7 @@ import unittest
 sys.dont_write_bytecode = True
 import by_peer
 import dumps
+import files
 import idle
 import messages
 import mrt
@@ -24,6 +25,7 @@ import preparation
 import what
 import wire
 
+HERE = os.path.dirname(os.path.abspath(__file__))
 EIGHT = bytes([8, 10])  # 10.0.0.0/8
 ORIGIN, HOP = b'\x40\1\1\0', b'\x40\3\4' + bytes([192, 0, 2, 1])
 PATH = b'\x40\2\6\2\1' + struct.pack('>I', 65001)
@@ -295,6 +297,78 @@ class Dumps(unittest.TestCase):
                          mrt.made_states(True, 5, 6, **self.RESERVED) + message(SAID, **self.RESERVED))
 
 
+class Monitored(unittest.TestCase):
+    """Streams of BMP (RFC 7854)."""
+
+    START = bytes.fromhex('030000000a0400000000')  # Initiation
+
+    @staticmethod
+    def sent(kind, octets=b'', flags=0, whose=0, peer=FIRST, when=0):
+        """A message with a peer's header (section 4.2): type and flags of the peer, a distinguisher, address, AS, identifier, time."""
+        address = bytes(12) + bytes(peer) if len(peer) == 4 else bytes(peer)
+        body = bytes([whose, flags]) + bytes(8) + address + struct.pack('>I', 65001) + bytes(FIRST) + struct.pack('>II', when, 5) + octets
+        return struct.pack('>BIB', 3, 6 + len(body), kind) + body
+
+    @staticmethod
+    def opened(ours=b'', theirs=b'', local=bytes(12) + bytes(mrt.LOCAL)):
+        """What a Peer Up has behind the header: the local address, two ports, both OPENs (section 4.10)."""
+        return local + struct.pack('>HH', 179, 4000) + wire.opening(65000, '192.0.2.254', families=ours) + wire.opening(65001, '192.0.2.1', families=theirs)
+
+    def test_a_session_and_its_routes(self):
+        stream = self.START + self.sent(3, self.opened()) + self.sent(0, SAID) + self.sent(1, bytes(4)) + self.sent(2, b'\4')
+        self.assertEqual(prepared(stream)[0], UP + message(SAID) + mrt.made_states(True, 6, 1))
+
+    def test_what_is_of_no_use(self):
+        """Messages behind policy, those that were sent (RFC 8671), those of other tables and of no session."""
+        other = [self.sent(0, SAID, flags=0x40), self.sent(0, SAID, flags=0x10), self.sent(0, SAID, whose=1), self.sent(3, self.opened(), whose=3),
+                 self.sent(0, SAID, peer=SECOND), self.sent(2, b'\4', peer=SECOND)]
+        written, told = prepared(self.START + self.sent(3, self.opened()) + b''.join(other) + self.sent(0, SAID))
+        self.assertEqual(written, UP + message(SAID))
+        self.assertIn('skipped 7: messages of BMP that tell no session of the global table and no route before policy', told)
+
+    def test_a_station_that_was_connected_to_anew(self):
+        once = self.START + self.sent(3, self.opened()) + self.sent(0, SAID)
+        self.assertEqual(prepared(once * 2)[0], UP + message(SAID) + mrt.made_states(True, 6, 1) + UP + message(SAID))
+
+    def test_two_octets(self):
+        narrow = update(b'', ORIGIN + PATH_OF_TWO + HOP, EIGHT)
+        self.assertEqual(prepared(self.sent(3, self.opened()) + self.sent(0, narrow, flags=0x20))[0], UP + message(SAID))
+
+    def test_path_identifiers_where_both_said_so(self):
+        two = update(b'', WIDE, struct.pack('>I', 7) + EIGHT + struct.pack('>I', 9) + EIGHT)
+        to_receive, to_send = b'\2\6\x45\4\0\1\1\1', b'\2\6\x45\4\0\1\1\2'
+        written, told = prepared(self.sent(3, self.opened(to_receive, to_send)) + self.sent(0, two))
+        self.assertEqual(written, UP + message(SAID) + message(SAID, peer=(198, 18, 0, 1)))
+        self.assertIn('198.18.0.1 stands for 192.0.2.1, path 2', told)
+        self.assertEqual(prepared(self.sent(3, self.opened(to_send, to_receive)) + self.sent(0, SAID))[0], UP + message(SAID))
+
+    def test_a_peer_over_ipv6(self):
+        written, told = prepared(self.sent(3, self.opened(local=IPV6), flags=0x80, peer=IPV6) + self.sent(0, SAID, flags=0x80, peer=IPV6))
+        stands = dict(peer=(198, 19, 0, 1), local=(198, 19, 0, 1))
+        self.assertEqual(written, mrt.made_states(True, 5, 6, **stands) + message(SAID, **stands))
+        self.assertIn('198.19.0.1 stands for 2001:db8::1', told)
+
+    def test_a_router_that_does_both(self):
+        """A stream and a capture of one run of GoBGP (make.py --daemons gobgp --routes 12 --keep FOLDER): each peer over IPv4 says the same in
+        both, and where its session ends."""
+        said = []
+        for name in ('stream.bmp', 'told.mrt'):
+            written = io.BytesIO()
+            prepare.prepare(prepare.words([os.path.join(HERE, 'monitored', name)]), written.write)
+            written.seek(0)
+            by_peer = {}
+            for _, _, subtype, body in mrt.records(written):
+                if body[20:] != b'\0\5\0\6' and body[:4] != struct.pack('>I', 65008):
+                    by_peer.setdefault(body[:20], []).append((subtype, body[20:]))
+            said.append(by_peer)
+        self.assertEqual(said[0], said[1])
+        self.assertEqual((len(said[0]), sum(map(len, said[0].values()))), (8, 59 + 2 - 5))  # messages, ends, and the five of peer 8
+
+    def test_times(self):
+        stream = self.START + self.sent(3, self.opened(), when=1000) + self.sent(0, SAID, when=1001) + self.sent(0, SAID, when=1002)
+        self.assertEqual(prepared(stream, '--until', '1970-01-01T00:16:41Z')[0], mrt.made_states(True, 5, 6, when=1000) + message(SAID, when=1001))
+
+
 class Choices(unittest.TestCase):
     """What the command line chooses."""
 
@@ -334,7 +408,12 @@ class Wrong(unittest.TestCase):
                     'it is a packet capture (pcap, as tcpdump writes it): a router or collector has to write the MRT file'),
         'packets by Wireshark': (bytes.fromhex('0a0d0d0a1c0000004d3c2b1a01000000'),
                                  'it is a packet capture (pcapng, as Wireshark writes it): a router or collector has to write the MRT file'),
-        'a BMP stream': (bytes.fromhex('0300000020040000') + bytes(24), 'it is a BMP stream (RFC 7854): a BMP station has to write the MRT file'),
+        'a BMP stream without sessions': (
+            bytes.fromhex('030000000a0400000000'),
+            'nothing of it is of use: of 1, messages of BMP that tell no session of the global table and no route before policy'),
+        'a BMP stream that is cut': (bytes.fromhex('030000000a04000000000300000030'), 'it ends within message 2 of BMP: it was cut, or is still being written'),
+        'a BMP stream with another version': (bytes.fromhex('030000000a04000000000200000030ff'),
+                                              'message 2 has version 2 and a length of 48 octets: none of BMP'),
         'bare messages': (SAID, 'it has bare BGP messages, without the records of an MRT file around them'),
         'packed by zstd': (bytes.fromhex('28b52ffd2000'), 'it is packed by zstd: unpack it first (zstd -d)'),
         'a zip archive': (b'PK\3\4' + bytes(26), 'it is a zip archive: unpack it first (unzip)'),
@@ -379,7 +458,7 @@ class Beside(unittest.TestCase):
             with open(path, 'wb') as file:
                 file.write(UP + message(SAID, peer=SECOND) + message(SAID) + mrt.made_states(True, 5, 6, peer=IPV6, local=IPV6, family=2))
             parts = by_peer.Parts(folder)
-            for when, kind, subtype, body in mrt.read(path):
+            for when, kind, subtype, body in files.read(path):
                 parts.take(by_peer.peer_of(kind, subtype, body), mrt.record(kind, subtype, body, when))
             parts.flush()
             with open(os.path.join(folder, '192.0.2.1.mrt'), 'rb') as file:

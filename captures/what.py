@@ -2,6 +2,7 @@
 import collections
 import datetime
 
+import files
 import mrt
 import preparation
 import report
@@ -20,14 +21,15 @@ class Look(preparation.Preparation):
     def __init__(self, asked):
         super().__init__(asked, lambda octets: None)
         self.kinds, self.first, self.last = collections.Counter(), None, None
-        self.said, self.sessions, self.packing = collections.Counter(), collections.Counter(), None
+        self.said, self.sessions, self.packing, self.form = collections.Counter(), collections.Counter(), None, 'MRT'
 
     is_plain = staticmethod(lambda body: False)
 
     def take(self, when, kind, subtype, body):
         self.kinds[kind, subtype] += 1
-        self.first = when if self.first is None else min(self.first, when)
-        self.last = when if self.last is None else max(self.last, when)
+        if when:  # a message of BMP may have no time
+            self.first = when if self.first is None else min(self.first, when)
+            self.last = when if self.last is None else max(self.last, when)
         super().take(when, kind, subtype, body)
 
     def state(self, when, peer, new):
@@ -48,7 +50,7 @@ class Look(preparation.Preparation):
     def is_fit(self):
         """Whether `mrt --as4` makes the same of the file as it stands."""
         is_narrow = any(kind in (mrt.BGP4MP, mrt.BGP4MP_ET) and subtype in (mrt.MESSAGE, mrt.STATE_CHANGE) for kind, subtype in self.kinds)
-        return not (is_narrow or self.packing or self.report.changed or self.addresses.instead or len(self.numbers) > speakers.PEERS
+        return not (is_narrow or self.packing or self.form != 'MRT' or self.report.changed or self.addresses.instead or len(self.numbers) > speakers.PEERS
                     or any(self.report.skipped[reason] for reason in WRONG_AS_IT_IS))
 
     def told(self):
@@ -94,7 +96,7 @@ def look_at(asked, path):
     look, wrong = Look(asked), None
     try:
         if path != '-':
-            with mrt.opened(path) as (_, look.packing):
+            with files.opened(path) as (_, look.packing, look.form):
                 pass
         look.take_file(path)
     except mrt.Wrong as error:
@@ -112,7 +114,7 @@ def tell(asked):
     looks, faults = [], 0
     for path in asked.files:
         look, wrong = look_at(asked, path)
-        print('%s: %s' % (path, 'packed by %s, ' % look.packing if look.packing else '') + '\n  '.join(
+        print('%s: %s%s' % (path, 'packed by %s, ' % look.packing if look.packing else '', 'a stream of BMP, as ' if look.form == 'BMP' else '') + '\n  '.join(
             ([] if wrong and not look.report.records else list(look.told())) + (['wrong: ' + wrong] if wrong else [])))
         faults += wrong is not None
         if look.has_use():

@@ -41,6 +41,7 @@ SAMPLES = {
     'updates.20260101.0000.bz2': 'examples/captured_by_frr.mrt',
     'table.mrt': 'captures/kept/bird/dump.mrt',
     'gobgp.mrt': 'examples/captured_by_frr.mrt',
+    'router.bmp': 'captures/monitored/stream.bmp',
 }
 SECONDS = 900
 
