@@ -29,27 +29,35 @@ Said = collections.namedtuple('Said', 'gone attributes come')
 
 def attributes(octets):
     """The attributes in their order. ValueError where one runs beyond the end."""
-    found, at = [], 0
-    while at < len(octets):
-        flags, kind = wire.part(octets, at, 2)
-        wide = 2 if flags & EXTENDED else 1
-        value = wire.part(octets, at + 2 + wide, int.from_bytes(wire.part(octets, at + 2, wide), 'big'))
-        found.append(Attribute(flags, kind, value))
-        at += 2 + wide + len(value)
+    found, at, end = [], 0, len(octets)
+    while at + 3 <= end:
+        flags, front, size = octets[at], 3, octets[at + 2]
+        if flags & EXTENDED:
+            front, size = 4, size << 8 | (octets[at + 3] if at + 4 <= end else end)
+        behind = at + front + size
+        if behind > end:
+            break
+        found.append(Attribute(flags, octets[at + 1], octets[at + front:behind]))
+        at = behind
+    if at < end:
+        raise ValueError('an attribute runs beyond its end')
     return found
 
 
 def prefixes(octets, with_paths, most=32):
     """The prefixes of a field, each with its path identifier."""
-    found, at = [], 0
-    while at < len(octets):
-        path = int.from_bytes(wire.part(octets, at, 4), 'big') if with_paths else 0
-        at += 4 if with_paths else 0
-        length = wire.part(octets, at, 1)[0]
-        if length > most:
-            raise ValueError('a prefix of length %d' % length)
-        found.append((path, wire.part(octets, at, 1 + (length + 7) // 8)))
-        at += 1 + (length + 7) // 8
+    found, at, end, path, front = [], 0, len(octets), 0, 4 if with_paths else 0
+    while at + front < end:
+        length = octets[at + front]
+        behind = at + front + 1 + (length + 7 >> 3)
+        if length > most or behind > end:
+            raise ValueError('a prefix of length %d, or that runs beyond its end' % length)
+        if with_paths:
+            path = int.from_bytes(octets[at:at + 4], 'big')
+        found.append((path, octets[at + front:behind]))
+        at = behind
+    if at < end:
+        raise ValueError('a path identifier without a prefix')
     return found
 
 

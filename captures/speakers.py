@@ -100,7 +100,10 @@ class Peer:
 
     def place(self, path, prefix):
         """The place of a path of a prefix; a new one gets the first that is free."""
-        places = self.paths.setdefault(prefix, {})
+        places = self.paths.get(prefix)
+        if places is None:
+            self.paths[prefix] = {path: 0}
+            return 0
         if path not in places:
             places[path] = next(place for place in range(len(places) + 1) if place not in places.values())
         return places[path]
