@@ -1,7 +1,7 @@
 """Eight peers of a router, each of which says its routes in another way; what they do while the router writes a capture (make.py).
 
   1 plain        AS numbers of four octets
-  2 wide         the same, of an AS that has no two octets
+  2 wide         the same, of an AS that has no two octets; at the end its connection is closed for good
   3 narrow       AS numbers of two octets, with AS4_PATH and AS4_AGGREGATOR (RFC 6793)
   4 long         UPDATEs of more than 4,096 octets (RFC 8654), where the router takes them
   5 paths        two routes for each prefix (RFC 7911), where the router takes them
@@ -224,6 +224,7 @@ class Eight:
             for said in again:
                 self.peers[6].say(octets_of(said))
             self.rest()
+        self.end(2, False)
 
     def end(self, number, is_notified):
         if is_notified:

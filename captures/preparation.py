@@ -101,12 +101,15 @@ class Preparation:
         if is_state and self.is_exchanged(told):
             self.report.change('ends')
             told = told._replace(peer_as=told.local_as, local_as=told.peer_as, peer=told.local, local=told.peer)
+        states = struct.unpack('>HH', told.rest[:4]) if is_state else None
+        if is_state and told.family == 1 and not any(told.peer) and states[0] == mrt.ESTABLISHED:
+            self.take_nameless(when, told.peer_as, *states)
+            return
         if told.family not in (1, 2) or not any(told.peer) or not told.peer_as:
             self.report.skip('kind' if told.family not in (1, 2) else 'state' if is_state else 'as')
             return
         peer = self.peer(told.peer, told.peer_as, is_wide)
         if is_state:
-            states = struct.unpack('>HH', told.rest[:4])
             self.learn_local(told, is_wide, told.local in self.locals or self.local.asn is None and mrt.ESTABLISHED in states)
             self.take_state(when, peer, *states)
             return
@@ -178,13 +181,27 @@ class Preparation:
         if mrt.ESTABLISHED not in (old, new):
             self.report.skip('state')
         elif new == mrt.ESTABLISHED or peer.is_up:
+            if new == mrt.ESTABLISHED and peer.is_told_up:
+                # it comes from another state, so the session before is over (RFC 4271, section 8.2.2)
+                self.report.change('again')
+                self.state(when, peer, IDLE)
             self.state(when, peer, new)
+            peer.is_told_up = peer.is_up
         else:
             self.report.skip('nothing')
 
+    def take_nameless(self, when, asn, old, new):
+        """The end of a session whose connection was closed has no address in BIRD's captures: it is that of the one peer with this AS that is up."""
+        found = [peer for peer in self.peers.values() if peer.is_up and peer.asn == asn]
+        if len(found) == 1:
+            self.report.change('nameless')
+            self.take_state(when, found[0], old, new)
+        else:
+            self.report.skip('nameless')
+
     def state(self, when, peer, new):
         """The session of a peer begins, or ends with those of its stand-ins."""
-        peer.is_up = new == mrt.ESTABLISHED
+        peer.is_up, peer.is_told_up = new == mrt.ESTABLISHED, False
         change = struct.pack('>HH', OPEN_CONFIRM if peer.is_up else mrt.ESTABLISHED, new)
         for place in [0] if peer.is_up else sorted(peer.heads):
             self.record(when, mrt.STATE_CHANGE_AS4, peer, place, change)

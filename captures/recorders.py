@@ -33,10 +33,6 @@ BIRD_PEER = '''protocol bgp peer%(number)d {
 '''
 FRR = '''dump bgp all FOLDER/all.mrt
 router bgp 65000
- bmp targets station
-  bmp connect 127.0.0.1 port 11019 min-retry 100 max-retry 200
-  bmp monitor ipv4 unicast pre-policy
- exit
  bgp router-id 192.0.2.254
  no bgp ebgp-requires-policy
  no bgp network import-check
@@ -220,7 +216,6 @@ class Bird(Recorder):
 
 class Frr(Recorder):
     name, package, programs = 'frr', 'frr', ('/usr/lib/frr/bgpd', 'vtysh')
-    speaks_bmp = True
     run_folder = 'frr'
 
     def configuration(self):
@@ -233,7 +228,7 @@ class Frr(Recorder):
 
     def start(self):
         self.run([self.programs[0], '-f', self.conf(), '-i', self.path('pid'), '-z', self.path('none'), '--vty_socket', self.folder, '-P', '0',
-                  '-S', '-n', '-Z', '-M', 'bmp', '-l', eight.ROUTER, '-l', eight.ROUTER6])
+                  '-S', '-n', '-Z', '-l', eight.ROUTER, '-l', eight.ROUTER6])
         self.wait(lambda: '192.0.2.254' in self.vtysh('show bgp summary', may_fail=True))
 
     def dump(self):
@@ -303,7 +298,8 @@ class GoBgp(Recorder):
         found = collections.defaultdict(lambda: collections.defaultdict(list))
         for number in eight.ASES:
             said = self.gobgp('neighbor %s adj-in -a ipv4 -j' % eight.address(number), True).strip()
-            for prefix, paths in (json.loads(said) if said.startswith('{') else {}).items():
+            rows = json.loads(said) if said.startswith('{') else {}
+            for prefix, paths in () if 'error' in rows else rows.items():  # of a peer that is down it says so
                 found[number][prefix] = [self.told({one['type']: one for one in path['attrs']}) for path in paths]
         return found
 

@@ -11,10 +11,13 @@ CHANGED = {
     'confederation': 'paths with segments of a confederation (RFC 5065), without them now',
     'long': 'UPDATEs of more than 4,096 octets, which are several now',
     'ends': 'changes of state whose two ends were exchanged',
+    'nameless': 'ends of sessions that name no address, of the one peer with that AS that was up',
+    'again': 'changes of state to Established of sessions that had begun by one, which end before it',
     'ended': 'NOTIFICATIONs and OPENs that end a session, where no change of state tells ends',
 }
 SKIPPED = {
     'state': 'changes of state apart from Established',
+    'nameless': 'ends of sessions that name no address, of none or several peers with that AS that were up',
     'nothing': 'ends of sessions that weren\'t up',
     'open': 'OPENs, which say nothing of routes',
     'note': 'NOTIFICATIONs, whose ends changes of state tell',

@@ -85,6 +85,7 @@ class Peer:
         self.address = address
         self.asn, self.is_wide = None, False
         self.is_up = self.tells_states = self.has_spoken = False
+        self.is_told_up = False  # whether a change of state began the session, and no message
         self.paths = {}  # of each prefix the place of each path identifier
         self.heads = {}  # of each place the front of a record; None where it isn't wanted
         self.plain = set()  # fronts of records that are passed on as they stand

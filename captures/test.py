@@ -90,6 +90,23 @@ class Sessions(unittest.TestCase):
         self.assertIn(preparation.NO_STATES, told)
         self.assertEqual(written, message(SAID) + note + end + message(SAID) + end + message(SAID))
 
+    def test_established_twice(self):
+        """RFC 4271, section 8.2.2: a session becomes Established from another state alone, so its end wasn't recorded."""
+        written, told = prepared(UP + message(SAID) + UP + message(SAID))
+        self.assertEqual(written, UP + message(SAID) + mrt.made_states(True, 6, 1) + UP + message(SAID))
+        self.assertIn('changed 1: changes of state to Established of sessions that had begun by one, which end before it', told)
+        self.assertEqual(prepared(message(KEEPALIVE) + UP + message(SAID))[0], message(KEEPALIVE) + UP + message(SAID))
+
+    def test_an_end_without_an_address(self):
+        """As BIRD writes it where the connection was closed: AS numbers and no addresses. Of several peers of that AS it may be any."""
+        nameless = mrt.made_states(True, 6, 1, peer=(0, 0, 0, 0), local=(0, 0, 0, 0))
+        other = dict(peer=SECOND, peer_as=65002)
+        capture = UP + mrt.made_states(True, 5, 6, **other) + nameless + message(SAID, **other)
+        self.assertEqual(prepared(capture)[0], UP + mrt.made_states(True, 5, 6, **other) + mrt.made_states(True, 6, 1) + message(SAID, **other))
+        written, told = prepared(UP + mrt.made_states(True, 5, 6, peer=SECOND) + nameless + UP)
+        self.assertEqual(written, UP + mrt.made_states(True, 5, 6, peer=SECOND) + mrt.made_states(True, 6, 1) + UP)
+        self.assertIn('skipped 1: ends of sessions that name no address, of none or several peers with that AS that were up', told)
+
     def test_ends_that_are_exchanged(self):
         exchanged = dict(peer=mrt.LOCAL, local=FIRST, peer_as=65000, local_as=65001)
         written, told = prepared(message(wire.opening(65001, '192.0.2.1')) + mrt.made_states(True, 5, 6, **exchanged) + message(SAID)
@@ -318,6 +335,15 @@ class Monitored(unittest.TestCase):
         stream = self.START + self.sent(3, self.opened()) + self.sent(0, SAID) + self.sent(1, bytes(4)) + self.sent(2, b'\4')
         self.assertEqual(prepared(stream)[0], UP + message(SAID) + mrt.made_states(True, 6, 1))
 
+    def test_a_stream_of_its_own_behind_another(self):
+        once = self.START + self.sent(3, self.opened()) + self.sent(0, SAID)
+        with tempfile.TemporaryDirectory(prefix='captures-') as folder:
+            path, written = os.path.join(folder, 'one.bmp'), io.BytesIO()
+            with open(path, 'wb') as file:
+                file.write(once)
+            prepare.prepare(prepare.words([path, path]), written.write)
+        self.assertEqual(written.getvalue(), UP + message(SAID) + mrt.made_states(True, 6, 1) + UP + message(SAID))
+
     def test_what_is_of_no_use(self):
         """Messages behind policy, those that were sent (RFC 8671), those of other tables and of no session."""
         other = [self.sent(0, SAID, flags=0x40), self.sent(0, SAID, flags=0x10), self.sent(0, SAID, whose=1), self.sent(3, self.opened(), whose=3),
@@ -362,7 +388,7 @@ class Monitored(unittest.TestCase):
                     by_peer.setdefault(body[:20], []).append((subtype, body[20:]))
             said.append(by_peer)
         self.assertEqual(said[0], said[1])
-        self.assertEqual((len(said[0]), sum(map(len, said[0].values()))), (8, 59 + 2 - 5))  # messages, ends, and the five of peer 8
+        self.assertEqual((len(said[0]), sum(map(len, said[0].values()))), (8, 59 + 3 - 5))  # messages, ends, and the five of peer 8
 
     def test_times(self):
         stream = self.START + self.sent(3, self.opened(), when=1000) + self.sent(0, SAID, when=1001) + self.sent(0, SAID, when=1002)

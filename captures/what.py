@@ -12,7 +12,7 @@ PREPARED = 'python3 captures/prepare.py%s %s | replay mrt --as4 > bgp.events'
 AS_IT_IS = 'replay mrt --as4 < %s > bgp.events'
 SHOWN = 8  # peers and stand-ins that are told
 # reasons to skip for which the capture has to be prepared: `mrt` would take what they are about
-WRONG_AS_IT_IS = ('state', 'note', 'refresh', 'type', 'fields')
+WRONG_AS_IT_IS = ('state', 'nameless', 'note', 'refresh', 'type', 'fields')
 
 
 class Look(preparation.Preparation):

@@ -34,7 +34,8 @@ NOT_RUN = [
     (r'--sshlogin(file)? [^:]|\bssh\b|\bsbatch\b|\bsrun\b', 'it needs other machines'),
     (r'\bxdg-open\b', 'it needs a desktop'),
 ]
-NEEDS_PROGRAM = re.compile(r'(^|[\s(|;])replay (run|mrt|check|gen)\b|' + re.escape(BUILT))
+NEEDS_PROGRAM = re.compile(r'(^|[\s(|;])replay (run|mrt|check|gen)\b|' + re.escape(BUILT)
+                           + r'|reasons/(why|told|refused|agree)\.py|beside/(run|all)\.py|live/\w+\.py|view/check\.py')
 SAMPLES = {
     'bgp.mrt': 'examples/captured_by_bird.mrt',
     'rib.20260101.0000.bz2': 'captures/kept/bird/dump.mrt',
@@ -43,7 +44,7 @@ SAMPLES = {
     'gobgp.mrt': 'examples/captured_by_frr.mrt',
     'router.bmp': 'captures/monitored/stream.bmp',
 }
-SECONDS = 900
+SECONDS = 3600
 
 
 def commands(page):
