@@ -1,16 +1,18 @@
 #!/usr/bin/env python3
 """Whether the steps of why.py give the rows of `best`: agree.py [--prefixes 10000] [--first SEED] [--program WORDS] [CAPTURE..]
 
-Outputs of `gen` are taken, seed by seed, until so many prefixes had a route; then captures: MRT files, or folders of captures/make.py --keep,
-whose event files prepare.py and `mrt --as4` make, with an interior route that holds all next hops. Without CAPTURE those in captures/kept/. At each
-prefix of the end the decision is made anew (decision.py), and compared with the row of `best`.
+Outputs of `gen` are taken, seed by seed, until so many prefixes were compared, each whenever a message begins, where candidates or the best route
+changed since the one before; then captures: MRT files, or folders of captures/make.py --keep, whose event files prepare.py and `mrt --as4` make,
+with an interior route that holds all next hops, each prefix at the end. Without CAPTURE those in captures/kept/. The decision is made anew
+(decision.py), and compared with the row of `best`.
 
-Printed is of each source how many prefixes there are and how many differ, and at how many of them which step was the last at which a route lost
-(docs/BGP.md, "The decision"; `alone`: no other one was there). Statuses: 0; 1 where something differs; 2 where nothing was compared.
+Printed is of each source how many prefixes were compared and how many differ, and at how many of them which step was the last at which a route
+lost (docs/BGP.md, "The decision"; `alone`: there was at most one). Statuses: 0; 1 where something differs; 2 where nothing was compared.
 """
 import argparse
 import collections
 import os
+import re
 import subprocess
 import sys
 
@@ -23,10 +25,11 @@ import why
 import check
 import program
 
-COUNT = 1000  # events of a seed: some 250 prefixes
+COUNT = 1000  # events of a seed
 # what stands in front of the events of a seed (crates/event_gen/specs/Lines.antt)
 FRONT = ['local 65000 192.0.2.254 192.0.2.254', 'peer 1 65001 192.0.2.1 192.0.2.1', 'peer 2 65002 192.0.2.2 192.0.2.2',
          'peer 3 65000 192.0.2.3 192.0.2.3', 'peer 4 65001 192.0.2.4 192.0.2.4']
+CHANGES, LINKS = ('+', '=', '-'), re.compile(r'(best|red|res\.\d+)$')
 HOLDS_ALL = 'route add static 0.0.0.0/0 direct eth0 1'
 
 
@@ -36,8 +39,9 @@ class Row:
     def __init__(self, name):
         self.name, self.count, self.steps, self.wrong = name, 0, collections.Counter(), []
 
-    def take(self, where, found, lines):
-        for prefix, ours, theirs, step in why.compared(found, why.declared(lines)):
+    def take(self, where, found, wanted, prefixes):
+        for prefix in prefixes:
+            ours, theirs, step = why.decided_at(found, wanted, prefix)
             self.count += 1
             self.steps[step] += 1
             if ours != theirs:
@@ -51,10 +55,19 @@ class Row:
 
 def of_seeds(words, prefixes, first):
     """Seeds of `gen`, until there are so many prefixes."""
-    row, seed = Row('gen'), first
+    row, seed, wanted = Row('gen'), first, why.declared(FRONT)
     while row.count < prefixes:
         ran = subprocess.run(words + ['gen', str(seed), str(COUNT)], stdout=subprocess.PIPE, check=True)
-        row.take('seed %d' % seed, tables.Tables().take_all(ran.stdout.decode('ascii').split('\n')[:-1]), FRONT)
+        found, touched = tables.Tables(), set()
+        for place, line in enumerate(ran.stdout.decode('ascii').split('\n')[:-1], 1):
+            kind, link, prefix = (line.split(' ') + ['', ''])[:3]
+            if kind in CHANGES and link.startswith('in.'):  # all that came of the event before is done
+                row.take('seed %d, line %d' % (seed, place), found, wanted, sorted(touched))
+                touched.clear()
+            if kind in CHANGES and LINKS.match(link):
+                touched.add(prefix)
+            found.take(line)
+        row.take('seed %d, the end' % seed, found, wanted, why.prefixes(found, wanted))
         seed += 1
     row.name = 'gen, seeds %d to %d' % (first, seed - 1)
     return row
@@ -68,7 +81,8 @@ def of_capture(words, name, paths):
     if place is None:
         raise OSError('%s: nothing of it is of use' % name)
     lines, row = said[:place + 1] + [HOLDS_ALL] + said[place + 1:], Row(name)
-    row.take(name, tables.Tables().take_all(tables.printed(words, lines)), lines)
+    found, wanted = tables.Tables().take_all(tables.printed(words, lines)), why.declared(lines)
+    row.take(name, found, wanted, why.prefixes(found, wanted))
     return row
 
 

@@ -182,24 +182,30 @@ def answer(asked, lines):
     return 0 if any(made.row('in.%d' % number) for number in found.peers()) or made.row('red') else 1
 
 
-def compared(found, wanted):
-    """Each prefix with a route: the row that the steps give, the one on `best`, and the number of the last step at which a route lost; 0 where
-    there is one alone, or an own one."""
-    resolved = {number: found.links['res.%d' % number] for number in wanted.peers}
-    for prefix in sorted(set(found.links['best']).union(found.links['red'], *resolved.values()), key=values.prefix_key):
-        own = found.row('red', prefix)
-        if own:
-            yield prefix, own, found.row('best', prefix), 0
-            continue
-        winner, lost = decision.decided([decision.candidate(wanted, number, rows[prefix]) for number, rows in resolved.items() if prefix in rows])
-        yield prefix, resolved[winner.peer][prefix], found.row('best', prefix), max((step.number for step, _ in lost.values()), default=0)
+def decided_at(found, wanted, prefix):
+    """The row that the steps give at a prefix, the one on `best`, and the number of the last step at which a route lost; 0 where there is one
+    alone, or an own one. Rows are None where there is no route."""
+    own, best = found.row('red', prefix), found.row('best', prefix)
+    rows = {number: found.row('res.%d' % number, prefix) for number in wanted.peers}
+    candidates = [decision.candidate(wanted, number, row) for number, row in rows.items() if row]
+    if own or not candidates:
+        return own, best, 0
+    winner, lost = decision.decided(candidates)
+    return rows[winner.peer], best, max((step.number for step, _ in lost.values()), default=0)
+
+
+def prefixes(found, wanted):
+    """All prefixes with a route that may be the best one, or with one that is."""
+    links = ['best', 'red'] + ['res.%d' % number for number in wanted.peers]
+    return sorted(set().union(*(found.links[link] for link in links)), key=values.prefix_key)
 
 
 def agree(asked, lines):
     """Prints at how many prefixes the decision gives the row of `best`; the status."""
-    count, wrong = 0, 0
-    for prefix, ours, theirs, _ in compared(tables_of(asked, lines, [], lambda link, one: True), declared(lines)):
+    found, wanted, count, wrong = tables_of(asked, lines, [], lambda link, one: True), declared(lines), 0, 0
+    for prefix in prefixes(found, wanted):
         count += 1
+        ours, theirs, _ = decided_at(found, wanted, prefix)
         if ours != theirs:
             wrong += 1
             print('%s: by the steps %s, on `best` %s' % (prefix, ours, theirs))
