@@ -87,7 +87,13 @@ PROBE = '''var probe = {
     filter('');
     return found;
   },
-  layout: () => {
+  // where a scroll bar came or went, the picture follows in a frame that a busy machine may be late to draw
+  layout: async () => {
+    const end = performance.now() + 2000;
+    while (probe.places().apart && performance.now() < end) await new Promise(done => requestAnimationFrame(done));
+    return probe.places();
+  },
+  places: () => {
     const boxes = ['#heads', '#lanes svg', '#core'].map(name => document.querySelector(name).getBoundingClientRect());
     const page = document.documentElement;
     const out = Array.from(document.querySelectorAll('button, select, input, #says'), part => part.getBoundingClientRect())
