@@ -128,8 +128,10 @@ def with_ends(octets, ends):
 
 
 def write(folder, files, shows):
+    """Writes the files into a folder; into that of the stories, those of which one is made."""
     os.makedirs(folder, exist_ok=True)
-    for name, octets in files.items():
+    wanted = check.FILES['all'] + check.FILES['dump'] if os.path.dirname(folder) == check.KEPT else files
+    for name, octets in ((name, files[name]) for name in wanted):
         with open(os.path.join(folder, name), 'wb') as file:
             file.write(octets)
     with open(os.path.join(folder, 'table.json'), 'w', encoding='ascii') as file:
@@ -223,7 +225,7 @@ def stories(name, folder, words):
 
 def words():
     asked = argparse.ArgumentParser(description=__doc__, formatter_class=argparse.RawDescriptionHelpFormatter)
-    asked.add_argument('--daemons', default=','.join(RECORDERS))
+    asked.add_argument('--daemons', help='all of them; of those that are kept, all that record changes of state')
     asked.add_argument('--routes', type=int, default=1000)
     asked.add_argument('--program', default=program.BUILT)
     asked.add_argument('--keep', metavar='FOLDER')
@@ -234,7 +236,7 @@ def words():
 def main():
     parser = words()
     asked = parser.parse_args()
-    wanted = asked.daemons.split(',')
+    wanted = asked.daemons.split(',') if asked.daemons else [name for name in RECORDERS if name != 'gobgp' or not asked.kept]
     if set(wanted) - set(RECORDERS):
         parser.error('no such daemon: ' + ', '.join(sorted(set(wanted) - set(RECORDERS))))
     there = [name for name in wanted if RECORDERS[name].installed()]

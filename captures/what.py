@@ -61,7 +61,7 @@ class Look(preparation.Preparation):
         yield from self.told_of_peers()
         yield from self.report.reasons('put right', 'left out')
         if self.said and not self.is_dump() and not self.has_states():
-            yield preparation.NO_STATES + '; have the router write all'
+            yield preparation.NO_STATES + ' (docs/CAPTURES.md, "Who writes what")'
 
     def told_of_peers(self):
         peers = [peer for peer in self.peers.values() if self.said[peer.address] or self.sessions[peer.address]]
