@@ -125,7 +125,7 @@ class GoBgp(Router):
             if words[0] == 'filter' and ('nomed' in words or 'origin' in words):
                 return 'its policies have neither `nomed` nor a condition on ORIGIN'
             if words[0] == 'bgp' and len(words[2]) >= 38 and not 1 <= int(words[2][36:38], 16) <= 5:
-                return 'behind a message of a type that is none it answers no command any more'
+                return 'a message of a type that is none ends the daemon itself'
             if words[0] == 'filter' and ('pref', '0') in zip(words, words[1:]):
                 return 'a `set-local-pref` of 0 sets nothing'
         return None
