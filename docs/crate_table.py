@@ -4,7 +4,8 @@
 The table "Stands on" of docs/ARCHITECTURE.md names the edges that show how the crates stand on each other, and leaves out
 those that follow: each edge that it names must be a dependency in crates.txt, each crate of crates.txt must stand in
 exactly one row, and each dependency on a crate of this repository must be reachable through the named edges. The table of
-rooms must have each crate once. The longest chain of crates is computed; the one that is written must be as long, and each
+rooms must have each crate once. crates.txt has the storeys of that table as its headings, in their order, each with its crates,
+and each crate behind those that it depends on. The longest chain of crates is computed; the one that is written must be as long, and each
 crate in it must depend on the one before.
 
 Numbers that documents state of the repository (COUNTS) must be what is counted, and must be stated. No crate has more than
@@ -90,6 +91,25 @@ def rooms(text, deps):
     yield from ('the rooms name %s, which is no crate' % it for it in said if it not in deps)
 
 
+def order(text, deps):
+    """Complaints about the order of crates.txt."""
+    storeys = {row[0]: names(row[1]) for row in table(text, '| Storey | Crates |')}
+    lines = [line for line in read('crates.txt').split('\n')[1:] if line.strip()]
+    headings = [line[2:] for line in lines if line.startswith('# ')]
+    if headings != list(storeys):
+        yield 'crates.txt has the headings %s' % ', '.join(headings)
+    heading, above = '', set()
+    for line in lines:
+        if line.startswith('# '):
+            heading = line[2:]
+            continue
+        crate = line.split(':')[0].split()[0]
+        if crate not in storeys.get(heading, []):
+            yield '%s is none of the crates of %s' % (crate, heading)
+        yield from ('%s stands before %s, on which it stands' % (crate, it) for it in deps[crate] if it not in above)
+        above.add(crate)
+
+
 def chains(text, deps):
     """Complaints about the longest chain, as ARCHITECTURE writes it out."""
     found = re.search(CHAIN + r':([^.]*)\.', text)
@@ -124,6 +144,7 @@ def faults():
     lines = text.split('\n')
     for complaints in edges(lines, deps), rooms(lines, deps), chains(text, deps):
         yield from ((PAGE, it) for it in complaints)
+    yield from (('crates.txt', it) for it in order(lines, deps))
     for page, pattern, count in COUNTS:
         said = re.findall(pattern, read(page))
         if not said:
