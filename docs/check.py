@@ -13,6 +13,7 @@ And by the scripts beside it, each of which says its rule at its head:
 - names.py: each file, crate, function, heading and story that a document names exists
 - manual.py: docs/replay.1 and docs/replay.bash have the commands, options and statuses of docs/LANGUAGE.md
 - believe.py: the list of definitions that the clauses of `replay` reach, in docs/PROOFS.md
+- touches.py: how many lines name a part outside its own crate, in docs/ADDING_A_STAGE.md
 - examples.py: docs/EXAMPLES.md
 
 Each complaint is printed; the status is 1 where there is one, and 2 where a story has no output, so that it shows nothing.
@@ -28,6 +29,7 @@ import crate_table
 import examples
 import manual
 import names
+import touches
 
 TOP = os.path.join(os.path.dirname(os.path.abspath(__file__)), '..')
 WIDTH = 100
@@ -89,6 +91,7 @@ def complaints():
     yield from ('%s: %s' % it for it in crate_table.faults())
     yield from ('%s:%d: %s' % it for it in names.faults())
     yield from ('docs/PROOFS.md:%d: %s' % it for it in believe.faults())
+    yield from ('docs/ADDING_A_STAGE.md:%d: %s' % it for it in touches.faults())
     yield from ('%s: %s' % it for it in manual.faults())
     yield from examples.faults()
 

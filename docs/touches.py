@@ -1,8 +1,8 @@
 #!/usr/bin/env python3
 """What a new part costs, counted by one that stands: docs/touches.py NAME [--files | --json], docs/touches.py [--write]
 
-NAME is a part of the table PARTS, or variants: `Task::Ext`, `Link::Ext,Task::Ext`. Each line outside the part's own crates that names
-it is printed, file by file, and the sums; --files leaves the lines out. Without a NAME it prints the sums of all parts of the table,
+NAME is a part of the table PARTS, or variants: `Task::Ext`, `Link::Ext,Task::Ext`. Each line outside the part's own crates that
+names it is printed, file by file, and the sums; --files leaves the lines out. Without a NAME the sums of all parts are printed,
 which --write puts into docs/ADDING_A_STAGE.md; docs/check.py compares. The status is 2 where no type has such a variant.
 
 A line of a crate's src/*.rt (source), specs/*.antt (definitions) or proofs/*.antt (proofs) counts once, however often it names it:
@@ -12,8 +12,7 @@ A line of a crate's src/*.rt (source), specs/*.antt (definitions) or proofs/*.an
 - by its printed word, at the head of a text in quotation marks (`codes "red"`, `b"settled "`)
 
 That is what stands in tables and in cases by variant, where a new part needs as much. Comments don't count. Sums of their own have
-- imports, that bring a variant's word; and of its printed word documents (at the head of a code span), scripts (of a text in
-  quotation marks), the crates of tests, and stories
+- imports, that bring a variant's word; documents (the printed word heads a code span), scripts (or a text), tests and stories
 - deeds, what the part does, since a new part does something else: other lines with a word that contains its stem, as its fields,
   functions and lemmas do; none where other things have the stem, too, as that of `settled`
 """
@@ -28,8 +27,7 @@ import re
 TOP = os.path.join(os.path.dirname(os.path.abspath(__file__)), '..')
 PAGE = 'docs/ADDING_A_STAGE.md'
 FROM, TO = ('<!-- written by docs/touches.py: %s here -->' % it for it in ('from', 'to'))
-Part = collections.namedtuple('Part', 'crates variants text stem')
-# a part's own crates; its variants; the word that is printed; the stem of what it does
+Part = collections.namedtuple('Part', 'crates variants text stem')  # its crates and variants, its printed word, the stem of its deeds
 PARTS = {
     'redistribution': Part(['redist'], ['Link::Red', 'Task::Red', 'Phase::Red', 'Region::Redistributed'], 'red', 'redist'),
     'refresh': Part(['peer_out', 'out_chain', 'exit_side'], ['Task::Ref', 'Phase::Ref'], 'ref', 'refresh'),
@@ -79,7 +77,8 @@ def brought(path):
         known = brought(other)[1] if other in found(*CODE) else {}
         if last == 'TheVariants' and use[2]:
             types[use[2]] = kind
-        for word, _, new in [it.strip().partition(' as ') for it in (use[3] or '').split(',')]:
+        for it in use[3].split(',') if use[3] and (last == 'TheVariants' or known) else []:
+            word, _, new = it.strip().partition(' as ')
             if last == 'TheVariants' or word in known:
                 words[new or word] = known.get(word) or '%s::%s' % (kind, word)
                 if read(path)[use.start() - 4:use.start()] == 'pub ':
@@ -88,15 +87,15 @@ def brought(path):
 
 
 def pattern(path, part):
-    """What names the part in a file, the words for it there, and what is in each line that counts (which is found fast)."""
+    """What names the part in a file, the words for it there, and what is in each line that counts (and found fast)."""
     words, _, types = brought(path)
     mine = [word for word, variant in words.items() if variant in part.variants]
-    ways = [r'(?<![\w.-])%s(?![\w-])' % word for word in mine] + [r'"%s(?=["\s])' % part.text]
     pieces = set(mine + ['"' + part.text] + [it.split('::')[1] for it in part.variants])
+    ways = [r'(?<![\w.-])%s(?![\w-])' % word for word in mine] + [r'"%s(?=["\s])' % part.text]
     for kind, name in [it.split('::') for it in part.variants]:
         ways += [r'\b%s::%s\b' % (kind, name), r'\bin-%s(?![A-Za-z0-9_])' % name]
         ways += [r'(?<!\w)%s\.%s\b' % (prefix, name) for prefix, other in types.items() if other == kind]
-    return re.compile('|'.join(ways)), mine, re.compile(r'(?:%s)\b' % '|'.join(sorted(pieces)))
+    return re.compile('|'.join(ways)), mine, pieces
 
 
 def touches(part, deeds=True):
@@ -107,15 +106,16 @@ def touches(part, deeds=True):
     for path in found(*CODE):
         crate, room = path.split('/')[1:3]
         names, mine, pieces = pattern(path, part)
-        if crate in part.crates or crate.endswith('_tests') or not (pieces.search(read(path)) or stem and stem.search(read(path))):
+        some = any(it in read(path) for it in pieces) or stem and stem.search(read(path))
+        if not some or crate in part.crates or crate.endswith('_tests'):
             continue
         importing, comment = False, r'(^|\s)//.*' if room == 'src' else r'(^|\s)--(\s.*|$)'
         for number, line in enumerate(read(path).split('\n'), 1):
             importing = importing or line.lstrip().startswith(('use ', 'pub use ', 'ghost use ', 'pub ghost use '))
-            kind, line = None, re.sub(comment, '', line) if pieces.search(line) or importing or stem else ''
+            kind, line = None, re.sub(comment, '', line) if any(it in line for it in pieces) or importing or stem else ''
             if importing:
                 kind = 'imports' if any(re.search(r'\b%s\b' % word, line) for word in mine) else None
-                importing = room == 'src' and ';' not in line  # (in Rust alone a `use` may be of several lines)
+                importing = room == 'src' and ';' not in line
             elif (path, number) in places or names.search(line):
                 kind = ROOMS[room]
             elif stem and stem.search(line):
@@ -136,16 +136,16 @@ def sums(told):
     """Of each kind, and of code altogether, its lines, files and crates."""
     all_of = dict(told, code=[it for kind in ROOMS.values() for it in told[kind]])
     paths = {kind: {it[0] for it in lines} for kind, lines in all_of.items()}
-    crates = {kind: {it.split('/')[1] for it in paths[kind] if it[:7] == 'crates/'} for kind in paths}
-    return {kind: {'lines': len(all_of[kind]), 'files': len(paths[kind]), 'crates': len(crates[kind])} for kind in all_of}
+    return {kind: {'lines': len(all_of[kind]), 'files': len(paths[kind]),
+                   'crates': len({it.split('/')[1] for it in paths[kind] if it[:7] == 'crates/'})} for kind in all_of}
 
 
 def wanted():
     """The table of all parts, as docs/ADDING_A_STAGE.md has it."""
-    out = ['', '| Lines that name | Source | Definitions | Proofs | Together | Imports |', '|---|---|---|---|---|---|']
+    out = ['', '| Lines in files | Source | Definitions | Proofs | Together | Imports |', '|---|---|---|---|---|---|']
     for name, part in PARTS.items():
         of = sums(touches(part, deeds=False))
-        cells = ' | '.join('%(lines)d in %(files)d files' % of[kind] for kind in ROOMS.values())
+        cells = ' | '.join('%(lines)d in %(files)d' % of[kind] for kind in ROOMS.values())
         out.append('| %s | %s | %d in %d files of %d crates | %d |' % (name, cells, *of['code'].values(), of['imports']['lines']))
     return out + ['']
 
