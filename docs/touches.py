@@ -86,16 +86,13 @@ def brought(path):
     return words, passed, types
 
 
-def pattern(path, part):
-    """What names the part in a file, the words for it there, and what is in each line that counts (and found fast)."""
-    words, _, types = brought(path)
-    mine = [word for word, variant in words.items() if variant in part.variants]
-    pieces = set(mine + ['"' + part.text] + [it.split('::')[1] for it in part.variants])
+def pattern(path, part, mine):
+    """What names the part in a file, which has these words for it."""
     ways = [r'(?<![\w.-])%s(?![\w-])' % word for word in mine] + [r'"%s(?=["\s])' % part.text]
     for kind, name in [it.split('::') for it in part.variants]:
         ways += [r'\b%s::%s\b' % (kind, name), r'\bin-%s(?![A-Za-z0-9_])' % name]
-        ways += [r'(?<!\w)%s\.%s\b' % (prefix, name) for prefix, other in types.items() if other == kind]
-    return re.compile('|'.join(ways)), mine, pieces
+        ways += [r'(?<!\w)%s\.%s\b' % (prefix, name) for prefix, other in brought(path)[2].items() if other == kind]
+    return re.compile('|'.join(ways))
 
 
 def touches(part, deeds=True):
@@ -105,10 +102,12 @@ def touches(part, deeds=True):
     stem = re.compile(part.stem, re.I) if part.stem and deeds else None
     for path in found(*CODE):
         crate, room = path.split('/')[1:3]
-        names, mine, pieces = pattern(path, part)
+        mine = [word for word, variant in brought(path)[0].items() if variant in part.variants]
+        pieces = {*mine, '"' + part.text, *(it.split('::')[1] for it in part.variants)}  # one is in each line that counts
         some = any(it in read(path) for it in pieces) or stem and stem.search(read(path))
         if not some or crate in part.crates or crate.endswith('_tests'):
             continue
+        names = pattern(path, part, mine)
         importing, comment = False, r'(^|\s)//.*' if room == 'src' else r'(^|\s)--(\s.*|$)'
         for number, line in enumerate(read(path).split('\n'), 1):
             importing = importing or line.lstrip().startswith(('use ', 'pub use ', 'ghost use ', 'pub ghost use '))
