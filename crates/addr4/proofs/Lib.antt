@@ -5,3 +5,5 @@ pub mod RankLemmas
 pub mod NumberLemmas
 pub mod PartLemmas
 mod DigitLemmas
+pub mod FrontLemmas
+pub mod SharedLemmas

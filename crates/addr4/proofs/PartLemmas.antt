@@ -6,7 +6,7 @@ use Rattle.std.proofs.lemmas.List.Elements.{All-from_get_or}
 use Rattle.std.proofs.lemmas.List.Splits.{slice_split_at, slice_split_none, length-slice_split}
 use Rattle.std.specs.List.{All}
 use Rattle.memchr.specs.Find.{IsFirstByte, Nowhere, Passes, is_byte}
-use Rattle.addr4.specs.Texts.{parts, addr_from_parts, prefix_from_parts}
+use Rattle.addr4.specs.Texts.{parts, id_from_parts, prefix_from_parts}
 
 cut_at : (text : List ℕ) (i : ℕ) → i < length text → text ≡ take i text ++ (get_or text i 0 ∷ drop (i + 1) text)
 cut_at text i below = sym (take-append-drop i text) ∙ ap (λ r. take i text ++ r) (drop_more text i 0 below)
@@ -68,7 +68,7 @@ first_behind test text near i place within front passed found = in_whole place (
 pub parts_some : (separator : ℕ) (text : List ℕ) → 0 < length (parts separator text)
 parts_some separator text = omega (arith, length-slice_split (λ b. nat_eq b separator) text)
 
-five_parts : (a b c d : List ℕ) (more : List (List ℕ)) → 0 < length more → addr_from_parts (a ∷ b ∷ c ∷ d ∷ more) ≡ None
+five_parts : (a b c d : List ℕ) (more : List (List ℕ)) → 0 < length more → id_from_parts (a ∷ b ∷ c ∷ d ∷ more) ≡ None
 five_parts a b c d [] some = absurd (omega arith)
 five_parts a b c d (e ∷ more) some = refl
 
@@ -77,7 +77,7 @@ three_parts width a b [] some = absurd (omega arith)
 three_parts width a b (e ∷ more) some = refl
 
 -- a fifth part makes no address
-pub no_fifth_part : (a b c d r : List ℕ) → addr_from_parts (a ∷ b ∷ c ∷ d ∷ parts 46 r) ≡ None
+pub no_fifth_part : (a b c d r : List ℕ) → id_from_parts (a ∷ b ∷ c ∷ d ∷ parts 46 r) ≡ None
 no_fifth_part a b c d r = five_parts a b c d (parts 46 r) (parts_some 46 r)
 
 -- a third part makes no prefix

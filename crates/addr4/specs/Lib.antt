@@ -1,4 +1,5 @@
 pub mod Blocks
+pub mod Families
 pub mod Prefixes
 pub mod Halves
 pub mod Places

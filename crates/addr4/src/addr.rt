@@ -1,10 +1,12 @@
 //! Addresses.
 
-ghost use Rattle.std.specs.Prelude.{◌≡◌, ◌^◌, ◌<◌};
+ghost use Rattle.std.specs.Prelude.{◌≡◌, ◌≢◌, ◌-◌, ◌%◌, ◌^◌, ◌<◌, ◌≤◌};
 ghost use Rattle.std.proofs.Common.{rules};
 ghost use Rattle.std.specs.Cmp.{partial_order_from_own_ties};
 ghost use Rattle.std.specs.Cmp.Rules.{comparing};
 ghost use Rattle.std.specs.Ordering.{as_partial_cmp, nat_cmp};
+ghost use Rattle.addr4.specs.Blocks.{width, digit_at, Shared};
+ghost use Rattle.addr4.specs.Families.{in_front};
 
 use crate::family::{Family, V4};
 use std::alloc::AllocError;
@@ -25,7 +27,9 @@ impl<F: Family> Model for Addr<F> {
 
     ghost view = { λ a. F.number a.bits };
 
-    ghost invariant = { λ a. F.number a.bits < 2 ^ F.WIDTH };
+    ghost use Rattle.addr4.specs.Blocks.{width};
+
+    ghost invariant = { λ a. F.number a.bits < 2 ^ width };
 
     ghost inverse = { λ n. record { bits = F.bits n } };
 
@@ -88,6 +92,13 @@ impl<F: Family> Addr<F> {
         Addr { bits }
     }
 
+    /// The address whose bits are all 0.
+    pub fn unspecified() -> Addr<F>
+        ensures { result ≡ 0 }
+    {
+        Addr::from_bits(F::unspecified())
+    }
+
     pub fn bits(self) -> F
         ensures { F.number result ≡ self }
     {
@@ -96,21 +107,41 @@ impl<F: Family> Addr<F> {
 
     /// Below two to the width.
     pub fn known(self)
-        ensures { self < 2 ^ F.WIDTH }
+        ensures fits { self < 2 ^ width }
+        ensures rest { self % 2 ^ (width - F.WIDTH) ≡ 0 }
+        ensures narrow { F.WIDTH ≤ width }
     {
         self.bits.known();
+    }
+
+    /// How many of their first bits two different addresses share.
+    pub fn shared_bits(self, other: Addr<F>) -> u8
+        requires { self ≢ other }
+        ensures shared { Shared width self other result }
+        ensures short { result < F.WIDTH }
+    {
+        self.bits.shared_bits(other.bits)
+    }
+
+    /// The digit of four bits that so many others follow.
+    pub fn digit(self, level: u32) -> usize
+        requires { level < 32 }
+        ensures digit { result ≡ digit_at level self }
+        ensures small { result < 16 }
+    {
+        self.bits.digit(level)
     }
 }
 
 impl Addr {
     pub fn new(number: u32) -> Addr
-        ensures { result ≡ number }
+        ensures { result ≡ in_front number }
     {
         Addr::from_bits(V4(number))
     }
 
     pub fn number(self) -> u32
-        ensures { result ≡ self }
+        ensures { in_front result ≡ self }
     {
         self.bits.0
     }

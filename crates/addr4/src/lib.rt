@@ -17,6 +17,7 @@ mod octets;
 mod parts;
 mod place;
 mod prefix;
+mod router_id;
 mod row;
 mod texts;
 
@@ -28,5 +29,8 @@ pub use octets::{all_printable, push_hex};
 pub use parts::first_part;
 pub use place::Place;
 pub use prefix::Prefix;
+pub use router_id::RouterId;
 pub use row::Row;
-pub use texts::{BadAddr, BadPrefix, push_addr, push_prefix, read_addr, read_prefix};
+pub use texts::{
+    BadAddr, BadPrefix, Texts, push_addr, push_id, push_prefix, read_addr, read_id, read_prefix,
+};

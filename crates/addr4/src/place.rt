@@ -2,9 +2,9 @@
 
 use crate::prefix::Prefix;
 
-/// A place in the order of prefixes: before all, or at one.
-#[derive(Clone, Copy, PartialEq, Eq)]
-pub enum Place {
+/// A place in the order of prefixes: before all, or at one. `P` is the family's prefix.
+#[derive(Clone, Copy)]
+pub enum Place<P = Prefix> {
     Before,
-    At(Prefix),
+    At(P),
 }

@@ -4,7 +4,7 @@ ghost use Rattle.std.proofs.Common.{rules};
 ghost use Rattle.std.specs.Cmp.{partial_order_from_own_ties};
 ghost use Rattle.std.specs.Cmp.Rules.{comparing};
 ghost use Rattle.std.specs.Ordering.{as_partial_cmp};
-ghost use Rattle.addr4.specs.Blocks.{masked_to};
+ghost use Rattle.addr4.specs.Blocks.{width, masked_to};
 ghost use Rattle.addr4.specs.Prefixes.{prefix_cmp, same_prefix};
 
 use crate::addr::Addr;
@@ -29,7 +29,10 @@ impl<F: Family> Model for Prefix<F> {
 
     ghost view = { λ p. record { address = p.address; length = p.length } };
 
-    ghost invariant = { λ p. IsMasked F.WIDTH (record { address = p.address; length = p.length }) };
+    ghost use Rattle.std.specs.Prelude.{◌≤◌};
+    ghost use Rattle.addr4.specs.Blocks.{width};
+
+    ghost invariant = { λ p. IsMasked width (record { address = p.address; length = p.length }) × (p.length ≤ F.WIDTH) };
 
     ghost inverse = { λ p. record { address = p.address; length = p.length } };
 }
@@ -84,15 +87,16 @@ impl<F: Family> Ord for Prefix<F> {
 }
 
 impl<F: Family> Prefix<F> {
-    ghost use Rattle.addr4.specs.Prefixes.{AddressPrefix, IsMasked, Covers, Overlaps, Holds, IsBitOf};
+    ghost use Rattle.addr4.specs.Prefixes.{AddressPrefix, IsMasked, Covers, Overlaps, Holds, IsBitOf, behind};
 
     /// Masks the address. There is no prefix exactly above the family's width.
     pub fn new(address: Addr<F>, length: u8) -> Option<Prefix<F>>
-        ensures { MatchOption result (F.WIDTH < length) (λ p. (length ≤ F.WIDTH) × (p ≡ record { address = masked_to F.WIDTH address length; length = length })) }
+        ensures { MatchOption result (F.WIDTH < length) (λ p. (length ≤ F.WIDTH) × (p ≡ record { address = masked_to width address length; length = length })) }
     {
         if length > F::WIDTH {
             return None;
         }
+        address.known();
         Some(Prefix {
             address: Addr::from_bits(address.bits().masked(length)),
             length,
@@ -107,37 +111,48 @@ impl<F: Family> Prefix<F> {
 
     pub fn length(self) -> u8
         ensures value { result ≡ self.length }
-        ensures valid { IsMasked F.WIDTH self }
+        ensures valid { IsMasked width self }
+        ensures short { self.length ≤ F.WIDTH }
     {
         self.length
     }
 
-    /// The address is masked to the length, and below two to the width.
+    /// The address is masked to the length, which isn't above the family's width, and below two to the 128th.
     pub fn known(self)
-        ensures masked { IsMasked F.WIDTH self }
-        ensures fits { self.address < 2 ^ F.WIDTH }
+        ensures masked { IsMasked width self }
+        ensures fits { self.address < 2 ^ width }
+        ensures short { self.length ≤ F.WIDTH }
     {
         let _length = self.length;
         self.address.known();
     }
 
+    /// The last address.
+    pub fn last(self) -> Addr<F>
+        ensures { result + 2 ^ (width - F.WIDTH) ≡ behind width self }
+    {
+        let length = self.length;
+        self.address.known();
+        Addr::from_bits(self.address.bits().last(length))
+    }
+
     /// Whether each address of the other is one of this one.
     pub fn covers(self, other: Prefix<F>) -> bool
-        ensures { IsTrue result ↔ Covers F.WIDTH self other }
+        ensures { IsTrue result ↔ Covers width self other }
     {
         self.length <= other.length && self.holds(other.address)
     }
 
     /// Whether one covers the other.
     pub fn overlaps(self, other: Prefix<F>) -> bool
-        ensures { IsTrue result ↔ Overlaps F.WIDTH self other }
+        ensures { IsTrue result ↔ Overlaps width self other }
     {
         self.covers(other) || other.covers(self)
     }
 
     /// Whether the address is one of this prefix.
     pub fn holds(self, address: Addr<F>) -> bool
-        ensures { IsTrue result ↔ Holds F.WIDTH self address }
+        ensures { IsTrue result ↔ Holds width self address }
     {
         address
             .bits()
@@ -146,10 +161,10 @@ impl<F: Family> Prefix<F> {
             .is_eq()
     }
 
-    /// The bit of the address that counts `2 ^ (WIDTH - 1 - i)`.
+    /// The bit of the address behind so many others.
     pub fn bit(self, i: u8) -> bool
         requires { i < F.WIDTH }
-        ensures { IsTrue result ↔ IsBitOf F.WIDTH self i }
+        ensures { IsTrue result ↔ IsBitOf width self i }
     {
         self.address.bits().bit(i)
     }

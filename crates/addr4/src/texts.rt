@@ -3,13 +3,15 @@
 ghost use Rattle.std.specs.Prelude.{◌≡◌, ◌++◌, [], ◌∷◌, OnOk};
 ghost use Rattle.std.specs.Result.{result_ok};
 ghost use Rattle.std.specs.Fmt.{decimal};
-ghost use Rattle.addr4.specs.Texts.{addr_of, addr_text, dotted, number_below, prefix_of, prefix_text};
+ghost use Rattle.addr4.specs.Texts.{addr_of, addr_text, dotted, id_of, id_text, number_below, prefix_of, prefix_text};
 
 use crate::addr::Addr;
+use crate::family::{Family, V4};
 use crate::memory::Memory;
 use crate::numbers::{push_number, read_number_below};
 use crate::parts::first_part;
 use crate::prefix::Prefix;
+use crate::router_id::RouterId;
 
 /// A text that is no address.
 #[derive(Clone, Copy, Debug, PartialEq, Eq, thiserror::Error)]
@@ -20,6 +22,19 @@ pub struct BadAddr;
 #[derive(Clone, Copy, Debug, PartialEq, Eq, thiserror::Error)]
 #[error("not a prefix")]
 pub struct BadPrefix;
+
+/// A family whose addresses have texts.
+pub trait Texts: Family {
+    /// Appends the text of the address that the bits are. For want of memory some front of it may have been appended.
+    fn push(self, out: &mut Vec<u8>) -> Result<(), Memory>
+        ensures { OnOk result (out.new.items ≡ out.old.items ++ addr_text (Self.number self)) };
+}
+
+impl Texts for V4 {
+    fn push(self, out: &mut Vec<u8>) -> Result<(), Memory> {
+        push_four(out, self.0)
+    }
+}
 
 fn read_octet(text: &[u8]) -> Option<u8>
     ensures { result ≡ number_below 256 text.now }
@@ -33,12 +48,25 @@ fn read_octet(text: &[u8]) -> Option<u8>
 pub fn read_addr(text: &[u8]) -> Result<Addr, BadAddr>
     ensures { result_ok result ≡ addr_of text.now }
 {
-    read_octets(text).ok_or(BadAddr)
+    match read_octets(text) {
+        None => Err(BadAddr),
+        Some(number) => Ok(Addr::new(number)),
+    }
 }
 
-#[tactic(auto, using(crate::proofs::PartLemmas::no_fifth_part), unfolding(crate::specs::Texts::addr_of))]
-fn read_octets(text: &[u8]) -> Option<Addr>
-    ensures { result ≡ addr_of text.now }
+/// Reads an identifier: four octets, as those of an address.
+pub fn read_id(text: &[u8]) -> Result<RouterId, BadAddr>
+    ensures { result_ok result ≡ id_of text.now }
+{
+    match read_octets(text) {
+        None => Err(BadAddr),
+        Some(number) => Ok(RouterId::new(number)),
+    }
+}
+
+#[tactic(auto, using(crate::proofs::PartLemmas::no_fifth_part), unfolding(crate::specs::Texts::id_of))]
+fn read_octets(text: &[u8]) -> Option<u32>
+    ensures { result ≡ id_of text.now }
 {
     let (first, rest) = first_part(text, b'.');
     let (second, rest) = first_part(rest?, b'.');
@@ -51,7 +79,7 @@ fn read_octets(text: &[u8]) -> Option<Addr>
     let b = read_octet(second)?;
     let c = read_octet(third)?;
     let d = read_octet(fourth)?;
-    Some(Addr::new(u32::from_be_bytes([a, b, c, d])))
+    Some(u32::from_be_bytes([a, b, c, d]))
 }
 
 /// Appends four octets with dots between them.
@@ -75,11 +103,24 @@ fn push_octet(out: &mut Vec<u8>, octet: u8) -> Result<(), Memory>
 }
 
 /// Appends the text of an address. For want of memory some front of it may have been appended.
-#[tactic(auto, unfolding(crate::specs::Texts::addr_text))]
-pub fn push_addr(out: &mut Vec<u8>, addr: Addr) -> Result<(), Memory>
+pub fn push_addr<F: Texts>(out: &mut Vec<u8>, addr: Addr<F>) -> Result<(), Memory>
     ensures { OnOk result (out.new.items ≡ out.old.items ++ addr_text addr) }
 {
-    let number = addr.number();
+    addr.bits().push(out)
+}
+
+/// Appends the text of an identifier. For want of memory some front of it may have been appended.
+pub fn push_id(out: &mut Vec<u8>, id: RouterId) -> Result<(), Memory>
+    ensures { OnOk result (out.new.items ≡ out.old.items ++ id_text id) }
+{
+    push_four(out, id.number())
+}
+
+/// Appends the four octets of a number.
+#[tactic(auto, unfolding(crate::specs::Texts::id_text))]
+fn push_four(out: &mut Vec<u8>, number: u32) -> Result<(), Memory>
+    ensures { OnOk result (out.new.items ≡ out.old.items ++ id_text number) }
+{
     push_octets(
         out,
         (number / 0x100_0000 % 256) as u8,
@@ -113,7 +154,7 @@ fn read_length(text: &[u8]) -> Option<Prefix>
 
 /// Appends the text of a prefix. For want of memory some front of it may have been appended.
 #[tactic(auto, unfolding(crate::specs::Texts::prefix_text))]
-pub fn push_prefix(out: &mut Vec<u8>, p: Prefix) -> Result<(), Memory>
+pub fn push_prefix<F: Texts>(out: &mut Vec<u8>, p: Prefix<F>) -> Result<(), Memory>
     ensures { OnOk result (out.new.items ≡ out.old.items ++ prefix_text p) }
 {
     push_addr(out, p.address())?;

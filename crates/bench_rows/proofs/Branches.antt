@@ -9,10 +9,10 @@ use Rattle.addr4.specs.Prefixes.{AddressPrefix, prefix_cmp}
 use Rattle.addr4.proofs.PrefixOrder.{by_prefix}
 use Rattle.link_change.specs.Rows.{Rows, Candidates, no_rows, with_row}
 use Rattle.link_change.specs.Changes.{IsChangeOf}
-use Rattle.link_change.specs.declared.change.Change.{Change}
+use Rattle.link_change.specs.Changes.{Change}
 use Rattle.link_change.proofs.RowLemmas.{same_function, with_row_same, with_row_here}
 use Rattle.safe_table.specs.Tables.{Rows as Contents}
-use Rattle.bgp_attr.specs.declared.route.Route.{Route}
+use Rattle.bgp_attr.specs.Routes.{Route}
 use Rattle.decision.specs.Branches.{AllRows}
 use Rattle.decision.specs.Contests.{Contest, Knows, KnowsBefore, Counts, Moves, HasMove, CoversAt, counted}
 use Rattle.decision.proofs.CountLemmas.{no_candidate_where_none_is_counted, something_is_known}

@@ -7,7 +7,7 @@ use Rattle.link_change.specs.Rows.{Rows, Candidates, no_rows, with_row, with_row
 use Rattle.decision.specs.Branches.{AllRows}
 use Rattle.decision.specs.Contests.{Contest, Knows, Counts}
 use Rattle.safe_table.specs.Tables.{Rows as Contents}
-use Rattle.bgp_attr.specs.declared.route.Route.{Route}
+use Rattle.bgp_attr.specs.Routes.{Route}
 
 abbrev pub table_at : List (Contents Route) → ℕ → Option (Contents Route)
 table_at tables b = if nat_lt b 65 then slice_get tables b else None

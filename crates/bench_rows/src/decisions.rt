@@ -9,7 +9,7 @@ ghost use Rattle.std.specs.Prelude.{◌≡◌, ◌<◌, ◌≤◌, length, IfOk,
 ghost use Rattle.bench_rows.specs.Tables.{rows_in, Informed};
 
 use crate::measured::{Measured, mixed};
-use addr4::{Addr, Memory, Prefix, Row};
+use addr4::{Addr, Memory, Prefix, RouterId, Row};
 use bgp_attr::{
     AsPath, Attrs, Neighbour, Origin, Reflection, Route, SharedAttrs, UnrecognizedAttrs,
 };
@@ -48,7 +48,7 @@ fn peer(branch: u8) -> Neighbour {
     Neighbour {
         number: branch,
         asn: 65001 + number % 8,
-        id: Addr::new(0xc000_0200 + number),
+        id: RouterId::new(0xc000_0200 + number),
         addr: Addr::new(0xc000_0200 + number),
         internal: branch % 8 == 7,
         client: false,

@@ -6,3 +6,5 @@ pub mod Speakers
 pub mod Reflections
 pub mod Lent
 pub mod Items
+pub mod Attributes
+pub mod Routes

@@ -1,9 +1,14 @@
 -- What a speaker and its neighbours must be (RFC 4271, section 4.2; RFC 6793, section 3; RFC 4456, section 6).
 use Rattle.std.specs.Prelude.{◌≡◌, ℕ, ◌^◌, ◌<◌, ◌≤◌, ◌==◌, Bool, true, false, if◌then◌else◌}
-use Rattle.bgp_attr.specs.declared.speaker.Speaker.{Speaker}
+use Rattle.bgp_attr.specs.declared.speaker.Speaker as declared
 use Rattle.bgp_attr.specs.declared.speaker.Neighbour.{Neighbour}
 use Rattle.bgp_attr.specs.declared.speaker.Profile.{Profile}
+use Rattle.addr4.specs.Families.{IsIpv4}
 use Rattle.bgp_attr.specs.Hosts.{is_host}
+
+-- this speaker, whatever the family of its address
+abbrev pub Speaker : Type 0
+Speaker = declared.Speaker ℕ
 
 -- AS numbers are below it: those of four octets, or of two
 abbrev pub asn_bound : Bool → ℕ
@@ -16,7 +21,7 @@ pub record IsSpeaker (as4 : Bool) (s : Speaker) : Type 0 where
   pub id_least : 0 < s.id
   pub id_fits : s.id < 2 ^ 32
   pub host : is_host s.addr ≡ true
-  pub addr_fits : s.addr < 2 ^ 32
+  pub addr_fits : IsIpv4 s.addr
 
 -- a speaker with a number from 1 to 64
 pub record IsNeighbour (as4 : Bool) (w : Neighbour) : Type 0 where

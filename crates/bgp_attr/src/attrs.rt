@@ -5,7 +5,7 @@ ghost use Rattle.std.specs.Prelude.{◌≡◌, IfOk};
 use crate::path::AsPath;
 use crate::reflection::Reflection;
 use crate::unrecognized::UnrecognizedAttrs;
-use addr4::{Addr, Memory, Row};
+use addr4::{Addr, Family, Memory, RouterId, Row, V4};
 use std::alloc::Global;
 use std::marker::Model;
 use std::rc::Rc;
@@ -22,7 +22,8 @@ pub enum Origin {
 #[derive(Clone, Copy, PartialEq, Eq)]
 pub struct Aggregator {
     pub asn: u32,
-    pub addr: Addr,
+    /// The identifier of that speaker, as a rule one of its IPv4 addresses.
+    pub addr: RouterId,
     /// Whether the attribute came with its partial flag set.
     pub partial: bool,
 }
@@ -30,7 +31,7 @@ pub struct Aggregator {
 /// What is kept of a route's attributes. A table has one for each UPDATE that announced a route of it: the fields stand by their
 /// size, so that there is no room between them.
 #[derive(Drop)]
-pub struct Attrs {
+pub struct Attrs<A = Addr> {
     pub path: AsPath,
     /// The unrecognized optional transitive attributes, by ascending type.
     pub unrecognized: UnrecognizedAttrs,
@@ -41,7 +42,7 @@ pub struct Attrs {
     pub med: Option<u32>,
     /// LOCAL_PREF; of an internal peer's route alone.
     pub local_pref: Option<u32>,
-    pub next_hop: Addr,
+    pub next_hop: A,
     pub origin: Origin,
     /// Whether ATOMIC_AGGREGATE is there.
     pub atomic: bool,
@@ -49,8 +50,8 @@ pub struct Attrs {
 
 const _: () = prove!(size_of::<Attrs>() <= 104);
 
-impl Row for Attrs {
-    fn copy(&self) -> Result<Attrs, Memory> {
+impl<F: Family> Row for Attrs<Addr<F>> {
+    fn copy(&self) -> Result<Attrs<Addr<F>>, Memory> {
         let path = self.path.copy()?;
         let reflection = self.reflection.copy()?;
         let unrecognized = self.unrecognized.copy()?;
@@ -67,7 +68,7 @@ impl Row for Attrs {
         })
     }
 
-    fn same(&self, other: &Attrs) -> bool {
+    fn same(&self, other: &Attrs<Addr<F>>) -> bool {
         self.origin == other.origin
             && self.next_hop == other.next_hop
             && self.med == other.med
@@ -82,41 +83,41 @@ impl Row for Attrs {
 
 /// Attributes that several routes share. Contracts see the attributes themselves.
 #[derive(Drop)]
-pub struct SharedAttrs {
-    inner: Rc<Attrs>,
+pub struct SharedAttrs<F: Family = V4> {
+    inner: Rc<Attrs<Addr<F>>>,
 }
 
-impl Model for SharedAttrs {
-    ghost use Rattle.bgp_attr.specs.declared.attrs.Attrs.{Attrs};
+impl<F: Family> Model for SharedAttrs<F> {
+    ghost use Rattle.bgp_attr.specs.Attributes.{Attrs};
 
     ghost Value = { Attrs };
 
     ghost view = { λ s. s.inner.value };
 }
 
-impl SharedAttrs {
-    pub fn new(alloc: Global, attrs: Attrs) -> Result<SharedAttrs, Memory>
+impl<F: Family> SharedAttrs<F> {
+    pub fn new(alloc: Global, attrs: Attrs<Addr<F>>) -> Result<SharedAttrs<F>, Memory>
         ensures { IfOk result (λ shared. shared ≡ attrs) }
     {
         let inner = Rc::new(alloc, attrs)?;
         Ok(SharedAttrs { inner })
     }
 
-    pub fn attrs(&self) -> &Attrs
+    pub fn attrs(&self) -> &Attrs<Addr<F>>
         ensures { result.now ≡ self.now }
     {
         &self.inner
     }
 }
 
-impl Row for SharedAttrs {
+impl<F: Family> Row for SharedAttrs<F> {
     /// Takes no memory: the attributes are shared.
-    fn copy(&self) -> Result<SharedAttrs, Memory> {
+    fn copy(&self) -> Result<SharedAttrs<F>, Memory> {
         let inner = self.inner.clone()?;
         Ok(SharedAttrs { inner })
     }
 
-    fn same(&self, other: &SharedAttrs) -> bool {
+    fn same(&self, other: &SharedAttrs<F>) -> bool {
         self.inner.same(&other.inner)
     }
 }

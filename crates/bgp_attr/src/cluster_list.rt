@@ -2,14 +2,14 @@
 
 ghost use Rattle.std.specs.Prelude.{◌≡◌, []};
 
-use addr4::{Addr, Memory, Row};
+use addr4::{Memory, RouterId, Row};
 use std::alloc::Global;
 use std::marker::Model;
 
 /// The clusters that a route went through, by their identifiers, the latest one first (RFC 4456, section 8).
 #[derive(Drop)]
 pub struct ClusterList {
-    items: Vec<Addr>,
+    items: Vec<RouterId>,
 }
 
 impl Model for ClusterList {
@@ -31,13 +31,13 @@ impl ClusterList {
     }
 
     /// Takes no memory.
-    pub fn from_vec(items: Vec<Addr>) -> ClusterList
+    pub fn from_vec(items: Vec<RouterId>) -> ClusterList
         ensures { result ≡ items.items }
     {
         ClusterList { items }
     }
 
-    pub fn as_slice(&self) -> &[Addr]
+    pub fn as_slice(&self) -> &[RouterId]
         ensures { result.now ≡ self.now }
     {
         self.items.as_slice()

@@ -3,10 +3,7 @@
 ghost use Rattle.std.specs.Prelude.{◌≡◌};
 ghost use Rattle.bgp_attr.specs.Hosts.{is_host, is_host_prefix};
 
-use addr4::{Addr, Prefix};
-
-/// The first address that is no host's: 224.0.0.0.
-const BEHIND_HOSTS: u32 = 0xE000_0000;
+use addr4::{Addr, Family, Prefix};
 
 /// Whether a host may have the address.
 pub fn is_host(addr: Addr) -> bool
@@ -17,8 +14,9 @@ pub fn is_host(addr: Addr) -> bool
 }
 
 /// Whether the prefix is none of those of multicast and of class E, which 224.0.0.0/3 covers.
-pub fn is_host_prefix(prefix: Prefix) -> bool
+pub fn is_host_prefix<F: Family>(prefix: Prefix<F>) -> bool
     ensures { result ≡ is_host_prefix prefix }
 {
-    prefix.address().number() < BEHIND_HOSTS
+    prefix.known();
+    prefix.address().digit(31) < 14
 }

@@ -11,7 +11,7 @@ use crate::attrs::{Aggregator, Attrs, Origin};
 use crate::path::{AsPath, MOST, Numbers, SegmentKind, Segments};
 use crate::reflection::Reflection;
 use crate::unrecognized::Unrecognized;
-use addr4::Addr;
+use addr4::{Addr, Family, RouterId, V4};
 use std::marker::Model;
 
 /// A segment of a path, lent, with an AS in front of its numbers so many times. Contracts see the segment that this makes.
@@ -150,10 +150,10 @@ fn in_first(others: u16) -> u8
 /// this makes.
 #[derive(Drop)]
 pub struct LentReflection<'a> {
-    pub originator: Option<Addr>,
+    pub originator: Option<RouterId>,
     /// The cluster in front.
-    pub front: Option<Addr>,
-    pub others: &'a [Addr],
+    pub front: Option<RouterId>,
+    pub others: &'a [RouterId],
 }
 
 impl<'a> Model for LentReflection<'a> {
@@ -191,7 +191,7 @@ impl Reflection {
     }
 
     /// The same once more reflected ([`Reflection::reflected`]), lent.
-    pub fn lent_reflected(&self, sender: Addr, cluster: Addr) -> LentReflection<'_>
+    pub fn lent_reflected(&self, sender: RouterId, cluster: RouterId) -> LentReflection<'_>
         ensures { result ≡ reflected_by sender cluster self.now }
     {
         LentReflection {
@@ -204,20 +204,20 @@ impl Reflection {
 
 /// The attributes of a route, lent. Contracts see the attributes that this makes.
 #[derive(Drop)]
-pub struct LentAttrs<'a> {
+pub struct LentAttrs<'a, F: Family = V4> {
     pub path: LentPath<'a>,
     pub unrecognized: &'a [Unrecognized],
     pub reflection: LentReflection<'a>,
     pub aggregator: Option<Aggregator>,
     pub med: Option<u32>,
     pub local_pref: Option<u32>,
-    pub next_hop: Addr,
+    pub next_hop: Addr<F>,
     pub origin: Origin,
     pub atomic: bool,
 }
 
-impl<'a> Model for LentAttrs<'a> {
-    ghost use Rattle.bgp_attr.specs.declared.attrs.Attrs.{Attrs};
+impl<'a, F: Family> Model for LentAttrs<'a, F> {
+    ghost use Rattle.bgp_attr.specs.Attributes.{Attrs};
 
     ghost Value = { Attrs };
 
@@ -234,9 +234,9 @@ impl<'a> Model for LentAttrs<'a> {
     } };
 }
 
-impl Attrs {
+impl<F: Family> Attrs<Addr<F>> {
     /// The attributes, lent.
-    pub fn lent(&self) -> LentAttrs<'_>
+    pub fn lent(&self) -> LentAttrs<'_, F>
         ensures { result ≡ self.now }
     {
         LentAttrs {

@@ -6,7 +6,7 @@ ghost use Rattle.std.specs.Option.{option_map_or};
 ghost use Rattle.bgp_attr.specs.Reflections.{has_been_at, reflected_by};
 
 use crate::cluster_list::ClusterList;
-use addr4::{Addr, Memory, Row};
+use addr4::{Memory, RouterId, Row};
 use std::alloc::Global;
 use std::marker::Model;
 
@@ -18,7 +18,7 @@ pub struct Reflection {
 
 #[derive(Drop)]
 struct Added {
-    originator: Option<Addr>,
+    originator: Option<RouterId>,
     clusters: ClusterList,
 }
 
@@ -44,7 +44,7 @@ impl Reflection {
     /// These were added; takes no memory where they are nothing.
     pub fn new(
         alloc: Global,
-        originator: Option<Addr>,
+        originator: Option<RouterId>,
         clusters: ClusterList,
     ) -> Result<Reflection, Memory>
         ensures { IfOk result (λ r. r ≡ record { originator = originator; clusters = clusters }) }
@@ -61,7 +61,7 @@ impl Reflection {
     }
 
     /// ORIGINATOR_ID: the identifier of the router that brought the route into the AS; none where no reflector said it.
-    pub fn originator(&self) -> Option<Addr>
+    pub fn originator(&self) -> Option<RouterId>
         ensures { result ≡ self.now.originator }
     {
         match &self.added {
@@ -71,7 +71,7 @@ impl Reflection {
     }
 
     /// CLUSTER_LIST: the clusters that the route went through, the latest one first; none where no reflector said one.
-    pub fn clusters(&self) -> &[Addr]
+    pub fn clusters(&self) -> &[RouterId]
         ensures { result.now ≡ self.now.clusters }
     {
         match &self.added {
@@ -81,7 +81,7 @@ impl Reflection {
     }
 
     /// Whether who has this identifier brought the route into the AS, or the route went through its cluster (RFC 4456, section 8).
-    pub fn has_been_at(&self, id: Addr) -> bool
+    pub fn has_been_at(&self, id: RouterId) -> bool
         ensures { result ≡ has_been_at self.now id }
     {
         is_originator(self.originator(), id) || has_cluster(self.clusters(), id)
@@ -92,8 +92,8 @@ impl Reflection {
     pub fn reflected(
         &self,
         alloc: Global,
-        sender: Addr,
-        cluster: Addr,
+        sender: RouterId,
+        cluster: RouterId,
     ) -> Result<Reflection, Memory>
         ensures { IfOk result (λ r. r ≡ reflected_by sender cluster self.now) }
     {
@@ -123,7 +123,7 @@ impl Row for Reflection {
     }
 }
 
-fn is_originator(originator: Option<Addr>, id: Addr) -> bool
+fn is_originator(originator: Option<RouterId>, id: RouterId) -> bool
     ensures { result ≡ option_map_or (λ originator. originator == id) originator false }
 {
     match originator {
@@ -132,7 +132,7 @@ fn is_originator(originator: Option<Addr>, id: Addr) -> bool
     }
 }
 
-fn has_cluster(clusters: &[Addr], id: Addr) -> bool
+fn has_cluster(clusters: &[RouterId], id: RouterId) -> bool
     ensures { result ≡ list_any (λ cluster. cluster == id) clusters.now }
 {
     clusters.iter().any(|cluster| *cluster == id)

@@ -2,12 +2,12 @@
 
 use crate::attrs::SharedAttrs;
 use crate::speaker::Neighbour;
-use addr4::{Memory, Row};
+use addr4::{Family, Memory, Row};
 
 /// A route behind the incoming filter: what the decision compares (RFC 4271, section 9.1).
 #[derive(Drop)]
-pub struct Route {
-    pub attrs: SharedAttrs,
+pub struct Route<S = SharedAttrs> {
+    pub attrs: S,
     /// The degree of preference.
     pub pref: u32,
     /// The MULTI_EXIT_DISC that counts here, which rules may have set.
@@ -20,9 +20,9 @@ pub struct Route {
     pub from: Option<Neighbour>,
 }
 
-impl Row for Route {
+impl<F: Family> Row for Route<SharedAttrs<F>> {
     /// Takes no memory: the attributes are shared.
-    fn copy(&self) -> Result<Route, Memory> {
+    fn copy(&self) -> Result<Route<SharedAttrs<F>>, Memory> {
         let attrs = self.attrs.copy()?;
         Ok(Route {
             attrs,
@@ -34,7 +34,7 @@ impl Row for Route {
         })
     }
 
-    fn same(&self, other: &Route) -> bool {
+    fn same(&self, other: &Route<SharedAttrs<F>>) -> bool {
         self.pref == other.pref
             && self.med == other.med
             && self.prepend == other.prepend

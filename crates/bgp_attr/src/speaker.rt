@@ -3,17 +3,17 @@
 ghost use Rattle.std.specs.Prelude.{◌≡◌};
 ghost use Rattle.bgp_attr.specs.Speakers.{asn_bound};
 
-use addr4::Addr;
+use addr4::{Addr, RouterId};
 
 /// This speaker: the words of `local`.
 #[derive(Clone, Copy, PartialEq, Eq)]
-pub struct Speaker {
+pub struct Speaker<A = Addr> {
     /// The local AS, 1 to 65535, or to 4294967295 where AS numbers have four octets.
     pub asn: u32,
     /// The BGP identifier, not 0.0.0.0.
-    pub id: Addr,
+    pub id: RouterId,
     /// The local address, that of a host.
-    pub addr: Addr,
+    pub addr: A,
 }
 
 /// A peer: the words of `peer`.
@@ -24,7 +24,7 @@ pub struct Neighbour {
     /// The peer's AS, 1 to 65535, or to 4294967295 where AS numbers have four octets.
     pub asn: u32,
     /// The BGP identifier, not 0.0.0.0.
-    pub id: Addr,
+    pub id: RouterId,
     pub addr: Addr,
     /// Whether the peer's AS is the local one.
     pub internal: bool,

@@ -7,6 +7,7 @@ use Rattle.std.specs.Result.{result_ok}
 use Rattle.std.proofs.lemmas.Bool.{eqb-true}
 use Rattle.std.proofs.lemmas.List.Folds.{find-append}
 use Rattle.byteorder.specs.Endian.{big_number}
+use Rattle.addr4.specs.Families.{in_front}
 use Rattle.bgp_attr.specs.declared.speaker.Profile.{Profile}
 use Rattle.bgp_wire.specs.declared.attributes.Size.TheVariants.{Fixed}
 use Rattle.bgp_wire.specs.declared.attributes.TypeRule.{TypeRule}
@@ -58,7 +59,7 @@ unfolding found_with
 gathers_more p a kept more found new adds g = record {
   origin = field_more (option_map (λ (a : Attribute). origin_of (get_or a.value 0 0))) (eqb a.kind 1) a (kept_of 1 kept) (kept_of 1 more) found.origin (adds 1) g.origin;
   path = field_more (option_and_then (λ (a : Attribute). result_ok (path_at (width_of p.as4) a.value))) (eqb a.kind 2) a (kept_of 2 kept) (kept_of 2 more) found.path (adds 2) g.path;
-  next_hop = number 3 found.next_hop g.next_hop;
+  next_hop = field_more (option_map (λ (a : Attribute). in_front (big_number 4 a.value))) (eqb a.kind 3) a (kept_of 3 kept) (kept_of 3 more) found.next_hop (adds 3) g.next_hop;
   med = number 4 found.med g.med;
   local_pref = number 5 found.local_pref g.local_pref;
   atomic = field_more is_some (eqb a.kind 6) a (kept_of 6 kept) (kept_of 6 more) found.atomic (adds 6) g.atomic;

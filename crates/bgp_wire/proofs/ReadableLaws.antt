@@ -2,14 +2,13 @@
 use Rattle.std.proofs.Common.{◌≡◌, ℕ, zero, suc, ◌-◌, ◌*◌, ◌/◌, ◌%◌, ◌^◌, ◌<◌, Bool, true, false, cond, eqb, not, ◌||◌, ◌&&◌, List, [], ◌∷◌, ◌++◌, length, drop, Option, Some, None, refl, sym, ap, subst, ◌∙◌, inl, inr, arith}
 use Rattle.std.specs.Prelude.{All, filter, option_map, slice_index, IsSomeAnd}
 use Rattle.std.proofs.lemmas.Bool.{eqb-true, eq-eqb}
-use Rattle.std.proofs.Math.Nat.{mul-mod_right}
 use Rattle.byteorder.specs.Endian.{big_number}
 use Rattle.byteorder.specs.Numbers.{big_from-lt}
-use Rattle.addr4.specs.Blocks.{size_of_length, masked_to}
+use Rattle.addr4.specs.Blocks.{size_of_length, masked_to, width}
 use Rattle.addr4.specs.Prefixes.{AddressPrefix}
-use Rattle.addr4.proofs.BlockLemmas.{size_pos}
+use Rattle.addr4.proofs.BlockLemmas.{size_pos, masked_down}
 use Rattle.bgp_attr.specs.declared.attrs.Aggregator.{Aggregator}
-use Rattle.bgp_attr.specs.declared.attrs.Attrs.{Attrs}
+use Rattle.bgp_attr.specs.Attributes.{Attrs}
 use Rattle.bgp_attr.specs.declared.path.Segment.{Segment}
 use Rattle.bgp_attr.specs.declared.speaker.Profile.{Profile}
 use Rattle.bgp_attr.specs.declared.unrecognized.Unrecognized.{Unrecognized}
@@ -22,7 +21,9 @@ use Rattle.bgp_wire.specs.Prefixes.{IsPrefix, ArePrefixes}
 use Rattle.bgp_wire.specs.Paths.{width_of, numbers_at, IsSegment, IsPath}
 use Rattle.bgp_wire.specs.Attributes.{Attribute, IsAttribute, AreAttributes, kept_by, rule_of, has_wrong_size, is_no_host, is_old_form, is_reflection, value_fault, judge_by}
 use Rattle.bgp_wire.specs.Routes.{kept_of, number_of, aggregator_of, clusters_of, is_unrecognized, AscendsFrom, value_of, AreUnrecognized, AreAttrs}
-use Rattle.bgp_wire.specs.Readable.{IsAddressPrefix, IsReadableSegment, IsHost, reads_reflection, IsReadable}
+use Rattle.addr4.specs.Families.{IsIpv4Prefix, in_front, IsIpv4}
+use Rattle.addr4.proofs.FrontLemmas.{front_shr, front_ipv4}
+use Rattle.bgp_wire.specs.Readable.{IsReadableSegment, IsHost, reads_reflection, IsReadable}
 use Rattle.bgp_wire.proofs.TestLemmas.{and_left, not_both, not_false, unequal}
 use Rattle.bgp_wire.proofs.RouteLaws.{IsKept, IsGood, kept_are, recognized_is_good, value_below}
 use Rattle.bgp_wire.proofs.TypeLaws.{GoodType, no_rule, no_rule_outside, kept_unrecognized}
@@ -81,20 +82,18 @@ number_fits n xs octets = big_from-lt 0 n xs (octet_at xs octets)
 
 -- ---- prefixes
 
-masked_multiple : (x s : ℕ) → 0 < s → (x - x % s) % s ≡ 0
-masked_multiple x s some = let e : x - x % s ≡ s * (x / s) = omega arith in ap (λ n. n % s) e ∙ mul-mod_right s (x / s)
-
-address_prefix_read : (octets : List ℕ) (p : AddressPrefix) → Octets octets → IsPrefix octets p → IsAddressPrefix p
+address_prefix_read : (octets : List ℕ) (p : AddressPrefix) → Octets octets → IsPrefix octets p → IsIpv4Prefix p
 address_prefix_read octets p are is =
     let bits : Octets is.bits = (subst Octets is.spelled are).1 in
     let fits = number_fits 4 is.bits bits in
-    let address : p.address ≡ masked_to 32 (big_number 4 is.bits) p.length = ap (λ (q : AddressPrefix). q.address) is.value in
+    let address : p.address ≡ masked_to width (in_front (big_number 4 is.bits)) p.length = ap (λ (q : AddressPrefix). q.address) is.value in
     record {
-      masked = (is.short, ap (λ n. n % size_of_length 32 p.length) address ∙ masked_multiple (big_number 4 is.bits) (size_of_length 32 p.length) (size_pos 32 p.length));
+      masked = (omega (arith, is.short), ap (λ n. n % size_of_length width p.length) address ∙ masked_down (in_front (big_number 4 is.bits)) (size_of_length width p.length) (size_pos width p.length));
       fits = omega (arith, address, fits);
+      short = is.short;
     }
 
-pub address_prefixes_read : (bytes : List ℕ) (ps : List AddressPrefix) → Octets bytes → ArePrefixes bytes ps → Every IsAddressPrefix ps
+pub address_prefixes_read : (bytes : List ℕ) (ps : List AddressPrefix) → Octets bytes → ArePrefixes bytes ps → Every IsIpv4Prefix ps
 address_prefixes_read bytes [] octets are = tt
 address_prefixes_read bytes (p ∷ ps) octets are =
     let parts = subst Octets are.2 octets in
@@ -171,7 +170,7 @@ pub found_from : {B : Type 0} (f : Attribute → B) (o : Option Attribute) (x : 
 found_from f None x e = absurd (not_some x e)
 found_from f (Some a) x e = (a, refl, some_same (f a) x e)
 
-host_read : (p : Profile) (external : Bool) (a : Attribute) (n : ℕ) → IsHeld p external 3 a → big_number 4 a.value ≡ n → IsHost n
+host_read : (p : Profile) (external : Bool) (a : Attribute) (n : ℕ) → IsHeld p external 3 a → in_front (big_number 4 a.value) ≡ n → IsHost n
 unfolding rule_of value_fault
 host_read p external a n held e =
     let octets = value_octets a held.is held.octets in
@@ -179,7 +178,7 @@ host_read p external a n held e =
     let fault : value_fault p.as4 a ≡ None = (good p external 3 a (record { optional = false; transitive = true; size = Fixed 4 }) refl held).value in
     let at : value_fault p.as4 a ≡ cond (is_no_host (slice_index a.value 0)) (Some (notice 3 8 a.octets)) None = ap (λ k. value_fault p.as4 (record a { kind = k })) held.same in
     let first : big_number 4 a.value / 2 ^ 24 ≡ slice_index a.value 0 = omega (arith, octet_at a.value octets 0, octet_at a.value octets 1, octet_at a.value octets 2, octet_at a.value octets 3) in
-    record { fits = omega (arith, fits, e); first = ap (λ n. is_no_host (n / 2 ^ 24)) (sym e) ∙ ap is_no_host first ∙ by_test (is_no_host (slice_index a.value 0)) (sym at ∙ fault) }
+    record { ipv4 = subst IsIpv4 e (front_ipv4 (big_number 4 a.value) (omega (arith, fits))); first = ap (λ n. is_no_host (n / 2 ^ 120)) (sym e) ∙ ap is_no_host (front_shr (big_number 4 a.value) 24 ∙ first) ∙ by_test (is_no_host (slice_index a.value 0)) (sym at ∙ fault) }
   where
     by_test : (b : Bool) → cond b (Some (notice 3 8 a.octets)) None ≡ None → b ≡ false
     by_test true e = absurd (not_some (notice 3 8 a.octets) (sym e))
@@ -251,7 +250,7 @@ attrs_read p external bytes steps runs attrs are octets is = record {
   path =
       let s = some_in (kept_of 2 kept) (λ a. IsPath (width_of p.as4) a.value attrs.path) is.path in
       every_all (IsReadableSegment p.as4) attrs.path (path_read p.as4 s.0.value attrs.path (value 2 s.0 s.1) s.2);
-  next_hop = let h = found_from (λ (a : Attribute). big_number 4 a.value) (kept_of 3 kept) attrs.next_hop is.next_hop in host_read p external h.0 attrs.next_hop (at 3 h.0 h.1) h.2;
+  next_hop = let h = found_from (λ (a : Attribute). in_front (big_number 4 a.value)) (kept_of 3 kept) attrs.next_hop is.next_hop in host_read p external h.0 attrs.next_hop (at 3 h.0 h.1) h.2;
   med = λ n e. number 4 n (sym is.med ∙ e);
   local_pref = λ n e. let l = from_internal external (number_of 5 kept) n (sym is.local_pref ∙ e) in (l.0, number 5 n l.1);
   aggregator = λ g e. aggregator g (sym is.aggregator ∙ e);

@@ -4,7 +4,7 @@ use Rattle.std.specs.Prelude.{replicate}
 use Rattle.std.specs.Option.{ForSome}
 use Rattle.std.proofs.lemmas.List.{length-append}
 use Rattle.addr4.specs.Prefixes.{AddressPrefix}
-use Rattle.bgp_attr.specs.declared.attrs.Attrs.{Attrs}
+use Rattle.bgp_attr.specs.Attributes.{Attrs}
 use Rattle.bgp_attr.specs.declared.speaker.Profile.{Profile}
 use Rattle.bgp_wire.specs.declared.message.Update.{Update}
 use Rattle.bgp_wire.specs.declared.message.Message.{Message}
@@ -12,7 +12,8 @@ use Rattle.bgp_wire.specs.declared.message.Message.TheVariants as messages
 use Rattle.bgp_wire.specs.Routes.{AreAttrs}
 use Rattle.bgp_wire.specs.Updates.{Reading}
 use Rattle.bgp_wire.specs.Grammar.{IsReading, AreAttrsFor, IsUpdateBy, without, Reads, Answers}
-use Rattle.bgp_wire.specs.Readable.{IsAddressPrefix, IsReadable, IsReadableUpdate, IsReadableMessage, AreOctets}
+use Rattle.addr4.specs.Families.{IsIpv4Prefix}
+use Rattle.bgp_wire.specs.Readable.{IsReadable, IsReadableUpdate, IsReadableMessage, AreOctets}
 use Rattle.bgp_wire.proofs.ReadableLaws.{Every, every_all, all_every, every_append, every_back, every_front, every_filter, Octets, address_prefixes_read, attrs_read}
 
 -- the octets of the fields
@@ -53,10 +54,10 @@ readable_by p external bytes r is octets true u by =
     let f = field_octets p external bytes r is octets in
     let withdrawn = address_prefixes_read is.withdrawn r.withdrawn f.withdrawn is.withdraws in
     let announced = address_prefixes_read is.announced r.announced f.announced is.announces in
-    let all : Every IsAddressPrefix (without r.announced r.withdrawn ++ r.announced) = every_append IsAddressPrefix (without r.announced r.withdrawn) r.announced (every_filter IsAddressPrefix _ r.withdrawn withdrawn) announced in
+    let all : Every IsIpv4Prefix (without r.announced r.withdrawn ++ r.announced) = every_append IsIpv4Prefix (without r.announced r.withdrawn) r.announced (every_filter IsIpv4Prefix _ r.withdrawn withdrawn) announced in
     record {
-      withdrawn = every_all IsAddressPrefix u.withdrawn (subst (Every IsAddressPrefix) (sym by.withdrawn) all);
-      announced = every_all IsAddressPrefix u.announced (subst (Every IsAddressPrefix) (sym by.announced) tt);
+      withdrawn = every_all IsIpv4Prefix u.withdrawn (subst (Every IsIpv4Prefix) (sym by.withdrawn) all);
+      announced = every_all IsIpv4Prefix u.announced (subst (Every IsIpv4Prefix) (sym by.announced) tt);
       attrs = λ a e. absurd (never a (sym by.attrs ∙ e));
     }
   where
@@ -65,8 +66,8 @@ readable_by p external bytes r is octets true u by =
 readable_by p external bytes r is octets false u by =
     let f = field_octets p external bytes r is octets in
     record {
-      withdrawn = every_all IsAddressPrefix u.withdrawn (subst (Every IsAddressPrefix) (sym by.withdrawn) (address_prefixes_read is.withdrawn r.withdrawn f.withdrawn is.withdraws));
-      announced = every_all IsAddressPrefix u.announced (subst (Every IsAddressPrefix) (sym by.announced) (address_prefixes_read is.announced r.announced f.announced is.announces));
+      withdrawn = every_all IsIpv4Prefix u.withdrawn (subst (Every IsIpv4Prefix) (sym by.withdrawn) (address_prefixes_read is.withdrawn r.withdrawn f.withdrawn is.withdraws));
+      announced = every_all IsIpv4Prefix u.announced (subst (Every IsIpv4Prefix) (sym by.announced) (address_prefixes_read is.announced r.announced f.announced is.announces));
       attrs = attrs_readable p external bytes r is octets r.announced u.attrs by.attrs;
     }
 

@@ -4,8 +4,9 @@ use Rattle.std.specs.Prelude.{find, is_some, option_map, option_and_then}
 use Rattle.std.specs.List.{list_any}
 use Rattle.std.specs.Result.{result_ok}
 use Rattle.addr4.specs.Prefixes.{AddressPrefix}
+use Rattle.addr4.specs.Families.{in_front}
 use Rattle.byteorder.specs.Endian.{big_number}
-use Rattle.bgp_attr.specs.declared.attrs.Attrs.{Attrs}
+use Rattle.bgp_attr.specs.Attributes.{Attrs}
 use Rattle.bgp_attr.specs.declared.path.Segment.{Segment}
 use Rattle.bgp_attr.specs.declared.speaker.Profile.{Profile}
 use Rattle.bgp_wire.specs.declared.found.Found.{Found}
@@ -109,7 +110,7 @@ same_missing : (p : Profile) (external : Bool) (bytes : List ℕ) (k : Kept) (fo
 same_missing p external bytes k found read g =
     let one : is_some found.origin ≡ has_kind 1 k.0 = ap is_some g.origin ∙ is_some-map (λ (a : Attribute). origin_of (get_or a.value 0 0)) (kept_of 1 k.0) ∙ is_some-find (λ (a : Attribute). eqb a.kind 1) k.0 in
     let two : is_some found.path ≡ has_kind 2 k.0 = ap is_some g.path ∙ by_path (kept_of 2 k.0) refl ∙ is_some-find (λ (a : Attribute). eqb a.kind 2) k.0 in
-    let three : is_some found.next_hop ≡ has_kind 3 k.0 = ap is_some g.next_hop ∙ is_some-map (λ (a : Attribute). big_number 4 a.value) (kept_of 3 k.0) ∙ is_some-find (λ (a : Attribute). eqb a.kind 3) k.0 in
+    let three : is_some found.next_hop ≡ has_kind 3 k.0 = ap is_some g.next_hop ∙ is_some-map (λ (a : Attribute). in_front (big_number 4 a.value)) (kept_of 3 k.0) ∙ is_some-find (λ (a : Attribute). eqb a.kind 3) k.0 in
     λ i. cond (not (one i)) (Some 1) (cond (not (two i)) (Some 2) (cond (not (three i)) (Some 3) None))
   where
     by_path : (o : Option Attribute) → kept_of 2 k.0 ≡ o → is_some (option_and_then (λ a. result_ok (path_at (width_of p.as4) a.value)) o) ≡ is_some o
@@ -139,11 +140,11 @@ attrs_found p external bytes k found read g has =
     let path = paths p external bytes k read s.0 s.1 in
     let origin_is : found.origin ≡ Some (origin_of (get_or o.0.value 0 0)) = g.origin ∙ ap (option_map (λ (a : Attribute). origin_of (get_or a.value 0 0))) o.1 in
     let path_is : found.path ≡ Some path.0 = g.path ∙ ap (option_and_then (λ (a : Attribute). result_ok (path_at (width_of p.as4) a.value))) s.1 ∙ ap result_ok path.1 in
-    let hop_is : found.next_hop ≡ Some (big_number 4 h.0.value) = g.next_hop ∙ ap (option_map (λ (a : Attribute). big_number 4 a.value)) h.1 in (
+    let hop_is : found.next_hop ≡ Some (in_front (big_number 4 h.0.value)) = g.next_hop ∙ ap (option_map (λ (a : Attribute). in_front (big_number 4 a.value))) h.1 in (
       record {
         origin = origin_of (get_or o.0.value 0 0);
         path = path.0;
-        next_hop = big_number 4 h.0.value;
+        next_hop = in_front (big_number 4 h.0.value);
         med = found.med;
         local_pref = cond external None found.local_pref;
         atomic = found.atomic;
@@ -155,7 +156,7 @@ attrs_found p external bytes k found read g has =
       record {
         origin = ap (option_map (λ (a : Attribute). get_or a.value 0 0)) o.1 ∙ ap (λ n. Some n) (origin_again (get_or o.0.value 0 0) (origins p external bytes k read o.0 o.1));
         path = some_and (kept_of 2 k.0) s.0 (λ a. IsPath (width_of p.as4) a.value path.0) s.1 (path_takes (width_of p.as4) s.0.value path.0 path.1);
-        next_hop = ap (option_map (λ (a : Attribute). big_number 4 a.value)) h.1;
+        next_hop = ap (option_map (λ (a : Attribute). in_front (big_number 4 a.value))) h.1;
         med = g.med;
         local_pref = ap (λ o. cond external None o) g.local_pref;
         atomic = g.atomic;

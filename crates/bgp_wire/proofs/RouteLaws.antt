@@ -5,7 +5,8 @@ use Rattle.std.specs.List.{list_any, position_or_len}
 use Rattle.std.proofs.lemmas.Bool.{ltb-false, ltb-true, eqb-true, eqb-false, eq-eqb, cases_lt}
 use Rattle.std.proofs.lemmas.List.Sums.{prefix_len-le-length}
 use Rattle.byteorder.specs.Endian.{big_number}
-use Rattle.bgp_attr.specs.declared.attrs.Attrs.{Attrs}
+use Rattle.addr4.specs.Families.{in_front}
+use Rattle.bgp_attr.specs.Attributes.{Attrs}
 use Rattle.bgp_attr.specs.declared.attrs.Origin.{Origin}
 use Rattle.bgp_attr.specs.declared.attrs.Origin.TheVariants.{Igp, Egp, Incomplete}
 use Rattle.bgp_attr.specs.declared.path.Segment.{Segment}
@@ -344,7 +345,7 @@ attrs_made p external bytes steps runs are has =
       record {
         origin = origin.0;
         path = path.0;
-        next_hop = big_number 4 h.0.value;
+        next_hop = in_front (big_number 4 h.0.value);
         med = number_of 4 kept;
         local_pref = cond external None (number_of 5 kept);
         atomic = is_some (kept_of 6 kept);
@@ -355,7 +356,7 @@ attrs_made p external bytes steps runs are has =
       record {
         origin = ap (option_map (λ (a : Attribute). get_or a.value 0 0)) o.1 ∙ ap (λ n. Some n) origin.1;
         path = some_and (kept_of 2 kept) s.0 (λ a. IsPath (width_of p.as4) a.value path.0) s.1 (path_takes (width_of p.as4) s.0.value path.0 path.1);
-        next_hop = ap (option_map (λ (a : Attribute). big_number 4 a.value)) h.1;
+        next_hop = ap (option_map (λ (a : Attribute). in_front (big_number 4 a.value))) h.1;
         med = refl;
         local_pref = refl;
         atomic = refl;

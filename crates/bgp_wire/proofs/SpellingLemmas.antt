@@ -1,5 +1,5 @@
 -- The octets that are sent, piece by piece.
-use Rattle.std.proofs.Common.{◌≡◌, ℕ, ◌+◌, ◌*◌, ◌≤◌, ◌<◌, Bool, true, false, cond, List, [], ◌∷◌, ◌++◌, length, take, refl, sym, ap, ◌∙◌, arith}
+use Rattle.std.proofs.Common.{◌≡◌, ℕ, ◌+◌, ◌*◌, ◌≤◌, ◌<◌, Bool, true, false, cond, List, [], ◌∷◌, ◌++◌, length, take, refl, sym, ap, ◌∙◌, ◌/◌, ◌^◌, arith}
 use Rattle.std.specs.List.{flat_map, All}
 use Rattle.std.proofs.lemmas.List.{append-nil, length-take, length-append}
 use Rattle.std.proofs.lemmas.List.Elements.{All-nil, All-cons, All-head, All-tail}
@@ -10,8 +10,8 @@ use Rattle.bgp_wire.specs.Spelling.{FitsWidth, prefix_octets, is_long, spelled_o
 use Rattle.bgp_wire.specs.Lengths.{head_octets}
 use Rattle.bgp_wire.proofs.SpelledLengths.{length-numbers}
 
-short_prefix : (p : AddressPrefix) → length (take (octets_for p.length) (big_bytes 4 p.address)) ≤ 4
-short_prefix p = omega (arith, length-take (octets_for p.length) (big_bytes 4 p.address))
+short_prefix : (p : AddressPrefix) → length (take (octets_for p.length) (big_bytes 4 (p.address / 2 ^ 96))) ≤ 4
+short_prefix p = omega (arith, length-take (octets_for p.length) (big_bytes 4 (p.address / 2 ^ 96)))
 
 pub alone : (p : AddressPrefix) → length (prefix_octets p ++ []) ≤ 5
 alone p = omega (arith, length-append (prefix_octets p) [], short_prefix p)

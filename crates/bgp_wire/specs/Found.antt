@@ -3,8 +3,9 @@ use Rattle.std.specs.Prelude.{◌≡◌, ℕ, List, [], ◌∷◌, ◌++◌, sli
 use Rattle.std.specs.List.{list_any}
 use Rattle.std.specs.Result.{result_ok}
 use Rattle.byteorder.specs.Endian.{big_number}
+use Rattle.addr4.specs.Families.{in_front}
 use Rattle.addr4.specs.Prefixes.{AddressPrefix}
-use Rattle.bgp_attr.specs.declared.attrs.Attrs.{Attrs}
+use Rattle.bgp_attr.specs.Attributes.{Attrs}
 use Rattle.bgp_attr.specs.declared.attrs.Origin.{Origin}
 use Rattle.bgp_attr.specs.declared.attrs.Origin.TheVariants.{Igp, Egp, Incomplete}
 use Rattle.bgp_attr.specs.declared.path.Segment.{Segment}
@@ -21,7 +22,7 @@ use Rattle.bgp_wire.specs.declared.notice.Refusal.{Refusal}
 use Rattle.bgp_wire.specs.Faults.{Fails}
 use Rattle.bgp_wire.specs.Paths.{width_of, path_at}
 use Rattle.bgp_wire.specs.Attributes.{Attribute, Kept, judgement, attributes_at}
-use Rattle.bgp_wire.specs.Routes.{kept_of, number_of, aggregator_of, clusters_at, clusters_of, is_unrecognized, AreUnrecognized}
+use Rattle.bgp_wire.specs.Routes.{kept_of, number_of, hop_of, aggregator_of, clusters_at, clusters_of, is_unrecognized, AreUnrecognized}
 use Rattle.bgp_wire.specs.Updates.{lack}
 use Rattle.bgp_wire.specs.Grammar.{without}
 
@@ -38,7 +39,7 @@ unfoldable pub found_with : Profile → Attribute → Found → Found
 found_with p a found = record {
   origin = if a.kind == 1 then Some (origin_of (slice_index a.value 0)) else found.origin;
   path = if a.kind == 2 then result_ok (path_at (width_of p.as4) a.value) else found.path;
-  next_hop = if a.kind == 3 then Some (big_number 4 a.value) else found.next_hop;
+  next_hop = if a.kind == 3 then Some (in_front (big_number 4 a.value)) else found.next_hop;
   med = if a.kind == 4 then Some (big_number 4 a.value) else found.med;
   local_pref = if a.kind == 5 then Some (big_number 4 a.value) else found.local_pref;
   atomic = if a.kind == 6 then true else found.atomic;
@@ -68,7 +69,7 @@ Takes p a old new (Err e) judged = Fails e judged
 pub record Gathers (p : Profile) (kept : List Attribute) (found : Found) : Type 0 where
   pub origin : found.origin ≡ option_map (λ a. origin_of (slice_index a.value 0)) (kept_of 1 kept)
   pub path : found.path ≡ option_and_then (λ a. result_ok (path_at (width_of p.as4) a.value)) (kept_of 2 kept)
-  pub next_hop : found.next_hop ≡ number_of 3 kept
+  pub next_hop : found.next_hop ≡ hop_of kept
   pub med : found.med ≡ number_of 4 kept
   pub local_pref : found.local_pref ≡ number_of 5 kept
   pub atomic : found.atomic ≡ is_some (kept_of 6 kept)

@@ -3,7 +3,7 @@
 use Rattle.std.specs.Prelude.{ℕ, ◌+◌, List, [], ◌∷◌, length, Bool, nat_lt, if◌then◌else◌}
 use Rattle.byteorder.specs.Endian.{big_bytes}
 use Rattle.addr4.specs.Prefixes.{AddressPrefix}
-use Rattle.bgp_attr.specs.declared.attrs.Attrs.{Attrs}
+use Rattle.bgp_attr.specs.Attributes.{Attrs}
 use Rattle.bgp_wire.specs.Spelling.{sent_attributes, octets_of, update_octets}
 use Rattle.bgp_wire.specs.Readable.{announcement}
 

@@ -1,7 +1,8 @@
 -- Prefixes on the wire (RFC 4271, section 4.3).
 use Rattle.std.specs.Prelude.{◌≡◌, ℕ, ◌+◌, ◌/◌, ◌≤◌, List, [], ◌∷◌, length, take, drop, Result, Ok, Err, nat_lt, if◌then◌else◌}
 use Rattle.byteorder.specs.Endian.{big_number}
-use Rattle.addr4.specs.Blocks.{masked_to}
+use Rattle.addr4.specs.Blocks.{width, masked_to}
+use Rattle.addr4.specs.Families.{in_front}
 use Rattle.addr4.specs.Prefixes.{AddressPrefix}
 use Rattle.bgp_wire.specs.declared.notice.Notice.{Notice}
 use Rattle.bgp_wire.specs.Faults.{notice}
@@ -13,7 +14,7 @@ octets_for bits = (bits + 7) / 8
 
 -- octets, the missing ones being 0, as an address masked to a length
 abbrev pub masked : List ℕ → ℕ → AddressPrefix
-masked octets bits = record { address = masked_to 32 (big_number 4 octets) bits; length = bits }
+masked octets bits = record { address = masked_to width (in_front (big_number 4 octets)) bits; length = bits }
 
 -- a length in bits, and the fewest octets that hold so many
 pub record IsPrefix (octets : List ℕ) (p : AddressPrefix) : Type 0 where

@@ -1,8 +1,9 @@
 -- What can be said in an UPDATE so that a peer reads it as it was said.
 use Rattle.std.specs.Prelude.{◌≡◌, ℕ, ◌+◌, ◌<◌, ◌≤◌, ◌/◌, ◌^◌, List, [], ◌∷◌, length, All, Some, None, Bool, true, false, not, ◌&&◌}
 use Rattle.std.specs.Option.{ForSome}
-use Rattle.addr4.specs.Prefixes.{AddressPrefix, IsMasked}
-use Rattle.bgp_attr.specs.declared.attrs.Attrs.{Attrs}
+use Rattle.addr4.specs.Families.{IsIpv4, IsIpv4Prefix}
+use Rattle.addr4.specs.Prefixes.{AddressPrefix}
+use Rattle.bgp_attr.specs.Attributes.{Attrs}
 use Rattle.bgp_attr.specs.declared.path.Segment.{Segment}
 use Rattle.bgp_attr.specs.declared.speaker.Profile.{Profile}
 use Rattle.bgp_wire.specs.declared.message.Update.{Update}
@@ -12,11 +13,6 @@ use Rattle.bgp_wire.specs.Paths.{width_of}
 use Rattle.bgp_wire.specs.Attributes.{is_no_host, is_old_form}
 use Rattle.bgp_wire.specs.Routes.{is_unrecognized, AscendsFrom}
 
--- an IPv4 prefix
-pub record IsAddressPrefix (n : AddressPrefix) : Type 0 where
-  pub masked : IsMasked 32 n
-  pub fits : n.address < 2 ^ 32
-
 -- a segment of 1 to 255 AS numbers, each of which has its octets
 pub record IsReadableSegment (as4 : Bool) (s : Segment) : Type 0 where
   pub some : 0 < length s.numbers
@@ -25,8 +21,8 @@ pub record IsReadableSegment (as4 : Bool) (s : Segment) : Type 0 where
 
 -- an address that a host may have, by its first octet
 pub record IsHost (address : ℕ) : Type 0 where
-  pub fits : address < 2 ^ 32
-  pub first : is_no_host (address / 2 ^ 24) ≡ false
+  pub ipv4 : IsIpv4 address
+  pub first : is_no_host (address / 2 ^ 120) ≡ false
 
 -- who reads ORIGINATOR_ID and CLUSTER_LIST: a route reflector, from an internal peer
 abbrev pub reads_reflection : Profile → Bool → Bool
@@ -55,8 +51,8 @@ announcement n a = record { withdrawn = []; announced = n ∷ []; attrs = Some a
 
 -- an UPDATE that says only what a peer reads as it is said
 pub record IsReadableUpdate (p : Profile) (external : Bool) (u : Update) : Type 0 where
-  pub withdrawn : All IsAddressPrefix u.withdrawn
-  pub announced : All IsAddressPrefix u.announced
+  pub withdrawn : All IsIpv4Prefix u.withdrawn
+  pub announced : All IsIpv4Prefix u.announced
   pub attrs : ForSome u.attrs (IsReadable p external)
 
 abbrev pub IsReadableMessage : Profile → Bool → Message → Type 0

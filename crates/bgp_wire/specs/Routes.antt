@@ -1,8 +1,9 @@
 -- What the kept attributes say of a route.
 use Rattle.std.specs.Prelude.{◌≡◌, ℕ, suc, ◌/◌, ◌≤◌, List, [], ◌∷◌, length, find, drop, slice_index, IsSomeAnd, Option, Some, None, is_some, option_map, Bool, nat_lt, ◌==◌, ◌||◌, ◌&&◌, not, if◌then◌else◌}
 use Rattle.byteorder.specs.Endian.{big_number}
+use Rattle.addr4.specs.Families.{in_front}
 use Rattle.bgp_attr.specs.declared.attrs.Aggregator.{Aggregator}
-use Rattle.bgp_attr.specs.declared.attrs.Attrs.{Attrs}
+use Rattle.bgp_attr.specs.Attributes.{Attrs}
 use Rattle.bgp_attr.specs.declared.attrs.Origin.{Origin}
 use Rattle.bgp_attr.specs.declared.attrs.Origin.TheVariants.{Igp, Egp, Incomplete}
 use Rattle.bgp_attr.specs.declared.speaker.Profile.{Profile}
@@ -16,6 +17,10 @@ kept_of kind kept = find (λ a. a.kind == kind) kept
 
 abbrev pub number_of : ℕ → List Attribute → Option ℕ
 number_of kind kept = option_map (λ a. big_number 4 a.value) (kept_of kind kept)
+
+-- the address that four octets are
+abbrev pub hop_of : List Attribute → Option ℕ
+hop_of kept = option_map (λ a. in_front (big_number 4 a.value)) (kept_of 3 kept)
 
 abbrev pub code_of_origin : Origin → ℕ
 code_of_origin Igp = 0
@@ -58,7 +63,7 @@ pub record AreUnrecognized (p : Profile) (kept : List Attribute) (us : List Unre
 pub record AreAttrs (p : Profile) (external : Bool) (kept : List Attribute) (attrs : Attrs) : Type 0 where
   pub origin : option_map (λ a. slice_index a.value 0) (kept_of 1 kept) ≡ Some (code_of_origin attrs.origin)
   pub path : IsSomeAnd (kept_of 2 kept) (λ a. IsPath (width_of p.as4) a.value attrs.path)
-  pub next_hop : number_of 3 kept ≡ Some attrs.next_hop
+  pub next_hop : hop_of kept ≡ Some attrs.next_hop
   pub med : attrs.med ≡ number_of 4 kept
   pub local_pref : attrs.local_pref ≡ (if external then None else number_of 5 kept)
   pub atomic : attrs.atomic ≡ is_some (kept_of 6 kept)

@@ -1,11 +1,11 @@
 -- The octets that are sent: of all that read alike, one spelling (RFC 4271, sections 4.1, 4.3, 4.5 and 5).
-use Rattle.std.specs.Prelude.{◌≡◌, ℕ, ◌+◌, ◌≤◌, ◌<◌, List, [], ◌∷◌, ◌++◌, length, take, map, filter, replicate, All, Option, Some, None, Bool, true, false, nat_lt, ◌==◌, not, ◌||◌, if◌then◌else◌}
+use Rattle.std.specs.Prelude.{◌≡◌, ℕ, ◌+◌, ◌≤◌, ◌<◌, List, [], ◌∷◌, ◌++◌, length, take, map, filter, replicate, All, Option, Some, None, Bool, true, false, nat_lt, ◌==◌, not, ◌||◌, if◌then◌else◌, ◌/◌, ◌^◌}
 use Rattle.std.specs.List.{flat_map}
 use Rattle.std.specs.Option.{ForSome}
 use Rattle.byteorder.specs.Endian.{big_bytes}
 use Rattle.addr4.specs.Prefixes.{AddressPrefix}
 use Rattle.bgp_attr.specs.declared.attrs.Aggregator.{Aggregator}
-use Rattle.bgp_attr.specs.declared.attrs.Attrs.{Attrs}
+use Rattle.bgp_attr.specs.Attributes.{Attrs}
 use Rattle.bgp_attr.specs.declared.path.Segment.{Segment}
 use Rattle.bgp_attr.specs.declared.unrecognized.Unrecognized.{Unrecognized}
 use Rattle.bgp_attr.specs.Reflections.{Reflected}
@@ -19,7 +19,7 @@ use Rattle.bgp_wire.specs.Routes.{code_of_origin}
 
 -- a length in bits, and the fewest octets that hold so many
 abbrev pub prefix_octets : AddressPrefix → List ℕ
-prefix_octets p = p.length ∷ take (octets_for p.length) (big_bytes 4 p.address)
+prefix_octets p = p.length ∷ take (octets_for p.length) (big_bytes 4 (p.address / 2 ^ 96))
 
 -- a type, a count, and the AS numbers
 abbrev pub segment_octets : ℕ → Segment → List ℕ
@@ -84,7 +84,7 @@ reflection_attributes r = optional (λ n. spelled 128 9 (big_bytes 4 n)) r.origi
 -- ORIGIN, AS_PATH and NEXT_HOP
 abbrev pub mandatory_attributes : Bool → Attrs → List Attribute
 mandatory_attributes as4 a =
-    spelled 64 1 (code_of_origin a.origin ∷ []) ∷ spelled 64 2 (path_octets (width_of as4) a.path) ∷ spelled 64 3 (big_bytes 4 a.next_hop) ∷ []
+    spelled 64 1 (code_of_origin a.origin ∷ []) ∷ spelled 64 2 (path_octets (width_of as4) a.path) ∷ spelled 64 3 (big_bytes 4 (a.next_hop / 2 ^ 96)) ∷ []
 
 -- MULTI_EXIT_DISC, LOCAL_PREF, ATOMIC_AGGREGATE and AGGREGATOR, if they are there
 abbrev pub further_attributes : Bool → Attrs → List Attribute

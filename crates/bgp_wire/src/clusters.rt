@@ -4,7 +4,7 @@ ghost use Rattle.std.specs.Prelude.{◌≡◌, IfOk};
 ghost use Rattle.bgp_wire.specs.Routes.{clusters_at};
 
 use crate::numbers::four_octets;
-use addr4::{Addr, Memory};
+use addr4::{Memory, RouterId};
 use bgp_attr::ClusterList;
 use std::alloc::Global;
 
@@ -16,7 +16,7 @@ pub(crate) fn read_clusters(alloc: Global, value: &[u8]) -> Result<ClusterList, 
     let mut clusters = Vec::with_capacity(alloc, count)?;
     let mut rest = value;
     'clusters: for _done in 0..count {
-        clusters.push(Addr::new(four_octets(rest)))?;
+        clusters.push(RouterId::new(four_octets(rest)))?;
         let (_identifier, after) = rest.split_at(4);
         rest = after;
     }

@@ -17,7 +17,7 @@ use crate::clusters::read_clusters;
 use crate::notice::{FaultKind, Refusal, refused};
 use crate::numbers::{as_number, four_octets, width};
 use crate::path::read_path;
-use addr4::{Addr, Memory};
+use addr4::{Addr, Memory, RouterId};
 use bgp_attr::{
     Aggregator, AsPath, ClusterList, Octets, Origin, Profile, Unrecognized, UnrecognizedAttrs,
 };
@@ -110,7 +110,7 @@ pub(crate) struct Found {
     pub(crate) atomic: bool,
     pub(crate) aggregator: Option<Aggregator>,
     /// ORIGINATOR_ID.
-    pub(crate) originator: Option<Addr>,
+    pub(crate) originator: Option<RouterId>,
     /// CLUSTER_LIST.
     pub(crate) clusters: ClusterList,
     pub(crate) unrecognized: Ascending,
@@ -149,7 +149,7 @@ fn aggregator_of(as4: bool, raw: &RawAttribute) -> Aggregator
 {
     Aggregator {
         asn: as_number(as4, raw.value),
-        addr: Addr::new(four_octets(&raw.value[width(as4)..])),
+        addr: RouterId::new(four_octets(&raw.value[width(as4)..])),
         partial: raw.flags / 32 % 2 == 1,
     }
 }
@@ -238,7 +238,7 @@ impl Found {
         } else if raw.kind == AGGREGATOR {
             self.aggregator = Some(aggregator_of(profile.as4, raw));
         } else if raw.kind == ORIGINATOR_ID {
-            self.originator = Some(Addr::new(four_octets(raw.value)));
+            self.originator = Some(RouterId::new(four_octets(raw.value)));
         } else {
             self.clusters = read_clusters(alloc, raw.value)?;
         }

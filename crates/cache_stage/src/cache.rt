@@ -5,7 +5,7 @@ ghost use Rattle.std.specs.FinMap as map;
 ghost use Rattle.link_change.specs.Rows.{with_rows};
 ghost use Rattle.cache_stage.specs.Caches.{CachesOn, kept_after};
 
-use addr4::{Memory, Place, Prefix, Row};
+use addr4::{Family, Memory, Place, Prefix, Row, V4};
 use link_change::{Change, Upstream};
 use safe_table::Table;
 use std::alloc::Global;
@@ -13,12 +13,12 @@ use std::marker::Model;
 
 /// The rows that were sent. Contracts see them.
 #[derive(Drop)]
-pub struct Cache<R> {
+pub struct Cache<R, F: Family = V4> {
     alloc: Global,
-    table: Table<R>,
+    table: Table<R, F>,
 }
 
-impl<R> Model for Cache<R> {
+impl<R, F: Family> Model for Cache<R, F> {
     ghost use Rattle.std.specs.FinMap.{FinMap};
     ghost use Rattle.std.specs.FinMap as map;
     ghost use Rattle.addr4.specs.Prefixes.{prefix_cmp, address_prefix_code};
@@ -30,9 +30,9 @@ impl<R> Model for Cache<R> {
     ghost view = { λ c. c.table.rows };
 }
 
-impl<R: Row> Cache<R> {
+impl<R: Row, F: Family> Cache<R, F> {
     /// No row. Takes no memory; what is kept later comes from `alloc`.
-    pub fn new(alloc: Global) -> Cache<R>
+    pub fn new(alloc: Global) -> Cache<R, F>
         ensures { result ≡ map.empty }
     {
         Cache {
@@ -42,7 +42,7 @@ impl<R: Row> Cache<R> {
     }
 
     /// Keeps the row after a change, and passes the change on. Memory only for want of memory: then no row changes.
-    pub fn take_in(&mut self, change: Change<R>) -> Result<Change<R>, Memory>
+    pub fn take_in(&mut self, change: Change<R, Prefix<F>>) -> Result<Change<R, Prefix<F>>, Memory>
         ensures law { IfOk result (CachesOn self.old self.new change) }
         ensures passed { IfOk result (λ sent. sent ≡ change) }
         ensures rows { OnOk result (self.new ≡ kept_after self.old change.prefix change.after) }
@@ -54,7 +54,7 @@ impl<R: Row> Cache<R> {
 
     /// Makes the row the one that it keeps at a prefix, or keeps none there, which takes no memory. For want of memory no row
     /// changes.
-    pub fn keep(&mut self, prefix: Prefix, after: &Option<R>) -> Result<(), Memory>
+    pub fn keep(&mut self, prefix: Prefix<F>, after: &Option<R>) -> Result<(), Memory>
         ensures ok { OnOk result (self.new ≡ kept_after self.old prefix after.now) }
         ensures none { after.now ≡ None → IsOk result }
         ensures memory { OnErr result (self.new ≡ self.old) }
@@ -72,7 +72,7 @@ impl<R: Row> Cache<R> {
     }
 
     /// The row at a prefix, lent.
-    pub fn row(&self, prefix: Prefix) -> Option<&R>
+    pub fn row(&self, prefix: Prefix<F>) -> Option<&R>
         ensures { option_copied result ≡ map.get self.now prefix }
     {
         self.table.get(prefix)
@@ -86,7 +86,7 @@ impl<R: Row> Cache<R> {
     }
 
     /// Hands out the rows, and keeps none. Takes no memory.
-    pub fn lose(&mut self) -> Table<R>
+    pub fn lose(&mut self) -> Table<R, F>
         ensures rows { result.rows ≡ self.old }
         ensures empty { self.new ≡ map.empty }
     {
@@ -94,7 +94,7 @@ impl<R: Row> Cache<R> {
     }
 }
 
-impl<R: Row> Upstream for Cache<R> {
+impl<R: Row, F: Family> Upstream<F> for Cache<R, F> {
     type Row = R;
 
     ghost use Rattle.link_change.specs.Rows.{with_rows};
@@ -103,14 +103,14 @@ impl<R: Row> Upstream for Cache<R> {
 
     ghost candidates = { λ c. with_rows (map.get c) };
 
-    fn asked(&self, p: &Prefix) -> Result<Option<R>, Memory> {
+    fn asked(&self, p: &Prefix<F>) -> Result<Option<R>, Memory> {
         match self.table.get(*p) {
             Some(row) => Ok(Some(row.copy()?)),
             None => Ok(None),
         }
     }
 
-    fn next_candidate(&self, after: &Place) -> Option<Prefix> {
+    fn next_candidate(&self, after: &Place<Prefix<F>>) -> Option<Prefix<F>> {
         self.table.next_after(*after)
     }
 }

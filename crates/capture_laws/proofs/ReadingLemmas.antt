@@ -5,16 +5,18 @@ use Rattle.std.proofs.lemmas.Fmt.{length-decimal-le, decimal_nonempty}
 use Rattle.std.specs.Fmt.{decimal}
 use Rattle.std.specs.Result.{result_ok}
 use Rattle.std.specs.List.{AllByRecursion, list_all, join_with_byte}
+use Rattle.std.proofs.lemmas.Nat.{shr-shr}
 use Rattle.hex.specs.Hex.{encode_lower, lower_digits}
 use Rattle.hex.proofs.HexLemmas.{decode_of-encode_lower, length-encode_with}
-use Rattle.addr4.specs.Texts.{addr_of, addr_text, dotted}
+use Rattle.addr4.specs.Texts.{addr_of, addr_text, dotted, id_text, id_of}
+use Rattle.addr4.proofs.FrontLemmas.{front_below}
 use Rattle.bgp_attr.specs.Hosts.{is_host}
 use Rattle.bgp_attr.specs.Speakers.{asn_bound}
 use Rattle.bgp_attr.specs.declared.speaker.Profile.{Profile}
 use Rattle.policy_rules.specs.Words.{◌>>=◌, is_word, words_among, words}
 use Rattle.journal_text.specs.declared.line.Code.TheVariants.{E1}
 use Rattle.journal_check.proofs.InkLemmas.{AreInk, inky, both_true, ink_by, ink_decimal, ink_hex, words_parted, line_passes, printable}
-use Rattle.journal_check.proofs.PrefixBack.{number_back, addr_back, ink_addr}
+use Rattle.journal_check.proofs.PrefixBack.{number_back, addr_back, ink_addr, id_back}
 use Rattle.event_text.specs.declared.event.Event.TheVariants as events
 use Rattle.event_text.specs.Words.{is_clean, from_one, speaker_by, speaker_of, client_of, octets_of}
 use Rattle.event_text.specs.Events.{local_of, peer_of, one_number, bgp_of, profile_event, interior_event, plain_event, named_event, event_of, in_grammar, read_event}
@@ -106,28 +108,31 @@ dotted_short a b c d ha hb hc hd =
       length-append (decimal c) (46 ∷ dotted (d ∷ [])),
     )
 
-addr_short : (a : ℕ) → length (addr_text a) ≤ 15
-unfolding addr_text
-addr_short a = dotted_short (a / 16777216 % 256) (a / 65536 % 256) (a / 256 % 256) (a % 256) (omega arith) (omega arith) (omega arith) (omega arith)
+id_short : (a : ℕ) → length (id_text a) ≤ 15
+unfolding id_text
+id_short a = dotted_short (a / 16777216 % 256) (a / 65536 % 256) (a / 256 % 256) (a % 256) (omega arith) (omega arith) (omega arith) (omega arith)
 
-addr_some : (a : ℕ) → 0 < length (addr_text a)
-unfolding addr_text
-addr_some a = omega (arith, length-append (decimal (a / 16777216 % 256)) (46 ∷ dotted (a / 65536 % 256 ∷ a / 256 % 256 ∷ a % 256 ∷ [])))
+addr_short : (a : ℕ) → length (addr_text a) ≤ 15
+addr_short a = id_short (a / 2 ^ 96)
+
+id_some : (a : ℕ) → 0 < length (id_text a)
+unfolding id_text
+id_some a = omega (arith, length-append (decimal (a / 16777216 % 256)) (46 ∷ dotted (a / 65536 % 256 ∷ a / 256 % 256 ∷ a % 256 ∷ [])))
 
 shown_addr : (a : ℕ) → IsShown (addr_text a)
-shown_addr a = record { ink = ink_addr a; some = addr_some a }
+shown_addr a = record { ink = ink_addr a; some = id_some (a / 2 ^ 96) }
 
 -- a host's first octet is from 1 to 223
-host_range : (addr : ℕ) → is_host addr ≡ true → (1 ≤ addr / 16777216) × (addr / 16777216 ≤ 223)
+host_range : (addr : ℕ) → is_host addr ≡ true → (1 ≤ addr / 2 ^ 120) × (addr / 2 ^ 120 ≤ 223)
 host_range addr e =
-    let both = both_true (nat_le 1 (addr / 16777216) && nat_le (addr / 16777216) 223) (not (nat_eq (addr / 16777216) 127)) e in
-    let t = both_true (nat_le 1 (addr / 16777216)) (nat_le (addr / 16777216) 223) both.0 in
+    let both = both_true (nat_le 1 (addr / 2 ^ 120) && nat_le (addr / 2 ^ 120) 223) (not (nat_eq (addr / 2 ^ 120) 127)) e in
+    let t = both_true (nat_le 1 (addr / 2 ^ 120)) (nat_le (addr / 2 ^ 120) 223) both.0 in
     let low = t.0 in
     let high = t.1 in
     (grind (arith, nat_tests), grind (arith, nat_tests))
 
-host_fits : (addr : ℕ) → is_host addr ≡ true → (0 < addr) × (addr < 2 ^ 32)
-host_fits addr e = let range = host_range addr e in let low = range.0 in let high = range.1 in (omega arith, omega arith)
+host_some : (addr : ℕ) → is_host addr ≡ true → 0 < addr / 2 ^ 96
+host_some addr e = let low = (host_range addr e).0 in let split = shr-shr addr 96 24 in omega (arith, low, split)
 
 asn_fits : (as4 : Bool) (asn addr : ℕ) → IsSpeaker as4 asn addr → asn < asn_bound as4
 asn_fits true asn addr s = s.wide
@@ -139,14 +144,14 @@ speaks a i h ha hi hh = cc
 speaker_told : (as4 : Bool) (asn addr : ℕ) → IsSpeaker as4 asn addr → speaker_by as4 (decimal asn) (addr_text addr) (addr_text addr) ≡ Some (speaker asn addr)
 unfolding speaker_by
 speaker_told as4 asn addr s =
-    let fits = host_fits addr s.host in
+    let id = addr / 2 ^ 96 in
     let some = s.some in
-    let least = fits.0 in
+    let least = host_some addr s.host in
     let asn_some : nat_eq asn 0 ≡ false = grind (arith, nat_tests) in
-    let addr_some : nat_eq addr 0 ≡ false = grind (arith, nat_tests) in
-    ap (λ o. o >>= λ a. addr_of (addr_text addr) >>= λ i. addr_of (addr_text addr) >>= λ h. cond (nat_eq a 0 || nat_eq i 0 || not (is_host h)) None (Some (record { asn = a; id = i; addr = h }))) (number_back (asn_bound as4) asn (asn_fits as4 asn addr s) (omega (arith, s.wide)))
-    ∙ (ap (λ o. o >>= λ i. o >>= λ h. cond (nat_eq asn 0 || nat_eq i 0 || not (is_host h)) None (Some (record { asn = asn; id = i; addr = h }))) (addr_back addr fits.1)
-    ∙ ap (λ b. cond b None (Some (speaker asn addr))) (speaks (nat_eq asn 0) (nat_eq addr 0) (is_host addr) asn_some addr_some s.host))
+    let id_some : nat_eq id 0 ≡ false = grind (arith, nat_tests) in
+    ap (λ o. o >>= λ a. id_of (addr_text addr) >>= λ i. addr_of (addr_text addr) >>= λ h. cond (nat_eq a 0 || nat_eq i 0 || not (is_host h)) None (Some (record { asn = a; id = i; addr = h }))) (number_back (asn_bound as4) asn (asn_fits as4 asn addr s) (omega (arith, s.wide)))
+    ∙ ((λ k. id_back id (front_below addr s.ipv4.0) k >>= λ i. addr_back addr s.ipv4 k >>= λ h. cond (nat_eq asn 0 || nat_eq i 0 || not (is_host h)) None (Some (record { asn = asn; id = i; addr = h })))
+    ∙ ap (λ b. cond b None (Some (speaker asn addr))) (speaks (nat_eq asn 0) (nat_eq id 0) (is_host addr) asn_some id_some s.host))
 
 -- ---- octets
 

@@ -1,7 +1,7 @@
 -- The events that the lines of a capture are, and where they may stand.
-use Rattle.std.specs.Prelude.{◌≡◌, ◌⊎◌, ℕ, Bool, false, List, [], ◌∷◌, None, Ok, ⊤}
+use Rattle.std.specs.Prelude.{◌≡◌, ◌⊎◌, ℕ, ◌/◌, ◌^◌, Bool, false, List, [], ◌∷◌, None, Ok, ⊤}
 use Rattle.std.specs.List.{AllByRecursion, join_with_byte}
-use Rattle.bgp_attr.specs.declared.speaker.Speaker.{Speaker}
+use Rattle.bgp_attr.specs.Speakers.{Speaker}
 use Rattle.event_text.specs.declared.event.Event.{Event}
 use Rattle.event_text.specs.declared.event.Event.TheVariants as events
 use Rattle.event_text.specs.Events.{read_event}
@@ -17,7 +17,7 @@ line_bytes line = join_with_byte 32 (line_words line)
 
 -- an address stands for the BGP identifier too
 abbrev pub speaker : ℕ → ℕ → Speaker
-speaker asn addr = record { asn = asn; id = addr; addr = addr }
+speaker asn addr = record { asn = asn; id = addr / 2 ^ 96; addr = addr }
 
 -- the event that a line is; no peer of a capture is a client
 abbrev pub event_of_line : Line → Event

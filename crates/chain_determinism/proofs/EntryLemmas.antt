@@ -6,9 +6,9 @@ use Rattle.addr4.specs.Prefixes.{AddressPrefix}
 use Rattle.link_change.specs.Rows.{Rows, with_row}
 use Rattle.link_change.proofs.RowLemmas.{with_row_here}
 use Rattle.journal_text.specs.declared.link.Link.{Link}
-use Rattle.journal_text.specs.declared.entry.Entry.{Entry}
+use Rattle.journal_text.specs.Lines.{Entry}
 use Rattle.journal_text.specs.declared.entry.Entry.TheVariants.{Add, Delete, Replace}
-use Rattle.journal_text.specs.declared.value.Value.{Value}
+use Rattle.journal_text.specs.Lines.{Value}
 use Rattle.journal_text.specs.Falls.{IsChangeOn}
 use Rattle.journal_text.specs.Walk.{Links, with_row_on, HasRow, Demands, after, change_entries}
 use Rattle.journal_text.proofs.WalkLemmas.{with_link_here}

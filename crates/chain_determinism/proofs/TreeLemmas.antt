@@ -1,13 +1,13 @@
 -- What changes of interior routes send down the tree leaves no choice.
 use Rattle.std.proofs.Common.{◌≡◌, List, Option}
 use Rattle.addr4.specs.Prefixes.{AddressPrefix}
-use Rattle.rib_route.specs.declared.rows.Interior.{Interior}
+use Rattle.rib_route.specs.Rows.{Interior}
 use Rattle.link_change.specs.Changes.{IsSent}
-use Rattle.link_change.specs.declared.change.Change.{Change}
+use Rattle.link_change.specs.Changes.{Change}
 use Rattle.journal_text.specs.Walk.{no_links}
 use Rattle.journal_text.specs.declared.link.Link.{Link}
-use Rattle.journal_text.specs.declared.entry.Entry.{Entry}
-use Rattle.journal_text.specs.declared.value.Value.{Value}
+use Rattle.journal_text.specs.Lines.{Entry}
+use Rattle.journal_text.specs.Lines.{Value}
 use Rattle.rib_tree.specs.Trees.{Treed, int_rows, beside_tree}
 use Rattle.rib_tree.specs.Falls.{FallsTree, way_of_route, way_of_sweep}
 use Rattle.stage_determinism.proofs.OneLemmas.{sent_is_one}

@@ -4,8 +4,8 @@ use Rattle.std.specs.List.{IsDistinct}
 use Rattle.addr4.specs.Prefixes.{AddressPrefix}
 use Rattle.journal_text.specs.Links.{same_link}
 use Rattle.journal_text.specs.declared.link.Link.{Link}
-use Rattle.journal_text.specs.declared.entry.Entry.{Entry}
-use Rattle.journal_text.specs.declared.value.Value.{Value}
+use Rattle.journal_text.specs.Lines.{Entry}
+use Rattle.journal_text.specs.Lines.{Value}
 use Rattle.journal_text.specs.Falls.{IsChangeOn}
 
 -- one change at the prefix on each of the first of these links, in their order

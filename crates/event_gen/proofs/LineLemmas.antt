@@ -1,11 +1,12 @@
 -- The prefixes of events.
 use Rattle.std.proofs.Common.{◌≡◌, ℕ, ◌+◌, ◌*◌, List, ◌++◌, append_assoc, ap, ◌∙◌, arith}
-use Rattle.addr4.specs.Blocks.{masked_to}
+use Rattle.addr4.specs.Blocks.{masked_to, width}
+use Rattle.addr4.specs.Families.{in_front}
 
-pub block_masked : (x : ℕ) → masked_to 32 (167772160 + x * 65536) 16 ≡ 167772160 + x * 65536
+pub block_masked : (x : ℕ) → masked_to width (in_front (167772160 + x * 65536)) 16 ≡ in_front (167772160 + x * 65536)
 block_masked x = omega arith
 
-pub host_masked : (a : ℕ) → masked_to 32 a 32 ≡ a
+pub host_masked : (a : ℕ) → masked_to width (in_front a) 32 ≡ in_front a
 host_masked a = omega arith
 
 -- two pieces, one behind the other

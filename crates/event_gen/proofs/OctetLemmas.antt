@@ -6,6 +6,7 @@ use Rattle.std.proofs.lemmas.Nat.{mod_below}
 use Rattle.std.specs.Int.{byte_at, bytes_high_first}
 use Rattle.std.specs.List.{AllByRecursion, list_all}
 use Rattle.hex.specs.Hex.{IsBytes}
+use Rattle.addr4.specs.Families.{in_front}
 use Rattle.bgp_attr.specs.declared.attrs.Origin.{Origin}
 use Rattle.bgp_attr.specs.declared.attrs.Origin.TheVariants.{Igp, Egp, Incomplete}
 use Rattle.bgp_wire.specs.Routes.{code_of_origin}
@@ -61,16 +62,16 @@ attributes : (k : ℕ) (origin : Origin) (med : ℕ) → AreOctets (attrs_octets
 attributes k origin med =
     let first : List ℕ = 64 ∷ 1 ∷ 1 ∷ code_of_origin origin ∷ [] in
     let second : List ℕ = 64 ∷ 2 ∷ 4 ∷ 2 ∷ 1 ∷ bytes_high_first 2 (path_as k) in
-    let third : List ℕ = 64 ∷ 3 ∷ 4 ∷ bytes_high_first 4 (peer_addr k) in
+    let third : List ℕ = 64 ∷ 3 ∷ 4 ∷ bytes_high_first 4 (peer_addr k / 2 ^ 96) in
     let fourth : List ℕ = 128 ∷ 4 ∷ 4 ∷ bytes_high_first 4 med in
     let a : AreOctets first = both (64 ∷ 1 ∷ 1 ∷ []) (code_of_origin origin ∷ []) (by_test (64 ∷ 1 ∷ 1 ∷ []) refl) (origin_small origin, tt) in
     let b : AreOctets second = both (64 ∷ 2 ∷ 4 ∷ 2 ∷ 1 ∷ []) (bytes_high_first 2 (path_as k)) (by_test (64 ∷ 2 ∷ 4 ∷ 2 ∷ 1 ∷ []) refl) (number 2 (path_as k)) in
-    let c : AreOctets third = both (64 ∷ 3 ∷ 4 ∷ []) (bytes_high_first 4 (peer_addr k)) (by_test (64 ∷ 3 ∷ 4 ∷ []) refl) (number 4 (peer_addr k)) in
+    let c : AreOctets third = both (64 ∷ 3 ∷ 4 ∷ []) (bytes_high_first 4 (peer_addr k / 2 ^ 96)) (by_test (64 ∷ 3 ∷ 4 ∷ []) refl) (number 4 (peer_addr k / 2 ^ 96)) in
     let d : AreOctets fourth = both (128 ∷ 4 ∷ 4 ∷ []) (bytes_high_first 4 med) (by_test (128 ∷ 4 ∷ 4 ∷ []) refl) (number 4 med) in
     both first (second ++ (third ++ fourth)) a (both second (third ++ fourth) b (both third fourth c d))
 
 prefix : (x : ℕ) → AreOctets (prefixes_octets (block x ∷ []))
-prefix x = (omega arith, (octet 3 (167772160 + x * 65536), (octet 2 (167772160 + x * 65536), tt)))
+prefix x = (omega arith, (octet 3 (in_front (167772160 + x * 65536) / 2 ^ 96), (octet 2 (in_front (167772160 + x * 65536) / 2 ^ 96), tt)))
 
 pub announce_small : (k x : ℕ) (origin : Origin) (med : ℕ) → AreOctets (announce_octets k x origin med)
 announce_small k x origin med =

@@ -11,7 +11,7 @@ use Rattle.hex.proofs.HexLemmas.{decode_of-encode_lower}
 use Rattle.addr4.specs.Prefixes.{AddressPrefix}
 use Rattle.addr4.specs.Texts.{number_of, prefix_of, prefix_text}
 use Rattle.rib_route.specs.declared.Proto.TheVariants.{Static}
-use Rattle.rib_route.specs.declared.rows.Interior.{Interior}
+use Rattle.rib_route.specs.Rows.{Interior}
 use Rattle.policy_rules.specs.declared.rule.Condition.TheVariants.{Any}
 use Rattle.policy_rules.specs.declared.rule.Action.TheVariants.{Pref}
 use Rattle.policy_rules.specs.declared.rule.Verdict.TheVariants.{Accept}
@@ -67,7 +67,7 @@ unfolding printed_prefix
 prefix_told p h = prefix_by (prefix_text p) (prefix_of 32 (prefix_text p)) p (printed_back p h)
 
 pub host_is : (k : ℕ) → k < 256 → IsPrefix (host k)
-host_is k small = ((omega arith, omega arith), omega arith)
+host_is k small = record { masked = (omega arith, omega arith); fits = omega arith; short = omega arith }
 
 -- ---- events by their words
 

@@ -8,7 +8,7 @@ use Rattle.std.specs.List.{AllByRecursion, list_all, join_with_byte}
 use Rattle.hex.specs.Hex.{encode_lower, lower_digits}
 use Rattle.hex.proofs.HexLemmas.{length-encode_with}
 use Rattle.addr4.specs.Prefixes.{AddressPrefix}
-use Rattle.addr4.specs.Texts.{dotted, addr_text, prefix_text}
+use Rattle.addr4.specs.Texts.{dotted, addr_text, prefix_text, id_text}
 use Rattle.policy_rules.specs.Words.{is_word, words_among, words}
 use Rattle.journal_text.specs.declared.line.Code.TheVariants.{E1}
 use Rattle.journal_check.specs.Laws.{IsPrefix}
@@ -63,9 +63,12 @@ dotted_short a b c d ha hb hc hd =
       length-append (decimal c) (46 ∷ dotted (d ∷ [])),
     )
 
+id_short : (a : ℕ) → length (id_text a) ≤ 15
+unfolding id_text
+id_short a = dotted_short (a / 16777216 % 256) (a / 65536 % 256) (a / 256 % 256) (a % 256) (omega arith) (omega arith) (omega arith) (omega arith)
+
 addr_short : (a : ℕ) → length (addr_text a) ≤ 15
-unfolding addr_text
-addr_short a = dotted_short (a / 16777216 % 256) (a / 65536 % 256) (a / 256 % 256) (a % 256) (omega arith) (omega arith) (omega arith) (omega arith)
+addr_short a = id_short (a / 2 ^ 96)
 
 prefix_short : (p : AddressPrefix) → p.length ≤ 32 → length (prefix_text p) ≤ 200
 unfolding prefix_text
@@ -76,7 +79,7 @@ unfolding prefix_text
 prefix_some p = omega (arith, length-append (addr_text p.address) (47 ∷ decimal p.length))
 
 pub plain_prefix : (p : AddressPrefix) → IsPrefix p → IsPlain (prefix_text p)
-plain_prefix p h = record { ink = ink_prefix p h; some = prefix_some p; short = prefix_short p h.0.0 }
+plain_prefix p h = record { ink = ink_prefix p h; some = prefix_some p; short = prefix_short p h.short }
 
 -- ---- lines
 

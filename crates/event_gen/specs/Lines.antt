@@ -5,7 +5,8 @@ use Rattle.std.specs.Fmt.{decimal}
 use Rattle.hex.specs.Hex.{encode_lower}
 use Rattle.addr4.specs.Prefixes.{AddressPrefix}
 use Rattle.addr4.specs.Texts.{prefix_text}
-use Rattle.bgp_attr.specs.declared.attrs.Attrs.{Attrs}
+use Rattle.addr4.specs.Families.{in_front}
+use Rattle.bgp_attr.specs.Attributes.{Attrs}
 use Rattle.bgp_attr.specs.declared.attrs.Origin as origins
 use Rattle.bgp_attr.specs.declared.path.SegmentKind.TheVariants.{Sequence}
 use Rattle.bgp_wire.specs.Readable.{announcement, withdrawal}
@@ -22,11 +23,15 @@ use Rattle.event_gen.specs.declared.generator.Part.TheVariants.{Opening, Events,
 
 -- the prefix 10.X.0.0/16
 abbrev pub block : ℕ → AddressPrefix
-block x = record { address = 167772160 + x * 65536; length = 16 }
+block x = record { address = in_front (167772160 + x * 65536); length = 16 }
+
+-- the identifier 192.0.2.K
+abbrev pub peer_id : ℕ → ℕ
+peer_id k = 3221225984 + k
 
 -- the address 192.0.2.K
 abbrev pub peer_addr : ℕ → ℕ
-peer_addr k = 3221225984 + k
+peer_addr k = in_front (peer_id k)
 
 -- the AS with which the path of a peer's routes begins, and ends
 abbrev pub path_as : ℕ → ℕ

@@ -11,7 +11,7 @@ use Rattle.event_text.specs.declared.event.Event.TheVariants as events
 use Rattle.event_text.specs.Events.{read_event}
 use Rattle.event_text.specs.Declarations.{plain}
 use Rattle.event_gen.specs.Events.{events_from}
-use Rattle.event_gen.specs.Lines.{peer_addr, announce_octets, withdraw_octets, host, lines}
+use Rattle.event_gen.specs.Lines.{peer_addr, announce_octets, withdraw_octets, host, lines, peer_id}
 use Rattle.event_gen.specs.declared.drawn.Work.{Work}
 use Rattle.event_gen.specs.declared.drawn.Work.TheVariants as works
 use Rattle.event_gen.specs.declared.drawn.Drawn.{Drawn}
@@ -38,12 +38,12 @@ meant drawn.Idle = events.Idle
 
 -- a peer's declaration: its AS, and 192.0.2.K as its identifier and address; it is no client
 abbrev pub declared : ℕ → ℕ → Event
-declared k asn = events.Peer k (record { asn = asn; id = peer_addr k; addr = peer_addr k }) false
+declared k asn = events.Peer k (record { asn = asn; id = peer_id k; addr = peer_addr k }) false
 
 -- the events of the opening
 abbrev pub opening_events : List Event
 opening_events =
-    events.Local (record { asn = 65000; id = peer_addr 254; addr = peer_addr 254 })
+    events.Local (record { asn = 65000; id = peer_id 254; addr = peer_addr 254 })
     ∷ declared 1 65001 ∷ declared 2 65002 ∷ declared 3 65000 ∷ declared 4 65001
     ∷ events.RouteAdd (record { address = peer_addr 0; length = 24 }) (record { proto = Connected; gateway = None; iface = codes "eth0"; metric = 1 })
     ∷ events.Up 1 ∷ events.Up 2 ∷ events.Up 3 ∷ events.Up 4 ∷ []

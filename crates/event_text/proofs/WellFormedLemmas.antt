@@ -9,18 +9,18 @@ use Rattle.std.specs.Str.{bytes_eq}
 use Rattle.hex.specs.Hex.{decode_of}
 use Rattle.hex.specs.declared.FromHexError.{FromHexError}
 use Rattle.hex.proofs.HexLemmas.{decode_of-ok}
-use Rattle.addr4.specs.Texts.{number_below, number_of, addr_of, prefix_of, parts}
+use Rattle.addr4.specs.Texts.{number_below, number_of, id_of, addr_of, prefix_of, parts}
 use Rattle.journal_text.specs.declared.link.Task.TheVariants as tasks
 use Rattle.journal_text.specs.Names.{name_number, with_both, proto_of, plain_task, peer_task, task_of_two, task_of_three, task_from_parts, task_of, link_of, IsNamed}
 use Rattle.journal_text.proofs.ReadNames.{read_number_named, read_link_named}
 use Rattle.rib_route.specs.declared.Proto.{Proto}
 use Rattle.rib_route.specs.Ifaces.{is_iface_name, iface_of}
 use Rattle.event_text.specs.declared.event.Event.TheVariants as events
-use Rattle.policy_rules.specs.declared.rule.Rule.{Rule}
+use Rattle.policy_rules.specs.Rules.{Rule}
 use Rattle.policy_rules.specs.Ranges.{AreRules}
 use Rattle.policy_rules.specs.Grammar.{rules_of}
-use Rattle.policy_rules.proofs.RangeLemmas.{and_then, either, below, addr_fits, prefix_ok, rules_ok}
-use Rattle.addr4.specs.Prefixes.{AddressPrefix, IsMasked}
+use Rattle.policy_rules.proofs.RangeLemmas.{and_then, either, below, id_fits, addr_fits, prefix_ok, rules_ok}
+use Rattle.addr4.specs.Families.{IsIpv4}
 use Rattle.bgp_attr.specs.Hosts.{is_host}
 use Rattle.bgp_attr.specs.Speakers.{IsSpeaker, MayBeClient, asn_bound}
 use Rattle.bgp_attr.specs.declared.speaker.Profile.{Profile}
@@ -39,7 +39,7 @@ unfolding from_one
 from_one_ok word =
     and_then (number_of word) _ (λ n. n < 2 ^ 32) IsNumber (below (2 ^ 32) word) (λ n fits. told (nat_eq n 0) None (Some n) IsNumber (λ _. tt) (λ other. record { least = grind (arith, nat_tests); fits = fits }))
 
-speaker_told : (as4 : Bool) (a i h : ℕ) → a < asn_bound as4 → i < 2 ^ 32 → h < 2 ^ 32 → (x y z : Bool) → nat_eq a 0 ≡ x → nat_eq i 0 ≡ y → is_host h ≡ z → IfSome (cond (x || y || not z) None (Some (record { asn = a; id = i; addr = h }))) (IsSpeaker as4)
+speaker_told : (as4 : Bool) (a i h : ℕ) → a < asn_bound as4 → i < 2 ^ 32 → IsIpv4 h → (x y z : Bool) → nat_eq a 0 ≡ x → nat_eq i 0 ≡ y → is_host h ≡ z → IfSome (cond (x || y || not z) None (Some (record { asn = a; id = i; addr = h }))) (IsSpeaker as4)
 speaker_told as4 a i h fa fi fh true y z ea ei eh = tt
 speaker_told as4 a i h fa fi fh false true z ea ei eh = tt
 speaker_told as4 a i h fa fi fh false false false ea ei eh = tt
@@ -50,8 +50,8 @@ speaker_by_ok : (as4 : Bool) (asn id addr : List ℕ) → IfSome (speaker_by as4
 unfolding speaker_by
 speaker_by_ok as4 asn id addr =
     and_then (number_below (asn_bound as4) asn) _ (λ n. n < asn_bound as4) (IsSpeaker as4) (below (asn_bound as4) asn) (λ a fa.
-    and_then (addr_of id) _ (λ n. n < 2 ^ 32) (IsSpeaker as4) (addr_fits id) (λ i fi.
-    and_then (addr_of addr) _ (λ n. n < 2 ^ 32) (IsSpeaker as4) (addr_fits addr) (λ h fh.
+    and_then (id_of id) _ (λ n. n < 2 ^ 32) (IsSpeaker as4) (id_fits id) (λ i fi.
+    and_then (addr_of addr) _ IsIpv4 (IsSpeaker as4) (addr_fits addr) (λ h fh.
     speaker_told as4 a i h fa fi fh (nat_eq a 0) (nat_eq i 0) (is_host h) refl refl refl)))
 
 speaker_ok : (as4 : Bool) (ws : List (List ℕ)) → IfSome (speaker_of as4 ws) (IsSpeaker as4)
@@ -83,11 +83,7 @@ octets_ok digits =
     told (nat_eq (length bytes) 0) None (Some bytes) IsMessage (λ _. tt) (λ other. record { some = grind (arith, nat_tests); bytes = all }))
 
 is_prefix : (text : List ℕ) → IfSome (prefix_of 32 text) IsPrefix
-is_prefix text = as_record (prefix_of 32 text) (prefix_ok text)
-  where
-    as_record : (o : Option AddressPrefix) → IfSome o (λ p. IsMasked 32 p × (p.address < 2 ^ 32)) → IfSome o IsPrefix
-    as_record None h = tt
-    as_record (Some p) h = record { masked = h.0; fits = h.1 }
+is_prefix text = prefix_ok text
 
 -- ---- interior routes
 way_out_ok : (proto : Proto) (gateway : Option ℕ) (ws : List (List ℕ)) → IsGateway gateway → IfSome (way_out proto gateway ws) IsInterior
@@ -103,7 +99,7 @@ way_out_ok proto gateway (name ∷ metric ∷ x ∷ more) h = tt
 way_over_ok : (proto : Proto) (ws : List (List ℕ)) → IfSome (way_over proto ws) IsInterior
 unfolding way_over
 way_over_ok proto [] = tt
-way_over_ok proto (gateway ∷ ws) = and_then (addr_of gateway) _ (λ a. a < 2 ^ 32) IsInterior (addr_fits gateway) (λ a h. way_out_ok proto (Some a) ws h)
+way_over_ok proto (gateway ∷ ws) = and_then (addr_of gateway) _ IsIpv4 IsInterior (addr_fits gateway) (λ a h. way_out_ok proto (Some a) ws h)
 
 interior_ok : (proto : Proto) (ws : List (List ℕ)) → IfSome (interior_of proto ws) IsInterior
 unfolding interior_of
@@ -255,7 +251,7 @@ module _ (profile : Profile) where
   cover_ok : (ws : List (List ℕ)) → IfSome (cover_of ws) (IsWellFormed profile)
   unfolding cover_of
   cover_ok [] = tt
-  cover_ok (addr ∷ []) = and_then (addr_of addr) _ (λ a. a < 2 ^ 32) (IsWellFormed profile) (addr_fits addr) (λ a h. h)
+  cover_ok (addr ∷ []) = and_then (addr_of addr) _ IsIpv4 (IsWellFormed profile) (addr_fits addr) (λ a h. h)
   cover_ok (addr ∷ x ∷ more) = tt
 
   profile_ok : (w : List ℕ) (ws : List (List ℕ)) → IfSome (profile_event w ws) (IsWellFormed profile)

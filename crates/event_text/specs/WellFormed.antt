@@ -1,11 +1,12 @@
 -- What holds of each event that was read.
 use Rattle.std.specs.Prelude.{◌≡◌, ℕ, ◌^◌, ◌<◌, Bool, List, length, Option, Some, None, true}
 use Rattle.std.specs.List.{All}
-use Rattle.addr4.specs.Prefixes.{AddressPrefix, IsMasked}
+use Rattle.addr4.specs.Families.{IsIpv4, IsIpv4Prefix}
+use Rattle.addr4.specs.Prefixes.{AddressPrefix}
 use Rattle.bgp_attr.specs.Speakers.{IsSpeaker, MayBeClient}
 use Rattle.bgp_attr.specs.declared.speaker.Profile.{Profile}
 use Rattle.rib_route.specs.Ifaces.{is_iface_name}
-use Rattle.rib_route.specs.declared.rows.Interior.{Interior}
+use Rattle.rib_route.specs.Rows.{Interior}
 use Rattle.journal_text.specs.Names.{IsNamed}
 use Rattle.journal_text.specs.declared.link.Task.{Task}
 use Rattle.journal_text.specs.declared.link.Task.TheVariants.{Del, Fin, Nh, ReadRib, Out, Rdel, Red, Ext, Ref}
@@ -24,14 +25,13 @@ pub record IsMessage (octets : List ℕ) : Type 0 where
   pub bytes : All (λ b. b < 256) octets
 
 -- a prefix of IPv4
-pub record IsPrefix (p : AddressPrefix) : Type 0 where
-  pub masked : IsMasked 32 p
-  pub fits : p.address < 2 ^ 32
+abbrev pub IsPrefix : AddressPrefix → Type 0
+IsPrefix = IsIpv4Prefix
 
 -- a gateway, if there is one
 abbrev pub IsGateway : Option ℕ → Type 0
 IsGateway None = Unit {0}
-IsGateway (Some addr) = addr < 2 ^ 32
+IsGateway (Some addr) = IsIpv4 addr
 
 -- a gateway and a metric of 32 bits, and the name of an interface
 pub record IsInterior (row : Interior) : Type 0 where
@@ -67,7 +67,7 @@ IsWellFormed p (events.RouteAdd n row) = IsPrefix n × IsInterior row
 IsWellFormed p (events.RouteDel proto n) = IsPrefix n
 IsWellFormed p (events.Lose proto) = Unit {0}
 IsWellFormed p (events.Redist proto on) = Unit {0}
-IsWellFormed p (events.Cover addr) = addr < 2 ^ 32
+IsWellFormed p (events.Cover addr) = IsIpv4 addr
 IsWellFormed p (events.Settled n) = IsPrefix n
 IsWellFormed p events.Idle = Unit {0}
 IsWellFormed p (events.Work task n) = IsTask task × (n < 2 ^ 32)

@@ -4,14 +4,14 @@ use Rattle.std.specs.Result.{result_ok}
 use Rattle.std.specs.Str.{bytes_eq}
 use Rattle.std.specs.List.{list_all}
 use Rattle.hex.specs.Hex.{decode_of}
-use Rattle.addr4.specs.Texts.{number_of, number_below, addr_of}
+use Rattle.addr4.specs.Texts.{number_of, number_below, addr_of, id_of}
 use Rattle.bgp_attr.specs.Hosts.{is_host}
 use Rattle.bgp_attr.specs.Speakers.{asn_bound}
-use Rattle.bgp_attr.specs.declared.speaker.Speaker.{Speaker}
+use Rattle.bgp_attr.specs.Speakers.{Speaker}
 use Rattle.bgp_attr.specs.declared.speaker.Profile.{Profile}
 use Rattle.rib_route.specs.Ifaces.{iface_of}
 use Rattle.rib_route.specs.declared.Proto.{Proto}
-use Rattle.rib_route.specs.declared.rows.Interior.{Interior}
+use Rattle.rib_route.specs.Rows.{Interior}
 use Rattle.policy_rules.specs.Words.{◌>>=◌}
 
 -- at most 16,384 bytes, all from 32 to 126
@@ -28,7 +28,7 @@ from_one word = do
 unfoldable pub speaker_by : Bool → List ℕ → List ℕ → List ℕ → Option Speaker
 speaker_by as4 asn id addr = do
   a ← number_below (asn_bound as4) asn
-  i ← addr_of id
+  i ← id_of id
   h ← addr_of addr
   if a == 0 || i == 0 || not (is_host h) then None else Some (record { asn = a; id = i; addr = h })
 

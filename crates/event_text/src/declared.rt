@@ -9,7 +9,7 @@ ghost use Rattle.event_text.specs.Declarations.{no_declaration, refusal, peer_at
 ghost use Rattle.event_text.specs.WellFormed.{IsWellFormed};
 
 use crate::event::Event;
-use addr4::{Addr, Memory};
+use addr4::{Addr, Family, Memory, V4};
 use bgp_attr::{Neighbour, Profile, Speaker};
 use journal_text::{Code, Link, Task};
 use std::alloc::Global;
@@ -33,32 +33,34 @@ pub struct DeclaredPeer {
     pub up: bool,
 }
 
-/// What holds for the whole file, the words of `local` and of the peers, and the peers' sessions.
+/// What holds for the whole file, the words of `local` and of the peers, and the peers' sessions. This speaker's address is one of
+/// the family; peers have IPv4's.
 #[derive(Drop)]
-pub struct Declared {
+pub struct Declared<F: Family = V4> {
     profile: Profile,
-    speaker: Option<Speaker>,
+    speaker: Option<Speaker<Addr<F>>>,
     peers: Vec<DeclaredPeer>,
 }
 
-impl Model for Declared {
+impl<F: Family> Model for Declared<F> {
     ghost use Rattle.event_text.specs.Declarations.{Declaration, declaration_code, IsCounted};
     ghost use Rattle.event_text.specs.contracts.declared.DeclaredPeer as peer_row;
     ghost use Rattle.bgp_attr.specs.contracts.speaker.Profile as profile_row;
     ghost use Rattle.bgp_attr.specs.contracts.speaker.Speaker as speaker_row;
+    ghost use Rattle.std.specs.Borrow.{u32 as word};
 
     ghost Value = { Declaration };
 
-    ghost coded = { declaration_code profile_row.the_row.coded speaker_row.the_row.coded peer_row.the_row.coded };
+    ghost coded = { declaration_code profile_row.the_row.coded (speaker_row.the_row word).coded peer_row.the_row.coded };
 
     ghost view = { λ d. record { profile = d.profile; speaker = d.speaker; peers = d.peers.items } };
 
     ghost invariant = { λ d. IsCounted d.peers.items };
 }
 
-impl Declared {
+impl<F: Family> Declared<F> {
     /// Nothing was declared. Takes no memory.
-    pub fn new(alloc: Global) -> Declared
+    pub fn new(alloc: Global) -> Declared<F>
         ensures value { result ≡ no_declaration }
         ensures declared { IsDeclaration result }
     {
@@ -78,7 +80,7 @@ impl Declared {
     }
 
     /// The words of `local`, if it was declared.
-    pub fn speaker(&self) -> Option<Speaker>
+    pub fn speaker(&self) -> Option<Speaker<Addr<F>>>
         ensures { result ≡ self.now.speaker }
     {
         self.speaker
@@ -107,7 +109,7 @@ impl Declared {
     }
 
     /// `local` was declared. Takes no memory.
-    pub fn set_speaker(&mut self, words: Speaker)
+    pub fn set_speaker(&mut self, words: Speaker<Addr<F>>)
         ensures value { self.new ≡ with_speaker self.old words }
         ensures kept { IsDeclaration self.old → refusal self.old (events.Local words) ≡ None → IsWellFormed self.old.profile (events.Local words) → IsDeclaration self.new }
     {
@@ -173,7 +175,7 @@ fn has_addr(peers: &[DeclaredPeer], addr: Addr) -> bool
 }
 
 /// Whether a peer of this AS is internal.
-fn is_internal(speaker: Option<Speaker>, asn: u32) -> bool
+fn is_internal<F: Family>(speaker: Option<Speaker<Addr<F>>>, asn: u32) -> bool
     ensures { result ≡ is_internal speaker asn }
 {
     match speaker {

@@ -5,7 +5,7 @@ ghost use Rattle.journal_text.specs.Names.{proto_of};
 ghost use Rattle.policy_rules.specs.Words.{words};
 ghost use Rattle.event_text.specs.Words.{is_clean, from_one, speaker_by, speaker_of, client_of, octets_of, way_out, way_over, interior_of, switch_of};
 
-use addr4::{Addr, Memory, all_printable, read_addr, read_number, read_number_below};
+use addr4::{Addr, Memory, all_printable, read_addr, read_id, read_number, read_number_below};
 use bgp_attr::{Octets, Profile, Speaker, is_host};
 use hex::FromHexError;
 use policy_rules::first_word;
@@ -42,7 +42,7 @@ pub fn speaker_by(profile: Profile, asn: &[u8], id: &[u8], addr: &[u8]) -> Optio
     ensures { result ≡ speaker_by profile.as4 asn.now id.now addr.now }
 {
     let asn = read_number_below(asn, profile.asn_bound())?;
-    let id = read_addr(id).ok()?;
+    let id = read_id(id).ok()?;
     let addr = read_addr(addr).ok()?;
     if asn == 0 || id.number() == 0 || !is_host(addr) {
         return None;

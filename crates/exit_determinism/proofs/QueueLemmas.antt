@@ -5,8 +5,8 @@ use Rattle.std.specs.FinMap.{nat_cmp-IsAntisymmetric, same_map}
 use Rattle.std.specs.Cmp.{nat_cmp_total}
 use Rattle.std.proofs.lemmas.Bool.Decides.{nat_tests}
 use Rattle.std.proofs.lemmas.Option.{same_Some}
-use Rattle.bgp_attr.specs.declared.route.Route.{Route}
-use Rattle.link_change.specs.declared.change.Change.{Change}
+use Rattle.bgp_attr.specs.Routes.{Route}
+use Rattle.link_change.specs.Changes.{Change}
 use Rattle.fanout_queue.specs.Queues.{Queued}
 use Rattle.fanout_queue.specs.Readers.{unread_or_none}
 use Rattle.fanout_queue.proofs.Cases.{by_bool}

@@ -5,12 +5,12 @@ use Rattle.bgp_attr.specs.declared.speaker.Profile.{Profile}
 use Rattle.bgp_wire.specs.declared.message.Update.{Update as Updated}
 use Rattle.bgp_wire.specs.declared.message.Message.TheVariants.{Update}
 use Rattle.bgp_wire.specs.Grammar.{Reads, EachHasOne}
-use Rattle.journal_text.specs.declared.line.Line.{Line}
+use Rattle.journal_text.specs.Lines.{Line}
 use Rattle.journal_text.specs.declared.line.Line.TheVariants.{Out, Journal}
-use Rattle.journal_text.specs.declared.entry.Entry.{Entry}
+use Rattle.journal_text.specs.Lines.{Entry}
 use Rattle.journal_text.specs.declared.entry.Entry.TheVariants.{Begin, End}
 use Rattle.journal_text.specs.declared.link.Link.TheVariants.{Adv}
-use Rattle.journal_text.specs.declared.value.Value.{Value}
+use Rattle.journal_text.specs.Lines.{Value}
 use Rattle.event_text.specs.Declarations.{Declaration}
 use Rattle.journal_laws.specs.Peers.{neighbours, KeepsPeers}
 use Rattle.live_state.specs.Messages.{changes_of}

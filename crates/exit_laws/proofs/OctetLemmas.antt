@@ -7,7 +7,7 @@ use Rattle.std.specs.Int.{byte_at, bytes_high_first}
 use Rattle.std.specs.List.{AllByRecursion, flat_map}
 use Rattle.addr4.specs.Prefixes.{AddressPrefix}
 use Rattle.bgp_attr.specs.declared.attrs.Aggregator.{Aggregator}
-use Rattle.bgp_attr.specs.declared.attrs.Attrs.{Attrs}
+use Rattle.bgp_attr.specs.Attributes.{Attrs}
 use Rattle.bgp_attr.specs.declared.attrs.Origin.{Origin}
 use Rattle.bgp_attr.specs.declared.attrs.Origin.TheVariants.{Igp, Egp, Incomplete}
 use Rattle.bgp_attr.specs.declared.path.Segment.{Segment}
@@ -62,7 +62,7 @@ numbers width (n ∷ ns) = both (bytes_high_first width n) (flat_map (bytes_high
 
 -- ---- the parts of a message
 prefix : (p : AddressPrefix) → p.length ≤ 32 → AreSmall (prefix_octets p)
-prefix p few = (omega (arith, few), front (octets_for p.length) (bytes_high_first 4 p.address) (number 4 p.address))
+prefix p few = (omega (arith, few), front (octets_for p.length) (bytes_high_first 4 (p.address / 2 ^ 96)) (number 4 (p.address / 2 ^ 96)))
 
 one_prefix : (p : AddressPrefix) → p.length ≤ 32 → AreSmall (prefixes_octets (p ∷ []))
 one_prefix p few = both (prefix_octets p) [] (prefix p few) tt
@@ -104,7 +104,7 @@ mandatory as4 a few = (
   spelled_small 64 1 (code_of_origin a.origin ∷ []) (omega arith) (omega arith) (origin a.origin, tt),
   (
     spelled_small 64 2 (path_octets (width_of as4) a.path) (omega arith) (omega arith) (path (width_of as4) a.path few),
-    (spelled_small 64 3 (bytes_high_first 4 a.next_hop) (omega arith) (omega arith) (number 4 a.next_hop), tt),
+    (spelled_small 64 3 (bytes_high_first 4 (a.next_hop / 2 ^ 96)) (omega arith) (omega arith) (number 4 (a.next_hop / 2 ^ 96)), tt),
   ),
 )
 

@@ -6,10 +6,10 @@ use Rattle.std.specs.List.{AllByRecursion}
 use Rattle.std.specs.FinMap as tables
 use Rattle.addr4.specs.Prefixes.{AddressPrefix}
 use Rattle.bgp_attr.specs.Paths.{times_in_front}
-use Rattle.bgp_attr.specs.declared.attrs.Attrs.{Attrs}
+use Rattle.bgp_attr.specs.Attributes.{Attrs}
 use Rattle.bgp_attr.specs.declared.path.Segment.{Segment}
 use Rattle.bgp_attr.specs.declared.unrecognized.Unrecognized.{Unrecognized}
-use Rattle.bgp_attr.specs.declared.route.Route.{Route}
+use Rattle.bgp_attr.specs.Routes.{Route}
 use Rattle.bgp_attr.specs.declared.speaker.Profile.{Profile}
 use Rattle.bgp_attr.specs.declared.speaker.Neighbour.{Neighbour}
 use Rattle.bgp_wire.specs.Lengths.{announcement_length}
@@ -19,8 +19,8 @@ use Rattle.bgp_wire.specs.Spelling.{update_octets}
 use Rattle.bgp_wire.proofs.ReadableLaws.{Every, all_every}
 use Rattle.wire_laws.proofs.Prepended.{prepended_is_readable}
 use Rattle.link_change.specs.Rows.{Rows, Candidates, with_row}
-use Rattle.link_change.specs.declared.change.Change.{Change}
-use Rattle.policy_rules.specs.declared.rule.Rule.{Rule}
+use Rattle.link_change.specs.Changes.{Change}
+use Rattle.policy_rules.specs.Rules.{Rule}
 use Rattle.pass_core.specs.Passed.{function_at}
 use Rattle.pass_core.specs.Turns.{passed_rows, IsSentAt}
 use Rattle.filter_bank.specs.Outgoing.{Form, outgoing}
@@ -33,13 +33,13 @@ use Rattle.journal_text.specs.Names.{IsNamed}
 use Rattle.journal_text.specs.Links.{same_link}
 use Rattle.journal_text.specs.Values.{attrs_value, route_value, attrs_rows, valued_change, sent_entries}
 use Rattle.journal_text.specs.Walk.{Links, no_links, HasRow, after, IsLawful, fold_links, change_entries}
-use Rattle.journal_text.specs.declared.entry.Entry.{Entry}
+use Rattle.journal_text.specs.Lines.{Entry}
 use Rattle.journal_text.specs.declared.entry.Entry.TheVariants as entries
-use Rattle.journal_text.specs.declared.line.Line.{Line}
+use Rattle.journal_text.specs.Lines.{Line}
 use Rattle.journal_text.specs.declared.line.Line.TheVariants.{Journal}
 use Rattle.journal_text.specs.declared.link.Link.{Link}
 use Rattle.journal_text.specs.declared.link.Link.TheVariants.{Read, Outf, Adv, Best}
-use Rattle.journal_text.specs.declared.value.Value.{Value}
+use Rattle.journal_text.specs.Lines.{Value}
 use Rattle.event_text.specs.Declarations.{Declaration}
 use Rattle.journal_text.specs.Texts.{sender_number}
 use Rattle.journal_laws.specs.Peers.{neighbours, KeepsPeers}
@@ -96,8 +96,8 @@ can_be_spelled profile peers exit p row a fits best form =
 
 -- the octets of a change
 pub octets_small : (as4 : Bool) (p : AddressPrefix) (after : Option Attrs) → IsPrefix p → ForSome after CanBeSpelled → AreSmall (update_octets as4 (saying p after))
-octets_small as4 p None prefix can = withdrawal_small as4 p prefix.0.0
-octets_small as4 p (Some a) prefix can = announcement_small as4 p a prefix.0.0 (can a refl)
+octets_small as4 p None prefix can = withdrawal_small as4 p prefix.short
+octets_small as4 p (Some a) prefix can = announcement_small as4 p a prefix.short (can a refl)
 
 -- ---- lines
 module _ (peers : ℕ → Option Neighbour) where

@@ -7,17 +7,17 @@ use Rattle.std.specs.FinMap.{get-insert, same_map}
 use Rattle.addr4.specs.Prefixes.{AddressPrefix}
 use Rattle.addr4.proofs.PrefixOrder.{prefixes_total, by_prefix, exact_prefixes}
 use Rattle.bgp_attr.specs.Hosts.{is_host_prefix}
-use Rattle.bgp_attr.specs.declared.attrs.Attrs.{Attrs}
+use Rattle.bgp_attr.specs.Attributes.{Attrs}
 use Rattle.bgp_attr.specs.declared.speaker.Neighbour.{Neighbour}
 use Rattle.bgp_attr.specs.declared.speaker.Profile.{Profile}
 use Rattle.bgp_wire.specs.Lengths.{announcement_length}
 use Rattle.bgp_wire.specs.Readable.{IsReadableSegment}
 use Rattle.link_change.specs.Rows.{Rows}
-use Rattle.link_change.specs.declared.change.Change.{Change}
+use Rattle.link_change.specs.Changes.{Change}
 use Rattle.pass_core.specs.Passed.{function_at}
 use Rattle.fanout_queue.specs.Readers.{read_rows}
 use Rattle.journal_text.specs.Names.{IsNamed}
-use Rattle.journal_text.specs.declared.line.Line.{Line}
+use Rattle.journal_text.specs.Lines.{Line}
 use Rattle.journal_text.specs.declared.link.Link.TheVariants.{Adv}
 use Rattle.peer_out.specs.Changes.{IsSentOf}
 use Rattle.peer_out.specs.Forms.{Exit, sent_form}

@@ -10,13 +10,13 @@ use Rattle.std.proofs.lemmas.List.Elements.{Contains-append_left, Contains-appen
 use Rattle.addr4.specs.Prefixes.{AddressPrefix, prefix_cmp, ComesBefore}
 use Rattle.addr4.specs.Places.{IsBeyond}
 use Rattle.addr4.proofs.PrefixOrder.{prefixes_total, by_prefix, exact_prefixes}
-use Rattle.bgp_attr.specs.declared.attrs.Attrs.{Attrs}
-use Rattle.bgp_attr.specs.declared.route.Route.{Route}
-use Rattle.link_change.specs.declared.change.Change.{Change}
+use Rattle.bgp_attr.specs.Attributes.{Attrs}
+use Rattle.bgp_attr.specs.Routes.{Route}
+use Rattle.link_change.specs.Changes.{Change}
 use Rattle.cache_stage.specs.Caches.{kept_after}
 use Rattle.fanout_queue.specs.Queues.{Queued}
 use Rattle.fanout_queue.proofs.Cases.{by_bool}
-use Rattle.journal_text.specs.declared.line.Line.{Line}
+use Rattle.journal_text.specs.Lines.{Line}
 use Rattle.journal_text.specs.declared.line.Line.TheVariants.{Out}
 use Rattle.peer_out.specs.Changes.{saying, message_octets, IsReadAs}
 use Rattle.peer_out.specs.Forms.{Exit}
@@ -139,7 +139,7 @@ said_by j k c first change number is told =
     record {
       octets = octets;
       among = Contains-append_right first (message_lines c (Some change)) (Out j octets)
-          (subst (λ (n : ℕ). Contains (Out n octets ∷ []) (Out j octets)) (is ∙ sym number) (0, omega arith, refl));
+          (subst (λ (n : ℕ). Contains {X = Line} (Out n octets ∷ []) (Out j octets)) (is ∙ sym number) (0, omega arith, refl));
       reads = told;
     }
 

@@ -8,28 +8,28 @@ use Rattle.std.proofs.lemmas.Bool.Decides.{nat_tests}
 use Rattle.addr4.specs.Prefixes.{AddressPrefix}
 use Rattle.addr4.proofs.PrefixOrder.{prefixes_total, itself}
 use Rattle.bgp_attr.specs.Hosts.{is_host_prefix}
-use Rattle.bgp_attr.specs.declared.attrs.Attrs.{Attrs}
-use Rattle.bgp_attr.specs.declared.route.Route.{Route}
+use Rattle.bgp_attr.specs.Attributes.{Attrs}
+use Rattle.bgp_attr.specs.Routes.{Route}
 use Rattle.bgp_attr.specs.declared.speaker.Profile.{Profile}
 use Rattle.bgp_attr.specs.declared.speaker.Neighbour.{Neighbour}
 use Rattle.bgp_wire.specs.declared.message.Message.TheVariants.{Update}
 use Rattle.bgp_wire.specs.Grammar.{Reads}
 use Rattle.link_change.specs.Rows.{Rows, Candidates}
-use Rattle.link_change.specs.declared.change.Change.{Change}
+use Rattle.link_change.specs.Changes.{Change}
 use Rattle.link_change.proofs.RowLemmas.{same_function}
-use Rattle.policy_rules.specs.declared.rule.Rule.{Rule}
+use Rattle.policy_rules.specs.Rules.{Rule}
 use Rattle.pass_core.specs.Passed.{function_at}
 use Rattle.filter_bank.specs.Outgoing.{Form, first_out, let_by, formed, outgoing}
 use Rattle.cache_stage.specs.Caches.{kept_after}
 use Rattle.fanout_queue.specs.Queues.{Queued}
 use Rattle.fanout_queue.proofs.Cases.{same_number, other_number}
 use Rattle.journal_text.specs.Values.{attrs_value, attrs_rows, sent_entries}
-use Rattle.journal_text.specs.declared.entry.Entry.{Entry}
-use Rattle.journal_text.specs.declared.line.Line.{Line}
+use Rattle.journal_text.specs.Lines.{Entry}
+use Rattle.journal_text.specs.Lines.{Line}
 use Rattle.journal_text.specs.declared.line.Line.TheVariants as lines
 use Rattle.journal_text.specs.declared.link.Link.{Link}
 use Rattle.journal_text.specs.declared.link.Link.TheVariants.{Outf, Adv}
-use Rattle.journal_text.specs.declared.value.Value.{Value}
+use Rattle.journal_text.specs.Lines.{Value}
 use Rattle.peer_out.specs.Changes.{saying, message_octets}
 use Rattle.out_chain.specs.Chains.{OutChained, form_of, outf_rows, HasSent}
 use Rattle.out_chain.specs.Steps.{exit_to, new_out, sending_entries, message_lines, sent_after, TurnsOut, IsTold}

@@ -3,24 +3,24 @@ use Rattle.std.specs.Prelude.{◌≡◌, ℕ, ◌==◌, false, List, [], ◌++�
 use Rattle.std.specs.List.{AllByRecursion}
 use Rattle.std.specs.FinMap as tables
 use Rattle.addr4.specs.Prefixes.{AddressPrefix}
-use Rattle.bgp_attr.specs.declared.attrs.Attrs.{Attrs}
-use Rattle.bgp_attr.specs.declared.route.Route.{Route}
-use Rattle.bgp_attr.specs.declared.speaker.Speaker.{Speaker}
+use Rattle.bgp_attr.specs.Attributes.{Attrs}
+use Rattle.bgp_attr.specs.Routes.{Route}
+use Rattle.bgp_attr.specs.Speakers.{Speaker}
 use Rattle.bgp_attr.specs.declared.speaker.Neighbour.{Neighbour}
 use Rattle.bgp_attr.specs.declared.speaker.Profile.{Profile}
 use Rattle.link_change.specs.Rows.{Rows, Candidates}
-use Rattle.link_change.specs.declared.change.Change.{Change}
-use Rattle.policy_rules.specs.declared.rule.Rule.{Rule}
+use Rattle.link_change.specs.Changes.{Change}
+use Rattle.policy_rules.specs.Rules.{Rule}
 use Rattle.fanout_queue.specs.Queues.{Queued, Takes}
 use Rattle.fanout_queue.specs.Readers.{unread_by}
 use Rattle.journal_text.specs.Names.{IsNamed}
 use Rattle.journal_text.specs.Values.{attrs_rows, route_value, valued_change}
 use Rattle.journal_text.specs.Walk.{Links, change_entries}
-use Rattle.journal_text.specs.declared.entry.Entry.{Entry}
+use Rattle.journal_text.specs.Lines.{Entry}
 use Rattle.journal_text.specs.declared.link.Link.{Link}
 use Rattle.journal_text.specs.declared.link.Link.TheVariants.{Adv}
-use Rattle.journal_text.specs.declared.line.Line.{Line}
-use Rattle.journal_text.specs.declared.value.Value.{Value}
+use Rattle.journal_text.specs.Lines.{Line}
+use Rattle.journal_text.specs.Lines.{Value}
 use Rattle.journal_laws.specs.Printed.{IsPrinted}
 use Rattle.journal_laws.specs.Peers.{neighbours, KeepsPeers}
 use Rattle.event_text.specs.Declarations.{Declaration}

@@ -1,14 +1,14 @@
 -- The incoming filter of a peer (RFC 4271, sections 5.1.3 and 9.1.1; RFC 4456, section 8): the route that a peer's attributes make, where it is accepted.
 use Rattle.std.specs.Prelude.{ℕ, ◌==◌, ◌||◌, cond, Bool, true, false, List, Option, Some, None}
 use Rattle.addr4.specs.Prefixes.{AddressPrefix}
-use Rattle.bgp_attr.specs.declared.attrs.Attrs.{Attrs}
-use Rattle.bgp_attr.specs.declared.route.Route.{Route}
-use Rattle.bgp_attr.specs.declared.speaker.Speaker.{Speaker}
+use Rattle.bgp_attr.specs.Attributes.{Attrs}
+use Rattle.bgp_attr.specs.Routes.{Route}
+use Rattle.bgp_attr.specs.Speakers.{Speaker}
 use Rattle.bgp_attr.specs.declared.speaker.Neighbour.{Neighbour}
 use Rattle.bgp_attr.specs.Reflections.{has_been_at}
 use Rattle.link_change.specs.Rows.{Rows}
-use Rattle.link_change.specs.declared.change.Change.{Change}
-use Rattle.policy_rules.specs.declared.rule.Rule.{Rule}
+use Rattle.link_change.specs.Changes.{Change}
+use Rattle.policy_rules.specs.Rules.{Rule}
 use Rattle.policy_rules.specs.Verdicts.{has_as, judged_by}
 use Rattle.pass_core.specs.Passed.{Passed}
 use Rattle.pass_core.specs.Turns as turns

@@ -2,9 +2,9 @@
 use Rattle.std.specs.Prelude.{◌==◌, not, ◌&&◌, ◌||◌, Bool, false, if◌then◌else◌, List, Option, Some, None}
 use Rattle.addr4.specs.Prefixes.{AddressPrefix}
 use Rattle.bgp_attr.specs.Hosts.{is_host_prefix}
-use Rattle.bgp_attr.specs.declared.route.Route.{Route}
+use Rattle.bgp_attr.specs.Routes.{Route}
 use Rattle.bgp_attr.specs.declared.speaker.Neighbour.{Neighbour}
-use Rattle.policy_rules.specs.declared.rule.Rule.{Rule}
+use Rattle.policy_rules.specs.Rules.{Rule}
 use Rattle.policy_rules.specs.Verdicts.{judged_by}
 use Rattle.pass_core.specs.Passed.{Passed, begun}
 

@@ -2,7 +2,6 @@
 
 ghost use Rattle.std.specs.Prelude.{◌≡◌, IfOk, OnErr, [], Some, None, is_some, option_map};
 ghost use Rattle.addr4.specs.Places.{key_of};
-ghost use Rattle.bgp_attr.specs.declared.speaker.Speaker.{Speaker};
 ghost use Rattle.bgp_attr.specs.declared.speaker.Neighbour.{Neighbour};
 ghost use Rattle.link_change.specs.Rows.{IsNextCandidate, CoversRows};
 ghost use Rattle.pass_core.specs.Passed.{edited, holds_up, present};
@@ -11,7 +10,7 @@ ghost use Rattle.filter_bank.specs.Filtered.{filtered, passed_rows, route_hop, F
 ghost use Rattle.filter_bank.specs.Walks.{IsWalked};
 
 use crate::filtering::{filtered, filtered_hop};
-use addr4::{Addr, Memory, Place, Prefix};
+use addr4::{Addr, Family, Memory, Place, Prefix, V4};
 use bgp_attr::{Neighbour, Route, SharedAttrs, Speaker};
 use link_change::{Change, Turn, Upstream, copy_row};
 use pass_core::Pass;
@@ -21,23 +20,23 @@ use std::marker::Model;
 
 /// The incoming filter of a peer. Contracts see the rules in force and the walk that is on, if any.
 #[derive(Drop)]
-pub struct FilterBank {
-    pass: Pass<Rules>,
+pub struct FilterBank<F: Family = V4> {
+    pass: Pass<Rules<F>, F>,
 }
 
-impl Model for FilterBank {
+impl<F: Family> Model for FilterBank<F> {
     ghost use Rattle.std.specs.Prelude.{List};
     ghost use Rattle.pass_core.specs.Passed.{Passed};
-    ghost use Rattle.policy_rules.specs.declared.rule.Rule.{Rule};
+    ghost use Rattle.policy_rules.specs.Rules.{Rule};
 
     ghost Value = { Passed (List Rule) };
 
     ghost view = { λ f. f.pass };
 }
 
-impl FilterBank {
+impl<F: Family> FilterBank<F> {
     /// The filter without rules. Takes no memory.
-    pub fn new(alloc: Global) -> FilterBank
+    pub fn new(alloc: Global) -> FilterBank<F>
         ensures { result ≡ record { in_force = []; walk = None } }
     {
         FilterBank {
@@ -47,7 +46,7 @@ impl FilterBank {
 
     /// New rules: a walk begins that brings them into force; where one is on, they wait for its end, in place of others
     /// that waited. Nothing changes at once. Takes no memory.
-    pub fn edit(&mut self, rules: Rules)
+    pub fn edit(&mut self, rules: Rules<F>)
         ensures { self.new ≡ edited self.old rules }
     {
         self.pass.edit(rules);
@@ -62,7 +61,7 @@ impl FilterBank {
 
     /// Whether other rules than the latest ones may hold at a prefix: a walk is on that has yet to come there, or at whose end
     /// rules wait.
-    pub fn holds_up(&self, prefix: Prefix) -> bool
+    pub fn holds_up(&self, prefix: Prefix<F>) -> bool
         ensures { result ≡ holds_up self.now prefix }
     {
         self.pass.holds_up(prefix)
@@ -72,18 +71,18 @@ impl FilterBank {
     /// memory.
     pub fn next_hop(
         &self,
-        row: &SharedAttrs,
-        prefix: Prefix,
-        me: &Speaker,
+        row: &SharedAttrs<F>,
+        prefix: Prefix<F>,
+        me: &Speaker<Addr<F>>,
         peer: &Neighbour,
-    ) -> Option<Addr>
+    ) -> Option<Addr<F>>
         ensures { result ≡ option_map route_hop (passed (filtered me.now peer.now) self.now prefix (Some row.now)) }
     {
         filtered_hop(me, peer, self.pass.at(prefix), prefix, row)
     }
 
     /// The rules of the latest edit.
-    pub fn rules(&self) -> &Rules
+    pub fn rules(&self) -> &Rules<F>
         ensures { result.now ≡ present self.now }
     {
         self.pass.present()
@@ -93,10 +92,10 @@ impl FilterBank {
     /// the same. Takes no memory.
     pub fn take_in(
         &self,
-        change: Change<SharedAttrs>,
-        me: &Speaker,
+        change: Change<SharedAttrs<F>, Prefix<F>>,
+        me: &Speaker<Addr<F>>,
         peer: &Neighbour,
-    ) -> Option<Change<Route>>
+    ) -> Option<Change<Route<SharedAttrs<F>>, Prefix<F>>>
         ensures { FiltersOn me.now peer.now self.now change result }
     {
         let rules = self.pass.at(change.prefix);
@@ -108,12 +107,12 @@ impl FilterBank {
     /// One turn of the walk: it goes to the least candidate of the link above that lies beyond its place, and sends the
     /// change there, if there is one. The turn that finds no candidate ends the walk; rules that waited then begin a walk of
     /// their own. Nothing exactly where no walk is on. Memory only for want of memory: then nothing changes.
-    pub fn unit<U: Upstream<Row = SharedAttrs>>(
+    pub fn unit<U: Upstream<F, Row = SharedAttrs<F>>>(
         &mut self,
         upper: &U,
-        me: &Speaker,
+        me: &Speaker<Addr<F>>,
         peer: &Neighbour,
-    ) -> Result<Turn<Route>, Memory>
+    ) -> Result<Turn<Route<SharedAttrs<F>>, Prefix<F>>, Memory>
         ensures taken { IfOk result (IsWalked me.now peer.now (U.candidates upper.now) (U.rows upper.now) self.old self.new) }
         ensures memory { OnErr result (self.new ≡ self.old) }
     {
@@ -133,13 +132,13 @@ impl FilterBank {
     }
 
     /// The row at a prefix of the link below.
-    pub fn asked<U: Upstream<Row = SharedAttrs>>(
+    pub fn asked<U: Upstream<F, Row = SharedAttrs<F>>>(
         &self,
         upper: &U,
-        prefix: Prefix,
-        me: &Speaker,
+        prefix: Prefix<F>,
+        me: &Speaker<Addr<F>>,
         peer: &Neighbour,
-    ) -> Result<Option<Route>, Memory>
+    ) -> Result<Option<Route<SharedAttrs<F>>>, Memory>
         ensures { IfOk result (λ row. row ≡ passed_rows me.now peer.now self.now (U.rows upper.now) prefix) }
     {
         let row = upper.asked(&prefix)?;
@@ -148,13 +147,13 @@ impl FilterBank {
 
     /// The least candidate of the link below beyond a place: those of the link above, of which some may have no row below.
     /// Every row below stands at one.
-    pub fn next_candidate<U: Upstream<Row = SharedAttrs>>(
+    pub fn next_candidate<U: Upstream<F, Row = SharedAttrs<F>>>(
         &self,
         upper: &U,
-        after: Place,
-    ) -> Option<Prefix>
+        after: Place<Prefix<F>>,
+    ) -> Option<Prefix<F>>
         ensures next { IsNextCandidate (U.candidates upper.now) (key_of after) result }
-        ensures covers { (me : Speaker) (peer : Neighbour) → CoversRows (U.candidates upper.now) (passed_rows me peer self.now (U.rows upper.now)) }
+        ensures covers { (me : _) (peer : Neighbour) → CoversRows (U.candidates upper.now) (passed_rows me peer self.now (U.rows upper.now)) }
     {
         upper.next_candidate(&after)
     }

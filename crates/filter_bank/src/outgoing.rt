@@ -5,8 +5,8 @@ ghost use Rattle.link_change.specs.Changes.{IsChangeOf};
 ghost use Rattle.filter_bank.specs.Outgoing.{is_reflected, is_kept_from, may_go, first_out, let_out, outgoing};
 
 use crate::sent::Sent;
-use addr4::{Memory, Prefix, Row};
-use bgp_attr::{Neighbour, Route, is_host_prefix};
+use addr4::{Family, Memory, Prefix, Row};
+use bgp_attr::{Neighbour, Route, SharedAttrs, is_host_prefix};
 use link_change::Change;
 use policy_rules::{Rules, judge};
 
@@ -31,14 +31,14 @@ fn is_kept_from(peer: &Neighbour, from: Option<Neighbour>) -> bool
 }
 
 /// Whether the peer may get the route, if the rules let it.
-fn may_go(peer: &Neighbour, prefix: Prefix, route: &Route) -> bool
+fn may_go<F: Family>(peer: &Neighbour, prefix: Prefix<F>, route: &Route<SharedAttrs<F>>) -> bool
     ensures { result ≡ may_go peer.now prefix route.now }
 {
     !is_kept_from(peer, route.from) && is_host_prefix(prefix)
 }
 
 /// The route before any rule.
-fn first_out(peer: &Neighbour, route: Route) -> Route
+fn first_out<F: Family>(peer: &Neighbour, route: Route<SharedAttrs<F>>) -> Route<SharedAttrs<F>>
     ensures { result ≡ first_out peer.now route }
 {
     let mut route = route;
@@ -49,12 +49,12 @@ fn first_out(peer: &Neighbour, route: Route) -> Route
 }
 
 /// The route that goes out; without rules none does.
-fn let_out(
+fn let_out<F: Family>(
     peer: &Neighbour,
-    rules: &Option<Rules>,
-    prefix: Prefix,
-    row: Option<Route>,
-) -> Option<Route>
+    rules: &Option<Rules<F>>,
+    prefix: Prefix<F>,
+    row: Option<Route<SharedAttrs<F>>>,
+) -> Option<Route<SharedAttrs<F>>>
     ensures { result ≡ let_out peer.now rules.now prefix row }
 {
     match (rules, row) {
@@ -69,12 +69,12 @@ fn let_out(
 }
 
 /// What is sent of a row above.
-pub(crate) fn sent_row<S: Sent>(
+pub(crate) fn sent_row<F: Family, S: Sent<F>>(
     form: &S,
     peer: &Neighbour,
-    rules: &Option<Rules>,
-    prefix: Prefix,
-    row: Option<Route>,
+    rules: &Option<Rules<F>>,
+    prefix: Prefix<F>,
+    row: Option<Route<SharedAttrs<F>>>,
 ) -> Result<Option<S::Row>, Memory>
     ensures { IfOk result (λ sent. sent ≡ outgoing (S.form form.now) peer.now rules.now prefix row) }
 {
@@ -85,12 +85,12 @@ pub(crate) fn sent_row<S: Sent>(
 }
 
 /// The same of a row that is needed again. It is copied only where there are rules.
-fn sent_before<S: Sent>(
+fn sent_before<F: Family, S: Sent<F>>(
     form: &S,
     peer: &Neighbour,
-    rules: &Option<Rules>,
-    prefix: Prefix,
-    row: &Option<Route>,
+    rules: &Option<Rules<F>>,
+    prefix: Prefix<F>,
+    row: &Option<Route<SharedAttrs<F>>>,
 ) -> Result<Option<S::Row>, Memory>
     ensures { IfOk result (λ sent. sent ≡ outgoing (S.form form.now) peer.now rules.now prefix row.now) }
 {
@@ -101,14 +101,14 @@ fn sent_before<S: Sent>(
 }
 
 /// What other rules change of what is sent of a row above.
-pub(crate) fn sent_change<S: Sent>(
+pub(crate) fn sent_change<F: Family, S: Sent<F>>(
     form: &S,
     peer: &Neighbour,
-    former: &Option<Rules>,
-    latter: &Option<Rules>,
-    prefix: Prefix,
-    row: Option<Route>,
-) -> Result<Option<Change<S::Row>>, Memory>
+    former: &Option<Rules<F>>,
+    latter: &Option<Rules<F>>,
+    prefix: Prefix<F>,
+    row: Option<Route<SharedAttrs<F>>>,
+) -> Result<Option<Change<S::Row, Prefix<F>>>, Memory>
     ensures { IfOk result (IsChangeOf prefix (outgoing (S.form form.now) peer.now former.now prefix row) (outgoing (S.form form.now) peer.now latter.now prefix row)) }
 {
     let before = sent_before(form, peer, former, prefix, &row)?;

@@ -2,13 +2,13 @@
 
 ghost use Rattle.std.specs.Prelude.{◌≡◌, IfOk, Option};
 ghost use Rattle.addr4.specs.Prefixes.{AddressPrefix};
-ghost use Rattle.bgp_attr.specs.declared.route.Route.{Route};
+ghost use Rattle.bgp_attr.specs.Routes.{Route};
 
-use addr4::{Memory, Prefix, Row};
-use bgp_attr::Route;
+use addr4::{Family, Memory, Prefix, Row};
+use bgp_attr::{Route, SharedAttrs};
 
 /// Tells what one peer is sent of routes.
-pub trait Sent {
+pub trait Sent<F: Family> {
     /// What the peer is sent of a route. Two are equal where the peer gets the same.
     type Row: Row;
 
@@ -16,6 +16,6 @@ pub trait Sent {
     ghost form: { Self → AddressPrefix → Route → Option Self.Row };
 
     /// What the peer is sent of a route. Memory only for want of memory.
-    fn sent(&self, p: &Prefix, row: &Route) -> Result<Option<Self::Row>, Memory>
+    fn sent(&self, p: &Prefix<F>, row: &Route<SharedAttrs<F>>) -> Result<Option<Self::Row>, Memory>
         ensures { IfOk result (λ sent. sent ≡ form self.now p.now row.now) };
 }

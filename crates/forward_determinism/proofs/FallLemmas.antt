@@ -3,24 +3,24 @@ use Rattle.std.proofs.Common.{◌≡◌, ◌⊎◌, ℕ, Option, Some, None, ref
 use Rattle.std.specs.Option.{option_or}
 use Rattle.std.specs.FinMap.{same_map}
 use Rattle.addr4.proofs.PrefixOrder.{prefixes_total, exact_prefixes}
-use Rattle.bgp_attr.specs.declared.route.Route.{Route}
+use Rattle.bgp_attr.specs.Routes.{Route}
 use Rattle.link_change.specs.Rows.{Rows}
 use Rattle.link_change.specs.Changes.{IsSent}
-use Rattle.rib_route.specs.declared.rows.Interior.{Interior}
+use Rattle.rib_route.specs.Rows.{Interior}
 use Rattle.register_interest.specs.Registers.{Registry}
 use Rattle.nexthop_known.specs.Counts.{AreCounted}
-use Rattle.nexthop_resolver.specs.declared.rows.Way.{Way}
+use Rattle.nexthop_resolver.specs.Ways.{Way}
 use Rattle.nexthop_resolver.specs.Kept.{external_hop, way_of}
 use Rattle.nexthop_resolver.specs.Resolving.{named_by}
 use Rattle.nexthop_resolver.specs.Registered.{Agrees, told_of}
 use Rattle.nexthop_resolver.specs.Takes.{Keeps}
 use Rattle.rib_split.specs.declared.splitter.Splitter.{Splitter}
 use Rattle.rib_split.specs.declared.split.BgpLink.TheVariants.{Ebgp, Ibgp}
-use Rattle.rib_split.specs.declared.split.Split.{Split}
+use Rattle.rib_split.specs.Splits.{Split}
 use Rattle.rib_split.specs.Splitting.{Parted, split_rows}
 use Rattle.rib_split.specs.Tables.{kept_rows}
 use Rattle.rib_split.specs.Laws.{merged_links}
-use Rattle.rib_exit.specs.declared.exit.RibExit.{RibExit}
+use Rattle.rib_exit.specs.RibExits.{RibExit}
 use Rattle.rib_exit.specs.Exits.{ext_rows, fib_over, IsExit, AgreesWith, StandsOver}
 use Rattle.rib_exit.specs.Passing.{Caused, fall_entries}
 use Rattle.rib_exit.specs.Steps.{KeepsAgreed, CausesOn}

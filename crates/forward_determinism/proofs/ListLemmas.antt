@@ -10,7 +10,7 @@ use Rattle.addr4.specs.Prefixes.{AddressPrefix, prefix_cmp}
 use Rattle.addr4.proofs.PrefixOrder.{prefixes_total, exact_prefixes, by_prefix}
 use Rattle.link_change.specs.Rows.{Rows}
 use Rattle.link_change.proofs.MapLemmas.{entries_kept}
-use Rattle.journal_text.specs.declared.value.Value.{Value}
+use Rattle.journal_text.specs.Lines.{Value}
 use Rattle.forward_determinism.specs.Laws.{ListedIsOne}
 
 module _ (rows : Rows Value) (q : AddressPrefix) where

@@ -1,12 +1,12 @@
 -- What the splitter sends on its two links, and what that causes on `ext`, is one.
 use Rattle.std.proofs.Common.{◌≡◌, true, cond, Option, Some, None, is_some, refl, sym, ap, ◌∙◌}
 use Rattle.addr4.specs.Prefixes.{AddressPrefix}
-use Rattle.rib_route.specs.declared.rows.External.{External}
+use Rattle.rib_route.specs.Rows.{External}
 use Rattle.link_change.specs.Changes.{IsSent}
-use Rattle.link_change.specs.declared.change.Change.{Change}
+use Rattle.link_change.specs.Changes.{Change}
 use Rattle.rib_split.specs.declared.split.BgpLink.{BgpLink}
 use Rattle.rib_split.specs.declared.split.BgpLink.TheVariants.{Ebgp, Ibgp}
-use Rattle.rib_split.specs.declared.split.Split.{Split}
+use Rattle.rib_split.specs.Splits.{Split}
 use Rattle.rib_split.specs.declared.split.Split.TheVariants.{Neither, One, Moved}
 use Rattle.rib_split.specs.Splitting.{Parted, first_on, Splits}
 use Rattle.rib_split.specs.Laws.{merged_links}

@@ -1,12 +1,12 @@
 -- What comes of a change of the interior routes, of interests that are given up, and of a turn is one.
 use Rattle.std.proofs.Common.{sym, ap, subst, ◌∙◌}
 use Rattle.link_change.specs.Changes.{IsSent}
-use Rattle.rib_route.specs.declared.rows.External.{External}
-use Rattle.rib_route.specs.declared.rows.FibRow.{FibRow}
-use Rattle.nexthop_resolver.specs.declared.rows.Way.{Way}
+use Rattle.rib_route.specs.Rows.{External}
+use Rattle.rib_route.specs.Rows.{FibRow}
+use Rattle.nexthop_resolver.specs.Ways.{Way}
 use Rattle.nexthop_resolver.specs.Kept.{external_hop, over, way_of, same_way}
 use Rattle.nexthop_resolver.proofs.AlikeLemmas.{tells_ways}
-use Rattle.rib_exit.specs.declared.exit.RibExit.{RibExit}
+use Rattle.rib_exit.specs.RibExits.{RibExit}
 use Rattle.rib_exit.specs.Exits.{ext_rows, ext_candidates, fib_over}
 use Rattle.rib_exit.specs.Steps.{fib_entries}
 use Rattle.hop_determinism.specs.Laws.{ClientsRegisterIsOne, StaleIsOne, TurnedIsOne, TurnedHasWork}

@@ -3,20 +3,20 @@ use Rattle.std.specs.Prelude.{◌≡◌, true, List, map, Option, Some, IsSome}
 use Rattle.std.specs.List.{Contains, AllByRecursion}
 use Rattle.std.specs.List.Sorted.{IsStrictlySortedBy}
 use Rattle.addr4.specs.Prefixes.{AddressPrefix, prefix_cmp}
-use Rattle.bgp_attr.specs.declared.route.Route.{Route}
+use Rattle.bgp_attr.specs.Routes.{Route}
 use Rattle.link_change.specs.Rows.{Rows}
 use Rattle.link_change.specs.Changes.{IsSent}
-use Rattle.link_change.specs.declared.change.Change.{Change}
-use Rattle.rib_route.specs.declared.rows.Interior.{Interior}
-use Rattle.rib_route.specs.declared.rows.External.{External}
-use Rattle.rib_route.specs.declared.rows.FibRow.{FibRow}
-use Rattle.register_interest.specs.declared.interests.Interest.{Interest}
+use Rattle.link_change.specs.Changes.{Change}
+use Rattle.rib_route.specs.Rows.{Interior}
+use Rattle.rib_route.specs.Rows.{External}
+use Rattle.rib_route.specs.Rows.{FibRow}
+use Rattle.register_interest.specs.Interests.{Interest}
 use Rattle.register_interest.specs.Registers.{Registry}
-use Rattle.rib_split.specs.declared.split.Split.{Split}
+use Rattle.rib_split.specs.Splits.{Split}
 use Rattle.rib_split.specs.Splitting.{Parted, Splits}
-use Rattle.journal_text.specs.declared.entry.Entry.{Entry}
-use Rattle.journal_text.specs.declared.value.Value.{Value}
-use Rattle.rib_exit.specs.declared.exit.RibExit.{RibExit}
+use Rattle.journal_text.specs.Lines.{Entry}
+use Rattle.journal_text.specs.Lines.{Value}
+use Rattle.rib_exit.specs.RibExits.{RibExit}
 use Rattle.rib_exit.specs.Exits.{IsExit, StandsOver, has_ext_work}
 use Rattle.rib_exit.specs.Passing.{Caused}
 use Rattle.rib_exit.specs.Steps.{CausesOn, FallsOn, TakesExternal, TakesInterior, ReachesExit, TurnsExit}

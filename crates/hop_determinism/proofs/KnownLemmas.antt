@@ -10,7 +10,7 @@ use Rattle.std.proofs.lemmas.Map.Made.{is_member-Decides, length-from_same_keys}
 use Rattle.addr4.specs.Prefixes.{AddressPrefix, prefix_cmp}
 use Rattle.addr4.proofs.PrefixOrder.{by_prefix, itself, one_prefix, prefixes_total}
 use Rattle.link_change.specs.Rows.{Rows}
-use Rattle.nexthop_known.specs.declared.answer.Hop.{Hop}
+use Rattle.nexthop_known.specs.Hops.{Hop}
 use Rattle.nexthop_known.specs.Hops.{Hops, IsMapped}
 use Rattle.nexthop_known.specs.Counts.{counted, counted_in, AllApart, IsCount}
 use Rattle.hop_determinism.specs.Laws.{CountsAreOne, LeastStaleIsOne}

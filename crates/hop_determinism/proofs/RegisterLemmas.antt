@@ -5,7 +5,7 @@ use Rattle.std.specs.List.{Contains}
 use Rattle.addr4.specs.Prefixes.{AddressPrefix}
 use Rattle.register_interest.specs.Width.{width}
 use Rattle.register_interest.specs.Covers.{longest, matched, IsSubnet}
-use Rattle.register_interest.specs.declared.interests.Interest.{Interest}
+use Rattle.register_interest.specs.Interests.{Interest}
 use Rattle.register_interest.specs.Interests.{interest_cmp, AreReached, without}
 use Rattle.register_interest.proofs.CoverLemmas.{one_of_length}
 use Rattle.register_interest.proofs.InterestLemmas.{interests_total}

@@ -7,12 +7,12 @@ use Rattle.addr4.specs.Prefixes.{AddressPrefix, Holds}
 use Rattle.addr4.proofs.BlockLemmas.{size_pos}
 use Rattle.link_change.specs.Changes.{IsSent}
 use Rattle.register_interest.specs.Width.{width}
-use Rattle.rib_route.specs.declared.rows.Interior.{Interior}
+use Rattle.rib_route.specs.Rows.{Interior}
 use Rattle.register_interest.specs.Covers.{longest, matched}
-use Rattle.register_interest.specs.declared.interests.Interest.{Interest}
+use Rattle.register_interest.specs.Interests.{Interest}
 use Rattle.register_interest.specs.Registers.{Registry, AllStand}
 use Rattle.register_interest.proofs.InterestLemmas.{interests_total, exact_interests}
-use Rattle.nexthop_known.specs.declared.answer.Hop.{Hop}
+use Rattle.nexthop_known.specs.Hops.{Hop}
 use Rattle.nexthop_known.specs.Hops.{Hops, renewed}
 use Rattle.nexthop_known.specs.Counts.{Counts}
 use Rattle.nexthop_resolver.specs.Resolving.{Resolving, AreNamed, named_by, res_rows}

@@ -2,9 +2,9 @@
 use Rattle.std.proofs.Common.{◌≡◌, ℕ, List, Option, Some, None, sym, refl, ap, ◌∙◌, subst}
 use Rattle.std.specs.Cmp.{nat_cmp_total}
 use Rattle.std.specs.FinMap.{same_map, nat_cmp-IsAntisymmetric}
-use Rattle.bgp_attr.specs.declared.route.Route.{Route}
-use Rattle.link_change.specs.declared.change.Change.{Change}
-use Rattle.rib_route.specs.declared.rows.Interior.{Interior}
+use Rattle.bgp_attr.specs.Routes.{Route}
+use Rattle.link_change.specs.Changes.{Change}
+use Rattle.rib_route.specs.Rows.{Interior}
 use Rattle.register_interest.specs.Registers.{Registry}
 use Rattle.nexthop_resolver.specs.declared.rows.Metric.{Metric}
 use Rattle.nexthop_resolver.specs.Kept.{route_hop, metric_of, with_metric, same_metric}
@@ -15,8 +15,8 @@ use Rattle.nexthop_resolver.specs.Turns.{Turned}
 use Rattle.nexthop_resolver.specs.Reached.{IsReached}
 use Rattle.nexthop_resolver.proofs.AlikeLemmas.{tells_metrics}
 use Rattle.nexthop_resolver.proofs.MoveLemmas.{same_some}
-use Rattle.journal_text.specs.declared.entry.Entry.{Entry}
-use Rattle.journal_text.specs.declared.value.Value.{Value}
+use Rattle.journal_text.specs.Lines.{Entry}
+use Rattle.journal_text.specs.Lines.{Value}
 use Rattle.hop_side.specs.Resolvers.{Resolvers, resolver_at, put_resolver, IsHop, busy_by}
 use Rattle.hop_side.specs.Steps.{res_entries, KeepsAgreed, AtPeer}
 use Rattle.hop_side.proofs.PutLemmas.{put_here}

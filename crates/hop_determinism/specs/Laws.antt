@@ -3,18 +3,18 @@
 use Rattle.std.specs.Prelude.{◌≡◌, ℕ, Bool, true, List, Option, Some}
 use Rattle.std.specs.FinMap as map
 use Rattle.addr4.specs.Prefixes.{AddressPrefix}
-use Rattle.bgp_attr.specs.declared.route.Route.{Route}
+use Rattle.bgp_attr.specs.Routes.{Route}
 use Rattle.link_change.specs.Rows.{Rows, Candidates}
 use Rattle.link_change.specs.Changes.{IsSent}
-use Rattle.link_change.specs.declared.change.Change.{Change}
-use Rattle.link_change.specs.declared.turn.Turn.{Turn}
+use Rattle.link_change.specs.Changes.{Change}
+use Rattle.link_change.specs.Turns.{Turn}
 use Rattle.register_interest.specs.Width.{width}
-use Rattle.rib_route.specs.declared.rows.Interior.{Interior}
+use Rattle.rib_route.specs.Rows.{Interior}
 use Rattle.register_interest.specs.Covers.{IsSubnet, IsCover}
-use Rattle.register_interest.specs.declared.interests.Interest.{Interest}
+use Rattle.register_interest.specs.Interests.{Interest}
 use Rattle.register_interest.specs.Interests.{AreReached, without}
 use Rattle.register_interest.specs.Registers.{Registry, put_row, AllStand as MatchesStand}
-use Rattle.nexthop_known.specs.declared.answer.Hop.{Hop}
+use Rattle.nexthop_known.specs.Hops.{Hop}
 use Rattle.nexthop_known.specs.Hops.{Hops, IsLeastStale}
 use Rattle.nexthop_known.specs.Counts.{Counts, AreCounted}
 use Rattle.nexthop_resolver.specs.Resolving.{Resolving, AreNamed, named_by}
@@ -23,8 +23,8 @@ use Rattle.nexthop_resolver.specs.Takes.{Keeps, Invalidates, TakesIn}
 use Rattle.nexthop_resolver.specs.Reached.{IsReached}
 use Rattle.nexthop_resolver.specs.Turns.{Turned, IsTurn}
 use Rattle.nexthop_resolver.specs.Left.{TellsAlike, is_busy}
-use Rattle.journal_text.specs.declared.entry.Entry.{Entry}
-use Rattle.journal_text.specs.declared.value.Value.{Value}
+use Rattle.journal_text.specs.Lines.{Entry}
+use Rattle.journal_text.specs.Lines.{Value}
 use Rattle.hop_side.specs.Resolvers.{Resolvers, PeerRows, AllCounted, has_hop_work}
 use Rattle.hop_side.specs.Steps.{ComesOn, TakesHop, KeepsAgreed, TurnsBelow, ReachesBelow}
 

@@ -1,3 +1,4 @@
 pub mod TurnLemmas
 pub mod CandidateLemmas
 mod FilterLemmas
+pub mod EditLemmas

@@ -15,7 +15,7 @@ ghost use Rattle.in_chain.specs.Falls.{Falls, LeadsChain, way_of_feed};
 ghost use Rattle.in_chain.specs.Incomings.{loss_entries, overdue_of};
 ghost use Rattle.in_chain.specs.Steps.{new_chain, fed, lost, welded, refiltered, IsTaken};
 
-use addr4::{Memory, Prefix};
+use addr4::{Addr, Family, Memory, Prefix, Texts, V4};
 use bgp_attr::{Neighbour, Route, SharedAttrs, Speaker};
 use filter_bank::FilterBank;
 use journal_text::{Journal, Link, Task};
@@ -28,19 +28,22 @@ use std::marker::Model;
 /// A peer's chain. Contracts see the live routes and the lost tables, the words of this speaker and of the peer, and the
 /// rules of the incoming filter.
 #[derive(Drop)]
-pub struct Chain {
-    pub(crate) me: Speaker,
+pub struct Chain<F: Texts = V4> {
+    pub(crate) me: Speaker<Addr<F>>,
     pub(crate) peer: Neighbour,
     pub(crate) number: u32,
-    pub(crate) stages: LossChain<SharedAttrs>,
-    pub(crate) filter: FilterBank,
+    pub(crate) stages: LossChain<SharedAttrs<F>, F>,
+    pub(crate) filter: FilterBank<F>,
 }
 
-impl Model for Chain {
+impl<F: Texts> Model for Chain<F> {
     ghost use Rattle.std.specs.Coded.{coded_list};
     ghost use Rattle.in_chain.specs.Incomings.{incoming_code};
     ghost use Rattle.in_chain.specs.Chains.{Chained, chained_code};
     ghost use Rattle.pass_core.specs.Passed.{passed_code};
+    ghost use Rattle.std.specs.Borrow.{u32 as word};
+    ghost use Rattle.addr4.specs.contracts.family.V4 as family_row;
+    ghost use Rattle.addr4.specs.contracts.prefix.Prefix as prefix_row;
     ghost use Rattle.bgp_attr.specs.contracts.attrs.Attrs as attrs_row;
     ghost use Rattle.bgp_attr.specs.contracts.speaker.Speaker as speaker_row;
     ghost use Rattle.bgp_attr.specs.contracts.speaker.Neighbour as neighbour_row;
@@ -48,15 +51,15 @@ impl Model for Chain {
 
     ghost Value = { Chained };
 
-    ghost coded = { chained_code (incoming_code attrs_row.the_row.coded) speaker_row.the_row.coded neighbour_row.the_row.coded (passed_code (coded_list rule_row.the_row.coded)) };
+    ghost coded = { chained_code (incoming_code (attrs_row.the_row word).coded) (speaker_row.the_row word).coded neighbour_row.the_row.coded (passed_code (coded_list (rule_row.the_row (prefix_row.the_row family_row.the_row ⟦<V4 as Family>⟧)).coded)) };
 
     ghost view = { λ c. record { incoming = record { number = c.number; tables = c.stages }; me = c.me; peer = c.peer; filter = c.filter } };
 }
 
-impl Chain {
+impl<F: Texts> Chain<F> {
     /// A chain without routes, deletion stages and rules, by the words of this speaker and of the peer. Takes no memory now;
     /// what the stages hold later comes from `alloc`.
-    pub fn new(alloc: Global, me: Speaker, peer: Neighbour) -> Result<Chain, Memory>
+    pub fn new(alloc: Global, me: Speaker<Addr<F>>, peer: Neighbour) -> Result<Chain<F>, Memory>
         ensures { IfOk result (λ chain. chain ≡ new_chain me peer) }
     {
         Ok(Chain {
@@ -84,14 +87,14 @@ impl Chain {
 
     /// The lowest of the stages whose links carry attributes, the one above `in.K`. A deletion stage holds the stage above it
     /// in its box, up to the live routes.
-    pub fn lowest(&self) -> &Stage<SharedAttrs>
+    pub fn lowest(&self) -> &Stage<SharedAttrs<F>, F>
         ensures { tables_of result.now ≡ self.now.incoming.tables }
     {
         self.stages.lowest()
     }
 
     /// The incoming filter, between `in.K` and `filt.K`.
-    pub fn filter(&self) -> &FilterBank
+    pub fn filter(&self) -> &FilterBank<F>
         ensures { result.now ≡ self.now.filter }
     {
         &self.filter
@@ -102,10 +105,10 @@ impl Chain {
     /// may so empty one: weld then. Memory comes only for want of memory.
     pub fn feed(
         &mut self,
-        p: Prefix,
-        new: Option<SharedAttrs>,
-        journal: &mut Journal,
-    ) -> Result<Option<Change<Route>>, Memory>
+        p: Prefix<F>,
+        new: Option<SharedAttrs<F>>,
+        journal: &mut Journal<F>,
+    ) -> Result<Option<Change<Route<SharedAttrs<F>>, Prefix<F>>>, Memory>
         requires chain { IsChain self.old }
         requires full { NoneEmpty self.old.incoming.tables.deletions }
         ensures sent { IfOk result (IsSent (filt_rows self.old) (filt_rows self.new) p) }
@@ -124,7 +127,7 @@ impl Chain {
 
     /// The session of this number is lost: its routes, if there are any, go to a deletion stage directly below the top, and
     /// the link `peer.K.S` above it begins. The maps of `in.K` and `filt.K` stay the same.
-    pub fn lose(&mut self, session: u32, journal: &mut Journal) -> Result<(), Memory>
+    pub fn lose(&mut self, session: u32, journal: &mut Journal<F>) -> Result<(), Memory>
         requires chain { IsChain self.old }
         requires full { NoneEmpty self.old.incoming.tables.deletions }
         requires room { overdue_of self.old.incoming ≡ None }
@@ -142,7 +145,7 @@ impl Chain {
     }
 
     /// Takes out the stage that a feed or a turn emptied, if there is one: the link above it is welded into the one below.
-    pub fn weld(&mut self, journal: &mut Journal) -> Result<(), Memory>
+    pub fn weld(&mut self, journal: &mut Journal<F>) -> Result<(), Memory>
         requires chain { IsChain self.old }
         requires one_empty { OneEmptyAtMost self.old.incoming.tables.deletions }
         ensures after { OnOk result (self.new ≡ welded self.old) }
@@ -157,7 +160,7 @@ impl Chain {
     }
 
     /// New rules for the incoming filter. They hold nowhere at first: the task `fin.K` brings them into force. Takes no memory.
-    pub fn edit(&mut self, rules: Rules)
+    pub fn edit(&mut self, rules: Rules<F>)
         ensures after { self.new ≡ refiltered rules self.old }
         ensures rows { filt_rows self.new ≡ filt_rows self.old }
         ensures links { links_of self.new ≡ links_of self.old }
@@ -169,7 +172,11 @@ impl Chain {
     /// down; a turn may empty the stage: weld then. Of `fin.K`: the walk of the filter goes to the next prefix of `in.K`, or
     /// ends. Nothing exactly where the task isn't one of the chain's or has no work; Quiet where no change comes out on
     /// `filt.K`.
-    pub fn unit(&mut self, task: Task, journal: &mut Journal) -> Result<Turn<Route>, Memory>
+    pub fn unit(
+        &mut self,
+        task: Task,
+        journal: &mut Journal<F>,
+    ) -> Result<Turn<Route<SharedAttrs<F>>, Prefix<F>>, Memory>
         requires chain { IsChain self.old }
         requires full { NoneEmpty self.old.incoming.tables.deletions }
         ensures taken { IfOk result (IsTaken self.old self.new task journal.old journal.new) }
@@ -200,7 +207,11 @@ impl Chain {
     }
 
     // One turn of the stage of a session.
-    fn sweep(&mut self, session: u32, journal: &mut Journal) -> Result<Turn<Route>, Memory>
+    fn sweep(
+        &mut self,
+        session: u32,
+        journal: &mut Journal<F>,
+    ) -> Result<Turn<Route<SharedAttrs<F>>, Prefix<F>>, Memory>
         requires chain { IsChain self.old }
         requires full { NoneEmpty self.old.incoming.tables.deletions }
         ensures taken { IfOk result (IsTaken self.old self.new (tasks.Del self.old.incoming.number session) journal.old journal.new) }
@@ -222,7 +233,10 @@ impl Chain {
     }
 
     // One turn of the filter's walk.
-    fn walk(&mut self, journal: &mut Journal) -> Result<Turn<Route>, Memory>
+    fn walk(
+        &mut self,
+        journal: &mut Journal<F>,
+    ) -> Result<Turn<Route<SharedAttrs<F>>, Prefix<F>>, Memory>
         requires chain { IsChain self.old }
         requires full { NoneEmpty self.old.incoming.tables.deletions }
         ensures taken { IfOk result (IsTaken self.old self.new (tasks.Fin self.old.incoming.number) journal.old journal.new) }

@@ -4,7 +4,7 @@ ghost use Rattle.std.specs.Prelude.{◌≡◌, IfOk, is_some, IsSome, Some, opti
 ghost use Rattle.addr4.specs.Places.{key_of};
 ghost use Rattle.link_change.specs.Rows.{Rows, IsNextCandidate, CoversRows};
 ghost use Rattle.journal_text.specs.declared.link.Task.TheVariants as tasks;
-ghost use Rattle.journal_text.specs.declared.value.Value.{Value};
+ghost use Rattle.journal_text.specs.Lines.{Value as Valuation};
 ghost use Rattle.journal_text.specs.Walk.{HasRow};
 ghost use Rattle.journal_text.specs.Values.{route_rows};
 ghost use Rattle.filter_bank.specs.Filtered.{route_hop};
@@ -17,13 +17,13 @@ ghost use Rattle.in_chain.specs.Chains.{links_of, filt_rows, candidates_of, filt
 ghost use Rattle.in_chain.specs.Steps.{chain_lags, FindsNextLost};
 
 use crate::chain::Chain;
-use addr4::{Addr, Memory, Place, Prefix};
-use bgp_attr::Route;
+use addr4::{Addr, Memory, Place, Prefix, Texts};
+use bgp_attr::{Route, SharedAttrs};
 use journal_text::{Link, Task, Value};
 use link_change::Upstream;
 use loss_chain::Owner;
 
-impl Chain {
+impl<F: Texts> Chain<F> {
     /// The task that has to run to its end before a session may be lost: that of the stage that stands longest, where 16
     /// stand and a route is live. So no chain has more than 16 deletion stages.
     pub fn overdue(&self) -> Option<Task>
@@ -50,7 +50,11 @@ impl Chain {
     }
 
     /// The row at a prefix of a link of the chain; None where it has none. Memory where the row can't be copied.
-    pub fn asked(&self, link: Link, p: Prefix) -> Result<Option<Value>, Memory>
+    pub fn asked(
+        &self,
+        link: Link,
+        p: Prefix<F>,
+    ) -> Result<Option<Value<SharedAttrs<F>, Addr<F>>>, Memory>
         requires { IsSome (links_of self.now link) }
         ensures { IfOk result (HasRow (links_of self.now) link p) }
     {
@@ -61,7 +65,7 @@ impl Chain {
     }
 
     // The row of `filt.K` at a prefix.
-    fn filtered(&self, p: Prefix) -> Result<Option<Value>, Memory>
+    fn filtered(&self, p: Prefix<F>) -> Result<Option<Value<SharedAttrs<F>, Addr<F>>>, Memory>
         ensures { IfOk result (λ row. row ≡ route_rows (filt_rows self.now) p) }
     {
         let route = self.filter.asked(&self.stages, p, &self.me, &self.peer)?;
@@ -73,10 +77,10 @@ impl Chain {
 
     /// The least candidate of a link of the chain that lies beyond a place: of `in.K` and `peer.K.S` its rows, of `filt.K` the
     /// rows of `in.K`, some of which may have none on `filt.K`.
-    pub fn next_candidate(&self, link: Link, after: Place) -> Option<Prefix>
+    pub fn next_candidate(&self, link: Link, after: Place<Prefix<F>>) -> Option<Prefix<F>>
         requires { IsSome (links_of self.now link) }
         ensures next { IsNextCandidate (candidates_of self.now link) (key_of after) result }
-        ensures covers { (rows : Rows Value) → links_of self.now link ≡ Some rows → CoversRows (candidates_of self.now link) rows }
+        ensures covers { (rows : Rows Valuation) → links_of self.now link ≡ Some rows → CoversRows (candidates_of self.now link) rows }
     {
         let owner = Owner::Peer(self.number);
         match link {
@@ -87,7 +91,7 @@ impl Chain {
 
     /// Whether a task of the chain holds up a prefix: of `del.K.S`, the table of that stage still has it; of `fin.K`, the walk is
     /// yet to come to the row of `in.K` there, or rules wait. Takes no memory.
-    pub fn holds_up(&self, task: Task, p: Prefix) -> bool
+    pub fn holds_up(&self, task: Task, p: Prefix<F>) -> bool
         ensures { result ≡ chain_lags self.now task p }
     {
         match task {
@@ -104,7 +108,7 @@ impl Chain {
     }
 
     // Whether the stage of a session still has a row at a prefix.
-    fn stage_has(&self, session: u32, p: Prefix) -> bool
+    fn stage_has(&self, session: u32, p: Prefix<F>) -> bool
         ensures { result ≡ has_row (table_of session self.now.incoming.tables.deletions) p }
     {
         match self.stages.deletion(session) {
@@ -114,7 +118,7 @@ impl Chain {
     }
 
     // Whether other rules than the latest ones may hold for the row of `in.K` at a prefix.
-    fn filter_lags(&self, p: Prefix) -> bool
+    fn filter_lags(&self, p: Prefix<F>) -> bool
         ensures { result ≡ row_lags self.now.filter p (in_rows self.now.incoming p) }
     {
         self.has(p) && self.filter.holds_up(p)
@@ -122,7 +126,7 @@ impl Chain {
 
     /// Whether `in.K` has a row at a prefix, live or of a lost session: where the filter accepts it, `filt.K` has one there too.
     /// Takes no memory.
-    pub fn has(&self, p: Prefix) -> bool
+    pub fn has(&self, p: Prefix<F>) -> bool
         ensures { result ≡ filt_candidates self.now p }
     {
         self.stages.row(p).is_some()
@@ -130,7 +134,7 @@ impl Chain {
 
     /// The prefix whose row the next turn of a deletion stage takes, the least by address and then length. None for any other
     /// task, and where the chain has no such stage or the stage has no row. Takes no memory.
-    pub fn next_lost(&self, task: Task) -> Option<Prefix>
+    pub fn next_lost(&self, task: Task) -> Option<Prefix<F>>
         ensures { FindsNextLost self.now task result }
     {
         match task {
@@ -152,7 +156,7 @@ impl Chain {
     }
 
     // The prefix of the least row of the stage of a session.
-    fn least_lost(&self, session: u32) -> Option<Prefix>
+    fn least_lost(&self, session: u32) -> Option<Prefix<F>>
         ensures { FindsNextLost self.now (tasks.Del self.now.incoming.number session) result }
     {
         match self.stages.deletion(session) {
@@ -162,7 +166,7 @@ impl Chain {
     }
 
     /// The next hop of the row of `filt.K` at a prefix; None exactly where there is none. Takes no memory.
-    pub fn next_hop(&self, p: Prefix) -> Option<Addr>
+    pub fn next_hop(&self, p: Prefix<F>) -> Option<Addr<F>>
         ensures { result ≡ option_map route_hop (filt_rows self.now p) }
     {
         let row = self.stages.row(p)?;
@@ -193,8 +197,8 @@ impl Chain {
 }
 
 /// The lowest link, `filt.K`: its candidates are the rows of `in.K`, some of which may have none on `filt.K`.
-impl Upstream for Chain {
-    type Row = Route;
+impl<F: Texts> Upstream<F> for Chain<F> {
+    type Row = Route<SharedAttrs<F>>;
 
     ghost use Rattle.in_chain.specs.Chains.{filt_rows, filt_candidates};
 
@@ -202,11 +206,11 @@ impl Upstream for Chain {
 
     ghost candidates = { filt_candidates };
 
-    fn asked(&self, p: &Prefix) -> Result<Option<Route>, Memory> {
+    fn asked(&self, p: &Prefix<F>) -> Result<Option<Route<SharedAttrs<F>>>, Memory> {
         self.filter.asked(&self.stages, *p, &self.me, &self.peer)
     }
 
-    fn next_candidate(&self, after: &Place) -> Option<Prefix> {
+    fn next_candidate(&self, after: &Place<Prefix<F>>) -> Option<Prefix<F>> {
         self.filter.next_candidate(&self.stages, *after)
     }
 }

@@ -9,7 +9,7 @@ use Rattle.std.specs.Str.Parse.{AllDigits}
 use Rattle.std.proofs.lemmas.Fmt.{decimal_is_IsNumeral}
 use Rattle.hex.specs.Hex.{encode_lower}
 use Rattle.addr4.specs.Prefixes.{AddressPrefix}
-use Rattle.addr4.specs.Texts.{parts, prefix_text, addr_text, dotted}
+use Rattle.addr4.specs.Texts.{parts, prefix_text, addr_text, dotted, id_text}
 use Rattle.bgp_attr.specs.declared.path.SegmentKind.{SegmentKind}
 use Rattle.bgp_attr.specs.declared.path.SegmentKind.TheVariants.{Set, Sequence}
 use Rattle.bgp_attr.specs.declared.path.Segment.{Segment}
@@ -17,15 +17,15 @@ use Rattle.bgp_attr.specs.declared.attrs.Origin.{Origin}
 use Rattle.bgp_attr.specs.declared.attrs.Origin.TheVariants.{Igp, Egp, Incomplete}
 use Rattle.bgp_attr.specs.declared.attrs.Aggregator.{Aggregator}
 use Rattle.bgp_attr.specs.declared.unrecognized.Unrecognized.{Unrecognized}
-use Rattle.bgp_attr.specs.declared.attrs.Attrs.{Attrs}
-use Rattle.bgp_attr.specs.declared.route.Route.{Route}
+use Rattle.bgp_attr.specs.Attributes.{Attrs}
+use Rattle.bgp_attr.specs.Routes.{Route}
 use Rattle.bgp_attr.specs.Reflections.{Reflected}
 use Rattle.rib_route.specs.declared.Proto.{Proto}
 use Rattle.rib_route.specs.declared.protocol.FibProto.{FibProto}
 use Rattle.rib_route.specs.declared.protocol.FibProto.TheVariants.{Connected, Static, Ospf, Rip, Ebgp, Ibgp}
-use Rattle.rib_route.specs.declared.rows.Interior.{Interior}
-use Rattle.rib_route.specs.declared.rows.External.{External}
-use Rattle.rib_route.specs.declared.rows.FibRow.{FibRow}
+use Rattle.rib_route.specs.Rows.{Interior}
+use Rattle.rib_route.specs.Rows.{External}
+use Rattle.rib_route.specs.Rows.{FibRow}
 use Rattle.rib_route.specs.Distances.{fib_proto, external_proto}
 use Rattle.rib_route.specs.Ifaces.{is_name_byte, is_iface_name}
 use Rattle.journal_text.specs.Names.{IsNameNumber, IsNamed, IsNamedTask, link_of}
@@ -34,13 +34,13 @@ use Rattle.journal_text.specs.declared.link.Link.{Link}
 use Rattle.journal_text.specs.declared.link.Link.TheVariants.{In, Peer, Filt, Res, Org, Lost, Low, Dyn, Int, Red, Best, ReadRib, Ebgp as EbgpLink, Ibgp as IbgpLink, Ext, Fib, Read as ReadLink, Outf, Adv}
 use Rattle.journal_text.specs.declared.link.Task.{Task}
 use Rattle.journal_text.specs.declared.link.Task.TheVariants as tasks
-use Rattle.journal_text.specs.declared.value.Value.{Value}
+use Rattle.journal_text.specs.Lines.{Value}
 use Rattle.journal_text.specs.declared.value.Value.TheVariants as values
-use Rattle.journal_text.specs.declared.entry.Entry.{Entry}
+use Rattle.journal_text.specs.Lines.{Entry}
 use Rattle.journal_text.specs.declared.entry.Entry.TheVariants.{Begin, Inherit, Add, Delete, Replace, Asked, Weld, End}
 use Rattle.journal_text.specs.declared.line.Code.{Code}
 use Rattle.journal_text.specs.declared.line.Code.TheVariants.{E1, E2, E3, E4, E5, E6, E7, E8}
-use Rattle.journal_text.specs.declared.line.Line.{Line}
+use Rattle.journal_text.specs.Lines.{Line}
 use Rattle.journal_text.specs.declared.line.Line.TheVariants.{Journal, Out, Note, Row, Rows, Cover, Settled, Work, Bound, Idle, Ignored, Absent, Refused}
 use Rattle.journal_text.proofs.ReadBack.{link_back}
 use Rattle.journal_check.specs.declared.reading.Reading.{Reading}
@@ -48,7 +48,7 @@ use Rattle.journal_check.specs.declared.reading.Reading.TheVariants.{Skipped, Re
 use Rattle.journal_check.specs.Readings.{TextEntry, ◌>>=◌, is_clean, printed_prefix, value_of, answer_of, entry_of_two, entry_on_two, entry_of_three, entry_on_row, entry_of_four, entry_of_five, entry_from, is_skipped, read_or_not, reading_from, reading_of}
 use Rattle.journal_check.specs.Laws.{IsPrefix, IsNumberIfAny, HasNumbers, HasNumber, HasOctets, HasRanges, HasRouteRanges, IsValue, IsAnswer, IsMatch, IsNamedIfAny, IsEntry, IsLine, texts_of, said, PrintedLinesAreReadBack}
 use Rattle.journal_check.proofs.InkLemmas.{IsInk, AreInk, digit_range, all_append, all_flat, inky, both_true, ink_by, ink_decimal, ink_wide, ink_dotted, ink_hex, printable, words_parted, line_passes}
-use Rattle.journal_check.proofs.PrefixBack.{ink_addr, ink_prefix, printed_back}
+use Rattle.journal_check.proofs.PrefixBack.{ink_addr, ink_prefix, printed_back, ink_id}
 
 -- ---- the words have no space
 
@@ -139,19 +139,19 @@ aggregator_ink : (g : Option Aggregator) → HasNumber g → AreInk (aggregator_
 unfolding aggregator_text
 aggregator_ink None h = tt
 aggregator_ink (Some g) h =
-    both (44 ∷ 103 ∷ decimal g.asn ++ 47 ∷ addr_text g.addr) (cond g.partial (33 ∷ []) [])
-    (both (44 ∷ 103 ∷ decimal g.asn) (47 ∷ addr_text g.addr) (ink 44 refl (103 ∷ decimal g.asn) (ink 103 refl (decimal g.asn) (ink_decimal g.asn (omega arith)))) (ink 47 refl (addr_text g.addr) (ink_addr g.addr)))
+    both (44 ∷ 103 ∷ decimal g.asn ++ 47 ∷ id_text g.addr) (cond g.partial (33 ∷ []) [])
+    (both (44 ∷ 103 ∷ decimal g.asn) (47 ∷ id_text g.addr) (ink 44 refl (103 ∷ decimal g.asn) (ink 103 refl (decimal g.asn) (ink_decimal g.asn (omega arith)))) (ink 47 refl (id_text g.addr) (ink_id g.addr)))
     (partial_ink g.partial)
 
 originator_ink : (originator : Option ℕ) → AreInk (originator_text originator)
 unfolding originator_text
 originator_ink None = tt
-originator_ink (Some id) = ink 44 refl (114 ∷ addr_text id) (ink 114 refl (addr_text id) (ink_addr id))
+originator_ink (Some id) = ink 44 refl (114 ∷ id_text id) (ink 114 refl (id_text id) (ink_id id))
 
 addresses_ink : (addresses : List ℕ) → AreInk (addresses_text addresses)
 addresses_ink [] = tt
-addresses_ink (a ∷ []) = ink_addr a
-addresses_ink (a ∷ b ∷ addresses) = both (addr_text a) (59 ∷ addresses_text (b ∷ addresses)) (ink_addr a) (ink 59 refl (addresses_text (b ∷ addresses)) (addresses_ink (b ∷ addresses)))
+addresses_ink (a ∷ []) = ink_id a
+addresses_ink (a ∷ b ∷ addresses) = both (id_text a) (59 ∷ addresses_text (b ∷ addresses)) (ink_id a) (ink 59 refl (addresses_text (b ∷ addresses)) (addresses_ink (b ∷ addresses)))
 
 clusters_ink : (clusters : List ℕ) → AreInk (clusters_text clusters)
 unfolding clusters_text

@@ -1,5 +1,5 @@
 -- A prefix is read back from its text.
-use Rattle.std.proofs.Common.{◌≡◌, ℕ, zero, suc, ◌/◌, ◌%◌, ◌^◌, ◌<◌, ◌≤◌, ◌&&◌, ◌||◌, not, Bool, true, false, cond, nat_eq, List, [], ◌∷◌, length, get_or, Option, Some, None, refl, sym, ap, ◌∙◌, arith}
+use Rattle.std.proofs.Common.{◌≡◌, ℕ, zero, suc, ◌/◌, ◌%◌, ◌^◌, ◌<◌, ◌≤◌, ◌&&◌, ◌||◌, not, Bool, true, false, cond, nat_eq, List, [], ◌∷◌, length, get_or, Option, Some, None, refl, sym, ap, ◌∙◌, arith, option_map}
 use Rattle.std.proofs.lemmas.Bool.Decides.{nat_tests}
 use Rattle.std.proofs.lemmas.Nat.{mod_below, from_be_bytes-to_be_bytes_4}
 use Rattle.std.specs.Char.{is_ascii_digit}
@@ -9,10 +9,12 @@ use Rattle.std.specs.Fmt.{decimal}
 use Rattle.std.specs.Str.Parse.{digits_value}
 use Rattle.std.proofs.lemmas.Fmt.{decimal_is_IsNumeral, first_decimal, decimal_digit}
 use Rattle.std.proofs.lemmas.Slice.Eq.{bytes_eq-Decides}
-use Rattle.addr4.specs.Blocks.{masked_to}
+use Rattle.addr4.specs.Blocks.{masked_to, width}
 use Rattle.addr4.specs.Prefixes.{AddressPrefix}
-use Rattle.addr4.specs.Texts.{is_numeral, value_below, number_below, parts, addr_from_octets, addr_from_parts, addr_of, dotted, addr_text, address_prefix_of, prefix_from_parts, prefix_of, prefix_text}
+use Rattle.addr4.specs.Texts.{is_numeral, value_below, number_below, parts, id_from_octets, id_from_parts, addr_of, dotted, addr_text, address_prefix_of, prefix_from_parts, prefix_of, prefix_text, id_of, id_text}
 use Rattle.addr4.proofs.NumberLemmas.{value_small}
+use Rattle.addr4.specs.Families.{in_front, IsIpv4}
+use Rattle.addr4.proofs.FrontLemmas.{front_below, front_again, front_prefix}
 use Rattle.journal_check.specs.Laws.{IsPrefix}
 use Rattle.journal_check.specs.Readings.{◌>>=◌, as_printed, printed_prefix}
 use Rattle.journal_check.proofs.InkLemmas.{AreInk, IsInk, all_append, decimal_are, dotted_are, ink_dotted, ink_decimal, apart_then, apart_alone}
@@ -81,19 +83,22 @@ octets_parted a b c d ha hb hc hd =
 octet_back : (n : ℕ) → n < 256 → number_below 256 (decimal n) ≡ Some n
 octet_back n small = number_back 256 n small (omega arith)
 
-octets_back : (a b c d : ℕ) → a < 256 → b < 256 → c < 256 → d < 256 → addr_from_parts (decimal a ∷ decimal b ∷ decimal c ∷ decimal d ∷ []) ≡ Some (from_be_bytes w32 (a ∷ b ∷ c ∷ d ∷ []))
-octets_back a b c d ha hb hc hd = λ i. addr_from_octets (octet_back a ha i) (octet_back b hb i) (octet_back c hc i) (octet_back d hd i)
+octets_back : (a b c d : ℕ) → a < 256 → b < 256 → c < 256 → d < 256 → id_from_parts (decimal a ∷ decimal b ∷ decimal c ∷ decimal d ∷ []) ≡ Some (from_be_bytes w32 (a ∷ b ∷ c ∷ d ∷ []))
+octets_back a b c d ha hb hc hd = λ i. id_from_octets (octet_back a ha i) (octet_back b hb i) (octet_back c hc i) (octet_back d hd i)
 
-pub addr_back : (a : ℕ) → a < 2 ^ 32 → addr_of (addr_text a) ≡ Some a
-unfolding addr_of addr_text
-addr_back a small =
+pub id_back : (a : ℕ) → a < 2 ^ 32 → id_of (id_text a) ≡ Some a
+unfolding id_of id_text
+id_back a small =
     let first = low_octet (a / 16777216) in
     let second = low_octet (a / 65536) in
     let third = low_octet (a / 256) in
     let fourth = low_octet a in
-    ap addr_from_parts (octets_parted (a / 16777216 % 256) (a / 65536 % 256) (a / 256 % 256) (a % 256) first second third fourth)
+    ap id_from_parts (octets_parted (a / 16777216 % 256) (a / 65536 % 256) (a / 256 % 256) (a % 256) first second third fourth)
     ∙ (octets_back (a / 16777216 % 256) (a / 65536 % 256) (a / 256 % 256) (a % 256) first second third fourth
     ∙ ap Some (from_be_bytes-to_be_bytes_4 a small))
+
+pub addr_back : (a : ℕ) → IsIpv4 a → addr_of (addr_text a) ≡ Some a
+addr_back a is = ap (option_map in_front) (id_back (a / 2 ^ 96) (front_below a is.0)) ∙ ap Some (front_again a is.1)
 
 number_octet : (n : ℕ) → n % 256 < 2 ^ 32
 number_octet n = let small = low_octet n in omega arith
@@ -101,13 +106,19 @@ number_octet n = let small = low_octet n in omega arith
 octets_are : (a : ℕ) → AllByRecursion (λ n. n < 2 ^ 32) (to_be_bytes w32 a)
 octets_are a = (number_octet (a / 16777216), (number_octet (a / 65536), (number_octet (a / 256), (number_octet a, tt))))
 
+pub ink_id : (a : ℕ) → AreInk (id_text a)
+unfolding id_text
+ink_id a = ink_dotted (to_be_bytes w32 a) (octets_are a)
+
 pub ink_addr : (a : ℕ) → AreInk (addr_text a)
-unfolding addr_text
-ink_addr a = ink_dotted (to_be_bytes w32 a) (octets_are a)
+ink_addr a = ink_id (a / 2 ^ 96)
+
+pub slashless_id : (a : ℕ) → AllByRecursion (λ c. nat_eq c 47 ≡ false) (id_text a)
+unfolding id_text
+slashless_id a = dotted_are (λ c. nat_eq c 47 ≡ false) not_slash refl (to_be_bytes w32 a) (octets_are a)
 
 pub slashless : (a : ℕ) → AllByRecursion (λ c. nat_eq c 47 ≡ false) (addr_text a)
-unfolding addr_text
-slashless a = dotted_are (λ c. nat_eq c 47 ≡ false) not_slash refl (to_be_bytes w32 a) (octets_are a)
+slashless a = slashless_id (a / 2 ^ 96)
 
 -- ---- prefixes
 
@@ -117,18 +128,18 @@ slashless_length n small = decimal_are (λ c. nat_eq c 47 ≡ false) not_slash n
 pub ink_prefix : (p : AddressPrefix) → IsPrefix p → AreInk (prefix_text p)
 unfolding prefix_text
 ink_prefix p h =
-    let short = h.0.0 in
+    let short = h.short in
     all_append IsInk (addr_text p.address) (47 ∷ decimal p.length) (ink_addr p.address) ((omega arith, omega arith), ink_decimal p.length (omega arith))
 
-masked_itself : (p : AddressPrefix) → IsPrefix p → masked_to 32 p.address p.length ≡ p.address
-masked_itself p h = let rest = h.0.1 in omega arith
+masked_itself : (p : AddressPrefix) → IsPrefix p → masked_to width p.address p.length ≡ p.address
+masked_itself p h = let rest = h.masked.1 in omega arith
 
 prefix_back : (p : AddressPrefix) → IsPrefix p → prefix_of 32 (prefix_text p) ≡ Some p
 unfolding prefix_of prefix_text
 prefix_back p h =
-    let short = h.0.0 in
+    let short = h.short in
     ap (prefix_from_parts 32) (apart_then 47 (addr_text p.address) (decimal p.length) refl (slashless p.address) ∙ ap (λ ps. addr_text p.address ∷ ps) (apart_alone 47 (decimal p.length) (slashless_length p.length short)))
-    ∙ ((λ i. address_prefix_of 32 (addr_back p.address h.1 i) (number_back 33 p.length (omega arith) (omega arith) i))
+    ∙ ((λ i. address_prefix_of (addr_back p.address (front_prefix p h) i) (number_back 33 p.length (omega arith) (omega arith) i))
     ∙ ap (λ (a : ℕ). Some (record { address = a; length = p.length })) (masked_itself p h))
 
 as_itself : (p : AddressPrefix) → as_printed (prefix_text p) p ≡ Some p

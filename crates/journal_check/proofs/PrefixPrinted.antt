@@ -1,5 +1,5 @@
 -- A word that spells a prefix is printed so exactly where the address has no bits beyond the length.
-use Rattle.std.proofs.Common.{◌≡◌, ℕ, zero, suc, ◌^◌, ◌<◌, ◌≤◌, ◌||◌, not, Bool, true, false, cond, nat_eq, List, [], ◌∷◌, ◌++◌, length, get_or, Option, Some, None, refl, sym, ap, ◌∙◌, arith}
+use Rattle.std.proofs.Common.{◌≡◌, ℕ, zero, suc, ◌^◌, ◌<◌, ◌≤◌, ◌||◌, not, Bool, true, false, cond, nat_eq, List, [], ◌∷◌, ◌++◌, length, get_or, Option, Some, None, refl, sym, ap, ◌∙◌, ◌/◌, arith, option_map}
 use Rattle.std.proofs.lemmas.Bool.Decides.{nat_tests}
 use Rattle.std.proofs.lemmas.Fmt.{decimal-digits_value}
 use Rattle.std.proofs.lemmas.List.Splits.{join_with_byte-slice_split}
@@ -13,10 +13,13 @@ use Rattle.std.specs.Int.{w32, from_be_bytes}
 use Rattle.std.specs.List.{list_all, join_with_byte}
 use Rattle.std.specs.Str.{bytes_eq}
 use Rattle.std.specs.Str.Parse.{AllDigits, digits_value}
-use Rattle.addr4.specs.Blocks.{masked_to}
+use Rattle.addr4.specs.Blocks.{masked_to, width, size_of_length}
 use Rattle.addr4.specs.Prefixes.{AddressPrefix}
-use Rattle.addr4.specs.Texts.{is_numeral, value_below, number_below, parts, addr_from_octets, addr_from_parts, addr_of, dotted, addr_text, address_prefix_of, prefix_from_parts, prefix_of, prefix_text}
+use Rattle.addr4.specs.Texts.{is_numeral, value_below, number_below, parts, id_from_octets, id_from_parts, addr_of, dotted, addr_text, address_prefix_of, prefix_from_parts, prefix_of, prefix_text, id_of, id_text}
 use Rattle.addr4.proofs.NumberLemmas.{and_left, and_right, digits_of_numeral}
+use Rattle.addr4.specs.Families.{in_front, in_front_back, IsIpv4, IsIpv4Prefix}
+use Rattle.addr4.proofs.FrontLemmas.{front_prefix}
+use Rattle.addr4.proofs.BlockLemmas.{masked_down, size_pos}
 use Rattle.journal_check.specs.Readings.{◌>>=◌, as_printed, printed_prefix}
 use Rattle.journal_check.proofs.InkLemmas.{apart_then, apart_alone}
 use Rattle.journal_check.proofs.PrefixBack.{addr_back, slashless, slashless_length}
@@ -67,7 +70,7 @@ record AreOctets (o p q r : Option ℕ) (a : ℕ) : Type 0 where
   has_fourth : r ≡ Some fourth
   value : a ≡ from_be_bytes w32 (first ∷ second ∷ third ∷ fourth ∷ [])
 
-are_octets : (o p q r : Option ℕ) (a : ℕ) → addr_from_octets o p q r ≡ Some a → AreOctets o p q r a
+are_octets : (o p q r : Option ℕ) (a : ℕ) → id_from_octets o p q r ≡ Some a → AreOctets o p q r a
 are_octets (Some b) (Some c) (Some d) (Some e) a is = record { first = b; second = c; third = d; fourth = e; has_first = refl; has_second = refl; has_third = refl; has_fourth = refl; value = cc }
 are_octets (Some b) (Some c) (Some d) None a is = absurd (cc)
 are_octets (Some b) (Some c) None r a is = absurd (cc)
@@ -81,8 +84,8 @@ octets_small a b c d ha hb hc hd (suc (suc zero)) = hc
 octets_small a b c d ha hb hc hd (suc (suc (suc zero))) = hd
 octets_small a b c d ha hb hc hd (suc (suc (suc (suc i)))) = omega arith
 
-four_parts : (text p q r s : List ℕ) (a : ℕ) → parts 46 text ≡ p ∷ q ∷ r ∷ s ∷ [] → AreOctets (number_below 256 p) (number_below 256 q) (number_below 256 r) (number_below 256 s) a → addr_text a ≡ text
-unfolding addr_text
+four_parts : (text p q r s : List ℕ) (a : ℕ) → parts 46 text ≡ p ∷ q ∷ r ∷ s ∷ [] → AreOctets (number_below 256 p) (number_below 256 q) (number_below 256 r) (number_below 256 s) a → id_text a ≡ text
+unfolding id_text
 four_parts text p q r s a parted octets =
     let first = spelled 256 p octets.first (omega arith) octets.has_first in
     let second = spelled 256 q octets.second (omega arith) octets.has_second in
@@ -93,12 +96,12 @@ four_parts text p q r s a parted octets =
     ∙ ((λ i. join_with_byte 46 (first.printed i ∷ second.printed i ∷ third.printed i ∷ fourth.printed i ∷ []))
     ∙ (ap (join_with_byte 46) (sym parted) ∙ join_with_byte-slice_split 46 text))
 
--- an address that is read is printed as it was
-address_text : (text : List ℕ) (a : ℕ) → addr_of text ≡ Some a → addr_text a ≡ text
-unfolding addr_of
-address_text text a e = by_parts (parts 46 text) refl e
+-- an identifier that is read is printed as it was
+id_printed : (text : List ℕ) (a : ℕ) → id_of text ≡ Some a → id_text a ≡ text
+unfolding id_of
+id_printed text a e = by_parts (parts 46 text) refl e
   where
-    by_parts : (ps : List (List ℕ)) → parts 46 text ≡ ps → addr_from_parts ps ≡ Some a → addr_text a ≡ text
+    by_parts : (ps : List (List ℕ)) → parts 46 text ≡ ps → id_from_parts ps ≡ Some a → id_text a ≡ text
     by_parts (p ∷ q ∷ r ∷ s ∷ []) parted is = four_parts text p q r s a parted (are_octets _ _ _ _ a is)
     by_parts [] parted is = absurd (cc)
     by_parts (p ∷ []) parted is = absurd (cc)
@@ -106,10 +109,20 @@ address_text text a e = by_parts (parts 46 text) refl e
     by_parts (p ∷ q ∷ r ∷ []) parted is = absurd (cc)
     by_parts (p ∷ q ∷ r ∷ s ∷ t ∷ ps) parted is = absurd (cc)
 
+-- and so is an address
+address_text : (text : List ℕ) (a : ℕ) → addr_of text ≡ Some a → addr_text a ≡ text
+address_text text a is = by_id (id_of text) refl is
+  where
+    by_id : (o : Option ℕ) → id_of text ≡ o → option_map in_front o ≡ Some a → addr_text a ≡ text
+    by_id None at e = absurd (cc)
+    by_id (Some n) at e =
+        let front : in_front n ≡ a = cc in
+        ap (λ x. id_text (x / 2 ^ 96)) (sym front) ∙ (ap id_text (in_front_back n) ∙ id_printed text n at)
+
 -- ---- prefixes
 
 abbrev pub masked : ℕ → ℕ → AddressPrefix
-masked a n = record { address = masked_to 32 a n; length = n }
+masked a n = record { address = masked_to width a n; length = n }
 
 -- the word spells this address and this length
 pub record Spells (word : List ℕ) (a n : ℕ) : Type 0 where
@@ -126,29 +139,34 @@ spelled_word word a n s =
 
 read_so : (word : List ℕ) (a n : ℕ) → Spells word a n → printed_prefix word ≡ as_printed word (masked a n)
 unfolding printed_prefix prefix_of
-read_so word a n s = ap (λ (o : Option AddressPrefix). o >>= λ q. as_printed word q) (ap (prefix_from_parts 32) s.parted ∙ (λ i. address_prefix_of 32 (s.is_address i) (s.is_length i)))
+read_so word a n s = ap (λ (o : Option AddressPrefix). o >>= λ q. as_printed word q) (ap (prefix_from_parts 32) s.parted ∙ (λ i. address_prefix_of (s.is_address i) (s.is_length i)))
 
-pub printed_where_masked : (word : List ℕ) (a n : ℕ) → Spells word a n → masked_to 32 a n ≡ a → printed_prefix word ≡ Some (masked a n)
+pub printed_where_masked : (word : List ℕ) (a n : ℕ) → Spells word a n → masked_to width a n ≡ a → printed_prefix word ≡ Some (masked a n)
 unfolding as_printed prefix_text
 printed_where_masked word a n s same =
     let text : word ≡ prefix_text (masked a n) = sym (spelled_word word a n s) ∙ ap (λ (b : ℕ). addr_text b ++ 47 ∷ decimal n) (sym same) in
     read_so word a n s ∙ ap (λ (b : Bool). cond b (Some (masked a n)) None) ((bytes_eq-Decides word (prefix_text (masked a n))).1 text)
 
-parted_text : (a n : ℕ) → n < 33 → parts 47 (prefix_text (masked a n)) ≡ addr_text (masked_to 32 a n) ∷ decimal n ∷ []
+parted_text : (a n : ℕ) → n < 33 → parts 47 (prefix_text (masked a n)) ≡ addr_text (masked_to width a n) ∷ decimal n ∷ []
 unfolding prefix_text
 parted_text a n short =
-    apart_then 47 (addr_text (masked_to 32 a n)) (decimal n) refl (slashless (masked_to 32 a n))
-    ∙ ap (λ ps. addr_text (masked_to 32 a n) ∷ ps) (apart_alone 47 (decimal n) (slashless_length n (omega arith)))
+    apart_then 47 (addr_text (masked_to width a n)) (decimal n) refl (slashless (masked_to width a n))
+    ∙ ap (λ ps. addr_text (masked_to width a n) ∷ ps) (apart_alone 47 (decimal n) (slashless_length n (omega arith)))
 
-pub not_printed : (word : List ℕ) (a n : ℕ) → a < 2 ^ 32 → Spells word a n → (masked_to 32 a n ≡ a → ⊥) → printed_prefix word ≡ None
+pub not_printed : (word : List ℕ) (a n : ℕ) → IsIpv4 a → Spells word a n → (masked_to width a n ≡ a → ⊥) → printed_prefix word ≡ None
 unfolding as_printed
-not_printed word a n small s other = read_so word a n s ∙ by_text (bytes_eq word (prefix_text (masked a n))) refl
+not_printed word a n ipv4 s other = read_so word a n s ∙ by_text (bytes_eq word (prefix_text (masked a n))) refl
   where
-    same_address : word ≡ prefix_text (masked a n) → masked_to 32 a n ≡ a
+    same_address : word ≡ prefix_text (masked a n) → masked_to width a n ≡ a
     same_address text =
         let length = spelled 33 s.length n (omega arith) s.is_length in
-        let first : s.address ≡ addr_text (masked_to 32 a n) = ap (λ (ps : List (List ℕ)). get_or ps 0 []) (sym s.parted ∙ (ap (parts 47) text ∙ parted_text a n length.below)) in
-        let read : Some (masked_to 32 a n) ≡ Some a = sym (addr_back (masked_to 32 a n) (omega (arith, small))) ∙ (ap addr_of (sym first) ∙ s.is_address) in
+        let prefix : IsIpv4Prefix (masked a n) = record {
+          masked = (omega (arith, length.below), masked_down a (size_of_length width n) (size_pos width n));
+          fits = omega (arith, ipv4.0);
+          short = omega (arith, length.below);
+        } in
+        let first : s.address ≡ addr_text (masked_to width a n) = ap (λ (ps : List (List ℕ)). get_or ps 0 []) (sym s.parted ∙ (ap (parts 47) text ∙ parted_text a n length.below)) in
+        let read : Some (masked_to width a n) ≡ Some a = sym (addr_back (masked_to width a n) (front_prefix (masked a n) prefix)) ∙ (ap addr_of (sym first) ∙ s.is_address) in
         cc
 
     by_text : (same : Bool) → bytes_eq word (prefix_text (masked a n)) ≡ same → cond same (Some (masked a n)) None ≡ None

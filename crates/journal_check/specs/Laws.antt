@@ -1,21 +1,22 @@
 -- Laws of the judge: printed lines are read back, and there is one answer.
 use Rattle.std.specs.Prelude.{◌≡◌, ℕ, ◌^◌, ◌<◌, ◌≤◌, true, List, [], ◌∷◌, ◌++◌, length, Option, Some, None, option_map}
 use Rattle.std.specs.List.{AllByRecursion}
-use Rattle.addr4.specs.Prefixes.{AddressPrefix, IsMasked}
+use Rattle.addr4.specs.Families.{IsIpv4, IsIpv4Prefix}
+use Rattle.addr4.specs.Prefixes.{AddressPrefix}
 use Rattle.bgp_attr.specs.declared.path.Segment.{Segment}
 use Rattle.bgp_attr.specs.declared.attrs.Aggregator.{Aggregator}
 use Rattle.bgp_attr.specs.declared.unrecognized.Unrecognized.{Unrecognized}
-use Rattle.bgp_attr.specs.declared.attrs.Attrs.{Attrs}
-use Rattle.bgp_attr.specs.declared.route.Route.{Route}
+use Rattle.bgp_attr.specs.Attributes.{Attrs}
+use Rattle.bgp_attr.specs.Routes.{Route}
 use Rattle.rib_route.specs.Ifaces.{is_iface_name}
 use Rattle.journal_text.specs.Names.{IsNamed, IsNamedTask}
 use Rattle.journal_text.specs.Texts.{sender_number, value_text, line_text}
 use Rattle.journal_text.specs.declared.link.Task.{Task}
-use Rattle.journal_text.specs.declared.value.Value.{Value}
+use Rattle.journal_text.specs.Lines.{Value}
 use Rattle.journal_text.specs.declared.value.Value.TheVariants as values
-use Rattle.journal_text.specs.declared.entry.Entry.{Entry}
+use Rattle.journal_text.specs.Lines.{Entry}
 use Rattle.journal_text.specs.declared.entry.Entry.TheVariants.{Begin, Inherit, Add, Delete, Replace, Asked, Weld, End}
-use Rattle.journal_text.specs.declared.line.Line.{Line}
+use Rattle.journal_text.specs.Lines.{Line}
 use Rattle.journal_text.specs.declared.line.Line.TheVariants.{Journal, Out, Note, Row, Rows, Cover, Settled, Work, Bound, Idle, Ignored, Absent, Refused}
 use Rattle.journal_check.specs.Readings.{TextEntry, reading_of}
 use Rattle.journal_check.specs.Judged.{IsChecked}
@@ -25,9 +26,9 @@ use Rattle.journal_check.specs.declared.reading.Reading.TheVariants.{Skipped, Re
 
 -- ---- values that the program can have: numbers and octets in their ranges
 
--- an address below 2^32, masked to a length of at most 32 bits
+-- an IPv4 prefix
 abbrev pub IsPrefix : AddressPrefix → Type 0
-IsPrefix p = IsMasked 32 p × (p.address < 2 ^ 32)
+IsPrefix = IsIpv4Prefix
 
 abbrev pub AreOctets : List ℕ → Type 0
 AreOctets octets = AllByRecursion (λ b. b < 2 ^ 8) octets
@@ -98,7 +99,7 @@ IsLine (Out k octets) = (k < 2 ^ 32) × AreOctets octets
 IsLine (Note k octets) = (k < 2 ^ 32) × AreOctets octets
 IsLine (Row link p value) = IsNamed link × IsPrefix p × IsValue value
 IsLine (Rows link count) = IsNamed link × (count < 2 ^ 128)
-IsLine (Cover addr found subnet) = (addr < 2 ^ 32) × IsMatch found × IsPrefix subnet
+IsLine (Cover addr found subnet) = IsIpv4 addr × IsMatch found × IsPrefix subnet
 IsLine (Settled p held) = IsPrefix p × IsNamedIfAny held
 IsLine (Work turns) = turns < 2 ^ 128
 IsLine (Bound turns) = turns < 2 ^ 128

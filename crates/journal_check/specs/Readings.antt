@@ -6,7 +6,7 @@ use Rattle.addr4.specs.Prefixes.{AddressPrefix}
 use Rattle.addr4.specs.Texts.{parts, prefix_of, prefix_text}
 use Rattle.journal_text.specs.Names.{link_of}
 use Rattle.journal_text.specs.declared.link.Link.{Link}
-use Rattle.journal_text.specs.declared.entry.Entry.{Entry}
+use Rattle.journal_text.specs.Lines.{Entry}
 use Rattle.journal_text.specs.declared.entry.Entry.TheVariants.{Begin, Inherit, Add, Delete, Replace, Asked, Weld, End}
 use Rattle.journal_check.specs.declared.reading.Reading.{Reading}
 use Rattle.journal_check.specs.declared.reading.Reading.TheVariants.{Skipped, Read, NotALine}

@@ -61,6 +61,7 @@ fn printed_prefix(word: &[u8]) -> Option<Prefix>
     }
     let addr = read_addr(addr).ok()?;
     let length = read_number_below(length, 33)?;
+    addr.known();
     let prefix = Prefix::new(addr, length as u8)?;
     if prefix.address() == addr {
         Some(prefix)

@@ -4,18 +4,18 @@ use Rattle.std.proofs.lemmas.Bool.Decides.{nat_tests}
 use Rattle.std.specs.Char.{is_ascii_digit}
 use Rattle.std.specs.Fmt.{decimal}
 use Rattle.std.specs.List.{flat_map}
-use Rattle.addr4.specs.Texts.{addr_text}
+use Rattle.addr4.specs.Texts.{addr_text, id_text}
 use Rattle.bgp_attr.specs.declared.attrs.Origin.{Origin}
 use Rattle.bgp_attr.specs.declared.attrs.Origin.TheVariants.{Igp, Egp, Incomplete}
 use Rattle.bgp_attr.specs.declared.attrs.Aggregator.{Aggregator}
-use Rattle.bgp_attr.specs.declared.attrs.Attrs.{Attrs}
+use Rattle.bgp_attr.specs.Attributes.{Attrs}
 use Rattle.bgp_attr.specs.declared.unrecognized.Unrecognized.{Unrecognized}
 use Rattle.journal_text.specs.Texts.{origin_number, path_text, lettered, aggregator_text, addresses_text, originator_text, clusters_text, reflection_text, unrecognized_text, required_text, optional_text, attrs_text}
 use Rattle.journal_check.specs.Laws.{IsNumberIfAny, HasNumber, HasRanges}
 use Rattle.journal_check.proofs.InkLemmas.{both_true}
-use Rattle.journal_laws.specs.Printed.{IsAddressIfAny, HasAddress, HasAddresses}
+use Rattle.journal_laws.specs.Printed.{IsAddressIfAny, HasAddress, HasAddresses, IsIdIfAny}
 use Rattle.journal_laws.proofs.Spans.{begins, clash, rest_same}
-use Rattle.journal_laws.proofs.NumberTexts.{AreSmall, is_dotted, is_listed, number_told, addr_told, addresses_told}
+use Rattle.journal_laws.proofs.NumberTexts.{AreSmall, is_dotted, is_listed, number_told, addr_told, addresses_told, id_told}
 use Rattle.journal_laws.proofs.PathTexts.{path_told, all_told}
 
 -- ---- what may follow: nothing, or a comma and one of some letters
@@ -142,12 +142,12 @@ partial_told letters true false s t f g e = absurd (clash (begins (λ c. nat_eq 
 partial_told letters false true s t f g e = absurd (clash (begins (λ c. nat_eq c 33) s) (not_begun (λ c. nat_eq c 33) letters s refl f) (ap (begins (λ c. nat_eq c 33)) e))
 
 abbrev speaker_text : Aggregator → List ℕ
-speaker_text g = decimal g.asn ++ 47 ∷ addr_text g.addr ++ cond g.partial (33 ∷ []) []
+speaker_text g = decimal g.asn ++ 47 ∷ id_text g.addr ++ cond g.partial (33 ∷ []) []
 
-speaker_parted : (g : Aggregator) (s : List ℕ) → speaker_text g ++ s ≡ decimal g.asn ++ 47 ∷ (addr_text g.addr ++ (cond g.partial (33 ∷ []) [] ++ s))
+speaker_parted : (g : Aggregator) (s : List ℕ) → speaker_text g ++ s ≡ decimal g.asn ++ 47 ∷ (id_text g.addr ++ (cond g.partial (33 ∷ []) [] ++ s))
 speaker_parted g s =
-    append_assoc (decimal g.asn ++ 47 ∷ addr_text g.addr) (cond g.partial (33 ∷ []) []) s
-    ∙ append_assoc (decimal g.asn) (47 ∷ addr_text g.addr) (cond g.partial (33 ∷ []) [] ++ s)
+    append_assoc (decimal g.asn ++ 47 ∷ id_text g.addr) (cond g.partial (33 ∷ []) []) s
+    ∙ append_assoc (decimal g.asn) (47 ∷ id_text g.addr) (cond g.partial (33 ∷ []) [] ++ s)
 
 not_dotted : (letters : ℕ → Bool) (b : Bool) (s : List ℕ) → opens letters s ≡ true → begins is_dotted (cond b (33 ∷ []) [] ++ s) ≡ false
 not_dotted letters true s f = refl
@@ -157,8 +157,8 @@ speaker_told : (letters : ℕ → Bool) (x y : Aggregator) (s t : List ℕ) → 
 speaker_told letters x y s t hx hy ax ay f g e =
     let behind_x = cond x.partial (33 ∷ []) [] ++ s in
     let behind_y = cond y.partial (33 ∷ []) [] ++ t in
-    let asn = number_told x.asn y.asn (47 ∷ (addr_text x.addr ++ behind_x)) (47 ∷ (addr_text y.addr ++ behind_y)) (omega arith) (omega arith) refl refl (sym (speaker_parted x s) ∙ (e ∙ speaker_parted y t)) in
-    let addr = addr_told x.addr y.addr behind_x behind_y ax ay (not_dotted letters x.partial s f) (not_dotted letters y.partial t g) (rest_same 47 47 (addr_text x.addr ++ behind_x) (addr_text y.addr ++ behind_y) asn.1) in
+    let asn = number_told x.asn y.asn (47 ∷ (id_text x.addr ++ behind_x)) (47 ∷ (id_text y.addr ++ behind_y)) (omega arith) (omega arith) refl refl (sym (speaker_parted x s) ∙ (e ∙ speaker_parted y t)) in
+    let addr = id_told x.addr y.addr behind_x behind_y ax ay (not_dotted letters x.partial s f) (not_dotted letters y.partial t g) (rest_same 47 47 (id_text x.addr ++ behind_x) (id_text y.addr ++ behind_y) asn.1) in
     let partial = partial_told letters x.partial y.partial s t f g addr.1 in
     ((λ i. record { asn = asn.0 i; addr = addr.0 i; partial = partial.0 i }), partial.1)
 
@@ -183,19 +183,19 @@ aggregator_told m n s t hm hn am an f g e =
 
 -- ---- what reflectors added
 
-as_originator : (o : Option ℕ) → originator_text o ≡ tagged 114 addr_text o
+as_originator : (o : Option ℕ) → originator_text o ≡ tagged 114 id_text o
 unfolding originator_text
 as_originator None = refl
 as_originator (Some id) = refl
 
-small_address : (o : Option ℕ) (a : ℕ) → IsAddressIfAny o → o ≡ Some a → a < 2 ^ 32
+small_address : (o : Option ℕ) (a : ℕ) → IsIdIfAny o → o ≡ Some a → a < 2 ^ 32
 small_address None a h e = absurd (cc)
 small_address (Some x) a h e = let same : x ≡ a = cc in omega arith
 
-originator_told : (m n : Option ℕ) (s t : List ℕ) → IsAddressIfAny m → IsAddressIfAny n → opens clusters_letters s ≡ true → opens clusters_letters t ≡ true → originator_text m ++ s ≡ originator_text n ++ t → (m ≡ n) × (s ≡ t)
+originator_told : (m n : Option ℕ) (s t : List ℕ) → IsIdIfAny m → IsIdIfAny n → opens clusters_letters s ≡ true → opens clusters_letters t ≡ true → originator_text m ++ s ≡ originator_text n ++ t → (m ≡ n) × (s ≡ t)
 originator_told m n s t hm hn f g e =
-    tag_told 114 clusters_letters addr_text m n s t refl f g
-    (λ x y is_x is_y same. addr_told x y s t (small_address m x hm is_x) (small_address n y hn is_y) (not_begun is_dotted clusters_letters s refl f) (not_begun is_dotted clusters_letters t refl g) same)
+    tag_told 114 clusters_letters id_text m n s t refl f g
+    (λ x y is_x is_y same. id_told x y s t (small_address m x hm is_x) (small_address n y hn is_y) (not_begun is_dotted clusters_letters s refl f) (not_begun is_dotted clusters_letters t refl g) same)
     (ap (λ u. u ++ s) (sym (as_originator m)) ∙ (e ∙ ap (λ u. u ++ t) (as_originator n)))
 
 abbrev if_any : List ℕ → Option (List ℕ)
@@ -291,7 +291,7 @@ open_originator a =
 open_aggregator : (a : Attrs) → opens originator_letters (behind_aggregator a) ≡ true
 open_aggregator a =
     ap (λ t. opens originator_letters (t ++ behind_originator a)) (as_originator a.reflection.originator)
-    ∙ tag_opens 114 clusters_letters originator_letters addr_text a.reflection.originator (behind_originator a) refl (λ d e. or_right (nat_eq d 114) (clusters_letters d) e) (open_originator a)
+    ∙ tag_opens 114 clusters_letters originator_letters id_text a.reflection.originator (behind_originator a) refl (λ d e. or_right (nat_eq d 114) (clusters_letters d) e) (open_originator a)
 
 open_atomic : (a : Attrs) → opens aggregator_letters (behind_atomic a) ≡ true
 open_atomic a =

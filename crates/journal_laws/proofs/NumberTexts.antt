@@ -9,11 +9,12 @@ use Rattle.std.specs.Int.{w32, to_be_bytes}
 use Rattle.std.specs.List.{AllByRecursion, join_with_byte}
 use Rattle.hex.specs.Hex.{IsBytes, encode_lower, encode_with, lower_digits, is_hex_digit, decode_of}
 use Rattle.hex.proofs.HexLemmas.{decode_of-encode_lower}
-use Rattle.addr4.specs.Texts.{dotted, addr_text, addr_of}
+use Rattle.addr4.specs.Texts.{dotted, addr_text, addr_of, id_text, id_of}
+use Rattle.addr4.specs.Families.{IsIpv4}
 use Rattle.journal_text.specs.Texts.{addresses_text}
 use Rattle.journal_check.specs.Laws.{AreOctets}
 use Rattle.journal_check.proofs.InkLemmas.{decimal_are, dotted_are}
-use Rattle.journal_check.proofs.PrefixBack.{addr_back}
+use Rattle.journal_check.proofs.PrefixBack.{addr_back, id_back}
 use Rattle.journal_laws.proofs.Spans.{begins, Pass, clash, rest_same, some_same, spans, pass_more, begins_less}
 
 -- ---- numbers
@@ -127,7 +128,10 @@ dotted_told (m ∷ ms) (n ∷ ns) s t hm hn f g e = joined_told 46 decimal is_as
 
 -- ---- addresses
 
-pub addr_same : (a b : ℕ) → a < 2 ^ 32 → b < 2 ^ 32 → addr_text a ≡ addr_text b → a ≡ b
+id_same : (a b : ℕ) → a < 2 ^ 32 → b < 2 ^ 32 → id_text a ≡ id_text b → a ≡ b
+id_same a b ha hb e = some_same a b (sym (id_back a ha) ∙ (ap id_of e ∙ id_back b hb))
+
+pub addr_same : (a b : ℕ) → IsIpv4 a → IsIpv4 b → addr_text a ≡ addr_text b → a ≡ b
 addr_same a b ha hb e = some_same a b (sym (addr_back a ha) ∙ (ap addr_of e ∙ addr_back b hb))
 
 dotted_passes : (ns : List ℕ) → AreSmall ns → Pass is_dotted (dotted ns)
@@ -139,22 +143,28 @@ octet_small n = omega arith
 octets_small : (a : ℕ) → AreSmall (to_be_bytes w32 a)
 octets_small a = (octet_small (a / 16777216), (octet_small (a / 65536), (octet_small (a / 256), (octet_small a, tt))))
 
-addr_passes : (a : ℕ) → Pass is_dotted (addr_text a)
-unfolding addr_text
-addr_passes a = dotted_passes (to_be_bytes w32 a) (octets_small a)
+id_passes : (a : ℕ) → Pass is_dotted (id_text a)
+unfolding id_text
+id_passes a = dotted_passes (to_be_bytes w32 a) (octets_small a)
 
--- an address behind which neither a digit nor a dot stands
-pub addr_told : (a b : ℕ) (s t : List ℕ) → a < 2 ^ 32 → b < 2 ^ 32 → begins is_dotted s ≡ false → begins is_dotted t ≡ false → addr_text a ++ s ≡ addr_text b ++ t → (a ≡ b) × (s ≡ t)
+-- an identifier behind which neither a digit nor a dot stands
+pub id_told : (a b : ℕ) (s t : List ℕ) → a < 2 ^ 32 → b < 2 ^ 32 → begins is_dotted s ≡ false → begins is_dotted t ≡ false → id_text a ++ s ≡ id_text b ++ t → (a ≡ b) × (s ≡ t)
+id_told a b s t ha hb f g e =
+    let parted = spans is_dotted (id_text a) (id_text b) s t (id_passes a) (id_passes b) f g e in
+    (id_same a b ha hb parted.0, parted.1)
+
+-- such an address
+pub addr_told : (a b : ℕ) (s t : List ℕ) → IsIpv4 a → IsIpv4 b → begins is_dotted s ≡ false → begins is_dotted t ≡ false → addr_text a ++ s ≡ addr_text b ++ t → (a ≡ b) × (s ≡ t)
 addr_told a b s t ha hb f g e =
-    let parted = spans is_dotted (addr_text a) (addr_text b) s t (addr_passes a) (addr_passes b) f g e in
+    let parted = spans is_dotted (addr_text a) (addr_text b) s t (id_passes (a / 2 ^ 96)) (id_passes (b / 2 ^ 96)) f g e in
     (addr_same a b ha hb parted.0, parted.1)
 
 abbrev pub is_listed : ℕ → Bool
 is_listed c = is_dotted c || nat_eq c 59
 
-parted_by_semicolons : ArePartedBy 59 addr_text is_dotted is_listed
+parted_by_semicolons : ArePartedBy 59 id_text is_dotted is_listed
 parted_by_semicolons = record {
-  told = λ m n s t hm hn f g e. addr_told m n s t hm hn f g e;
+  told = λ m n s t hm hn f g e. id_told m n s t hm hn f g e;
   fails = refl;
   passes = refl;
   weaker = λ c e. or_left (is_dotted c) (nat_eq c 59) e;
@@ -163,14 +173,17 @@ parted_by_semicolons = record {
 -- one address at least, behind which neither a digit, nor a dot, nor a semicolon stands
 pub addresses_told : (m n : ℕ) (ms ns s t : List ℕ) → AreSmall (m ∷ ms) → AreSmall (n ∷ ns) → begins is_listed s ≡ false → begins is_listed t ≡ false
     → addresses_text (m ∷ ms) ++ s ≡ addresses_text (n ∷ ns) ++ t → (m ∷ ms ≡ n ∷ ns) × (s ≡ t)
-addresses_told m n ms ns s t hm hn f g e = joined_told 59 addr_text is_dotted is_listed parted_by_semicolons m n ms ns s t hm hn f g e
+addresses_told m n ms ns s t hm hn f g e = joined_told 59 id_text is_dotted is_listed parted_by_semicolons m n ms ns s t hm hn f g e
 
 not_colon : (c : ℕ) → 48 ≤ c → c ≤ 57 → nat_eq c 58 ≡ false
 not_colon c low high = grind (arith, nat_tests)
 
+id_colonless : (a : ℕ) → AllByRecursion (λ c. nat_eq c 58 ≡ false) (id_text a)
+unfolding id_text
+id_colonless a = dotted_are (λ c. nat_eq c 58 ≡ false) not_colon refl (to_be_bytes w32 a) (octets_small a)
+
 pub addr_colonless : (a : ℕ) → AllByRecursion (λ c. nat_eq c 58 ≡ false) (addr_text a)
-unfolding addr_text
-addr_colonless a = dotted_are (λ c. nat_eq c 58 ≡ false) not_colon refl (to_be_bytes w32 a) (octets_small a)
+addr_colonless a = id_colonless (a / 2 ^ 96)
 
 -- ---- octets in hex
 

@@ -10,11 +10,11 @@ use Rattle.journal_text.specs.Falls.{IsChangeOn, IsWhole, IsCut}
 use Rattle.journal_text.specs.Links.{same_link}
 use Rattle.journal_text.specs.Names.{IsNamed}
 use Rattle.journal_text.specs.Walk.{Links, IsLawful, HasRow, with_row_on, fold_links}
-use Rattle.journal_text.specs.declared.entry.Entry.{Entry}
+use Rattle.journal_text.specs.Lines.{Entry}
 use Rattle.journal_text.specs.declared.entry.Entry.TheVariants.{Add, Delete, Replace}
 use Rattle.journal_text.specs.declared.line.Line.TheVariants.{Journal}
 use Rattle.journal_text.specs.declared.link.Link.{Link}
-use Rattle.journal_text.specs.declared.value.Value.{Value}
+use Rattle.journal_text.specs.Lines.{Value}
 use Rattle.journal_text.proofs.LinkLemmas.{same_link-refl}
 use Rattle.journal_check.specs.Laws.{IsPrefix}
 use Rattle.journal_laws.specs.Printed.{IsPrinted, IsPrintable}

@@ -6,18 +6,18 @@ use Rattle.std.specs.Cmp.{nat_cmp_total}
 use Rattle.std.specs.FinMap as tables
 use Rattle.std.specs.FinMap.{get-insert}
 use Rattle.addr4.specs.Prefixes.{AddressPrefix}
-use Rattle.bgp_attr.specs.declared.route.Route.{Route}
+use Rattle.bgp_attr.specs.Routes.{Route}
 use Rattle.bgp_attr.specs.declared.speaker.Neighbour.{Neighbour}
 use Rattle.link_change.specs.Rows.{Rows, Candidates}
-use Rattle.link_change.specs.declared.change.Change.{Change}
+use Rattle.link_change.specs.Changes.{Change}
 use Rattle.register_interest.specs.Width.{width}
-use Rattle.rib_route.specs.declared.rows.Interior.{Interior}
+use Rattle.rib_route.specs.Rows.{Interior}
 use Rattle.register_interest.specs.Covers.{longest, IsLongest}
 use Rattle.register_interest.specs.Registers.{Registry}
-use Rattle.register_interest.specs.declared.interests.Interest.{Interest}
+use Rattle.register_interest.specs.Interests.{Interest}
 use Rattle.register_interest.proofs.CoverLemmas.{longest_is}
 use Rattle.pass_core.specs.Passed.{function_of, is_beyond}
-use Rattle.nexthop_known.specs.declared.answer.Hop.{Hop}
+use Rattle.nexthop_known.specs.Hops.{Hop}
 use Rattle.nexthop_known.specs.Hops.{Hops, IsMapped, settled, renewed, in_force_or}
 use Rattle.nexthop_resolver.specs.declared.rows.Metric.{Metric}
 use Rattle.nexthop_resolver.specs.Kept.{route_hop, metric_of, way_of, with_igp, with_metric}

@@ -6,10 +6,10 @@ use Rattle.bgp_attr.specs.declared.speaker.Neighbour.{Neighbour}
 use Rattle.link_change.specs.Rows.{Rows}
 use Rattle.journal_text.specs.Names.{IsNamed, IsNameNumber}
 use Rattle.journal_text.specs.declared.entry.Entry.TheVariants as entries
-use Rattle.journal_text.specs.declared.line.Line.{Line}
+use Rattle.journal_text.specs.Lines.{Line}
 use Rattle.journal_text.specs.declared.line.Line.TheVariants as lines
 use Rattle.journal_text.specs.declared.link.Link.{Link}
-use Rattle.journal_text.specs.declared.value.Value.{Value}
+use Rattle.journal_text.specs.Lines.{Value}
 use Rattle.journal_check.specs.Laws.{AreOctets, IsPrefix, IsLine}
 use Rattle.journal_laws.specs.Printed.{HasShortText, IsTold, IsPrintable, IsPrinted, values_in, octets_in}
 

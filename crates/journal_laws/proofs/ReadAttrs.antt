@@ -3,7 +3,7 @@ use Rattle.std.proofs.Common.{◌≡◌, ℕ, ◌^◌, ◌<◌, Bool, true, fals
 use Rattle.std.specs.List.{AllByRecursion}
 use Rattle.addr4.specs.Prefixes.{AddressPrefix}
 use Rattle.bgp_attr.specs.declared.attrs.Aggregator.{Aggregator}
-use Rattle.bgp_attr.specs.declared.attrs.Attrs.{Attrs}
+use Rattle.bgp_attr.specs.Attributes.{Attrs}
 use Rattle.bgp_attr.specs.declared.path.Segment.{Segment}
 use Rattle.bgp_attr.specs.declared.speaker.Profile.{Profile}
 use Rattle.bgp_attr.specs.declared.unrecognized.Unrecognized.{Unrecognized}
@@ -20,7 +20,7 @@ use Rattle.bgp_wire.proofs.ReadableMessages.{field_octets}
 use Rattle.wire_laws.proofs.LengthLaws.{attributes_no_longer}
 use Rattle.journal_check.specs.Laws.{IsNumberIfAny, HasNumbers, HasNumber, HasOctets, HasRanges}
 use Rattle.journal_laws.proofs.Spans.{some_same, not_some}
-use Rattle.journal_laws.specs.Printed.{IsAddressIfAny, HasAddress, HasAddresses, HasRoom}
+use Rattle.journal_laws.specs.Printed.{IsAddressIfAny, HasAddress, HasAddresses, HasRoom, IsIdIfAny}
 use Rattle.journal_laws.specs.Laws.{ReadIsPrintable}
 
 -- ---- ranges of what can be read
@@ -48,7 +48,7 @@ aggregator_address : (as4 : Bool) (o : Option Aggregator) → ((g : Aggregator) 
 aggregator_address as4 None each = tt
 aggregator_address as4 (Some g) each = (each g refl).1
 
-originator_address : (reads : Type 0) (o : Option ℕ) → ((n : ℕ) → o ≡ Some n → reads × (n < 2 ^ 32)) → IsAddressIfAny o
+originator_address : (reads : Type 0) (o : Option ℕ) → ((n : ℕ) → o ≡ Some n → reads × (n < 2 ^ 32)) → IsIdIfAny o
 originator_address reads None each = tt
 originator_address reads (Some n) each = (each n refl).1
 
@@ -92,7 +92,7 @@ printable_by p external a h octets room = record {
     unrecognized = octets;
   };
   addresses = record {
-    next_hop = h.next_hop.fits;
+    next_hop = h.next_hop.ipv4;
     aggregator = aggregator_address p.as4 a.aggregator h.aggregator;
     originator = originator_address (reads_reflection p external ≡ true) a.reflection.originator h.originator;
     clusters = every_more (λ n. (reads_reflection p external ≡ true) × (n < 2 ^ 32)) (λ n. n < 2 ^ 32) a.reflection.clusters (λ n both. both.1) (all_every (λ n. (reads_reflection p external ≡ true) × (n < 2 ^ 32)) a.reflection.clusters h.clusters);

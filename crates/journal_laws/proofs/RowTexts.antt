@@ -1,17 +1,18 @@
 -- Interior, external and forwarding rows are told by their texts.
-use Rattle.std.proofs.Common.{◌≡◌, ℕ, ◌^◌, ◌<◌, ◌≤◌, ◌&&◌, Bool, true, false, cond, nat_eq, nat_le, List, [], ◌∷◌, length, Option, Some, None, refl, sym, ap, ◌∙◌, arith}
+use Rattle.std.proofs.Common.{◌≡◌, ℕ, ◌^◌, ◌<◌, ◌≤◌, ◌&&◌, Bool, true, false, cond, nat_eq, nat_le, List, [], ◌∷◌, length, Option, Some, None, refl, sym, ap, ◌∙◌, ◌/◌, arith}
 use Rattle.std.proofs.lemmas.Bool.Decides.{nat_tests}
 use Rattle.std.proofs.lemmas.Fmt.{decimal_injective}
 use Rattle.std.specs.Fmt.{decimal}
 use Rattle.std.specs.List.{AllByRecursion, list_all}
-use Rattle.addr4.specs.Texts.{parts, addr_text, addr_of}
+use Rattle.addr4.specs.Texts.{parts, addr_text, addr_of, id_of}
+use Rattle.addr4.specs.Families.{IsIpv4}
 use Rattle.rib_route.specs.declared.Proto.{Proto}
 use Rattle.rib_route.specs.declared.Proto.TheVariants as interior
 use Rattle.rib_route.specs.declared.protocol.FibProto.{FibProto}
 use Rattle.rib_route.specs.declared.protocol.FibProto.TheVariants.{Connected, Static, Ospf, Rip, Ebgp, Ibgp}
-use Rattle.rib_route.specs.declared.rows.Interior.{Interior}
-use Rattle.rib_route.specs.declared.rows.External.{External}
-use Rattle.rib_route.specs.declared.rows.FibRow.{FibRow}
+use Rattle.rib_route.specs.Rows.{Interior}
+use Rattle.rib_route.specs.Rows.{External}
+use Rattle.rib_route.specs.Rows.{FibRow}
 use Rattle.rib_route.specs.Distances.{fib_proto, external_proto}
 use Rattle.rib_route.specs.Ifaces.{is_name_byte, is_iface_name}
 use Rattle.journal_text.specs.Texts.{fib_proto_text, proto_text, gateway_text, with_colons, interior_text, external_text, fib_text}
@@ -96,7 +97,7 @@ internal_back true = refl
 internal_back false = refl
 
 gateway_back : (g : Option ℕ) → IsAddressIfAny g → addr_of (gateway_text g) ≡ g
-unfolding addr_of
+unfolding id_of
 gateway_back None h = refl
 gateway_back (Some a) h = addr_back a h
 
@@ -140,7 +141,7 @@ interior_told a b na nb ma mb ga gb e =
 two_same : (a b c d : List ℕ) → a ∷ b ∷ [] ≡ c ∷ d ∷ [] → (a ≡ c) × (b ≡ d)
 two_same a b c d e = (cc, cc)
 
-pub external_told : (a b : External) → a.next_hop < 2 ^ 32 → b.next_hop < 2 ^ 32 → external_text a ≡ external_text b → a ≡ b
+pub external_told : (a b : External) → IsIpv4 a.next_hop → IsIpv4 b.next_hop → external_text a ≡ external_text b → a ≡ b
 external_told a b ha hb e =
     let same = two_same (fib_proto_text (external_proto a)) (addr_text a.next_hop) (fib_proto_text (external_proto b)) (addr_text b.next_hop) (sym (external_parts a) ∙ (ap (parts 58) e ∙ external_parts b)) in
     let protos = fib_proto_told (external_proto a) (external_proto b) same.0 in

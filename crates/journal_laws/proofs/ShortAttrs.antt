@@ -1,5 +1,5 @@
 -- The text of attributes has at most six bytes for each octet of a message that holds them.
-use Rattle.std.proofs.Common.{◌≡◌, ℕ, ◌+◌, ◌*◌, ◌≤◌, Bool, true, false, cond, List, [], ◌∷◌, ◌++◌, length, map, Option, Some, None, arith, codes}
+use Rattle.std.proofs.Common.{◌≡◌, ℕ, ◌+◌, ◌*◌, ◌≤◌, Bool, true, false, cond, List, [], ◌∷◌, ◌++◌, ◌/◌, ◌^◌, length, map, Option, Some, None, arith, codes}
 use Rattle.std.specs.List.{AllByRecursion, flat_map}
 use Rattle.std.specs.Fmt.{decimal}
 use Rattle.std.proofs.lemmas.List.{length-append}
@@ -7,14 +7,14 @@ use Rattle.byteorder.specs.Endian.{big_bytes}
 use Rattle.byteorder.specs.Numbers.{length-bytes_high_first}
 use Rattle.hex.specs.Hex.{encode_lower, lower_digits}
 use Rattle.hex.proofs.HexLemmas.{length-encode_with}
-use Rattle.addr4.specs.Texts.{dotted, addr_text}
+use Rattle.addr4.specs.Texts.{dotted, addr_text, id_text}
 use Rattle.bgp_attr.specs.declared.path.SegmentKind.{SegmentKind}
 use Rattle.bgp_attr.specs.declared.path.SegmentKind.TheVariants.{Set, Sequence}
 use Rattle.bgp_attr.specs.declared.path.Segment.{Segment}
 use Rattle.bgp_attr.specs.declared.attrs.Origin.{Origin}
 use Rattle.bgp_attr.specs.declared.attrs.Origin.TheVariants.{Igp, Egp, Incomplete}
 use Rattle.bgp_attr.specs.declared.attrs.Aggregator.{Aggregator}
-use Rattle.bgp_attr.specs.declared.attrs.Attrs.{Attrs}
+use Rattle.bgp_attr.specs.Attributes.{Attrs}
 use Rattle.bgp_attr.specs.declared.unrecognized.Unrecognized.{Unrecognized}
 use Rattle.bgp_attr.specs.Reflections.{Reflected}
 use Rattle.bgp_wire.specs.Attributes.{Attribute}
@@ -25,7 +25,7 @@ use Rattle.bgp_wire.specs.Lengths.{attributes_length}
 use Rattle.bgp_wire.proofs.SpelledLengths.{length-numbers, length-spelled, length-first, length-octets-append, length-four, length-sent}
 use Rattle.journal_text.specs.Texts.{origin_number, bracketed, segment_text, path_text, lettered, aggregator_text, addresses_text, originator_text, clusters_text, reflection_text, unrecognized_text, required_text, optional_text, attrs_text}
 use Rattle.journal_check.specs.Laws.{IsNumberIfAny, HasNumbers, HasNumber, HasOctets, HasRanges}
-use Rattle.journal_laws.proofs.ShortNumbers.{short_number, short_octet, short_dotted, short_addr, short_addresses}
+use Rattle.journal_laws.proofs.ShortNumbers.{short_number, short_octet, short_dotted, short_addr, short_addresses, short_id}
 
 -- ---- paths
 
@@ -119,13 +119,13 @@ short_aggregator as4 (Some g) h =
     omega (
       arith,
       short_number g.asn h,
-      short_addr g.addr,
+      short_id g.addr,
       short_partial g.partial,
       aggregator_octets as4 g,
       head_at_least (aggregator_flags g.partial) 7 (aggregator_value as4 g),
       one_of (spelled (aggregator_flags g.partial) 7 (aggregator_value as4 g)),
-      length-append (44 ∷ 103 ∷ decimal g.asn) (47 ∷ addr_text g.addr),
-      length-append (44 ∷ 103 ∷ decimal g.asn ++ 47 ∷ addr_text g.addr) (cond g.partial (33 ∷ []) []),
+      length-append (44 ∷ 103 ∷ decimal g.asn) (47 ∷ id_text g.addr),
+      length-append (44 ∷ 103 ∷ decimal g.asn ++ 47 ∷ id_text g.addr) (cond g.partial (33 ∷ []) []),
     )
 
 -- ---- what reflectors added
@@ -133,7 +133,7 @@ short_aggregator as4 (Some g) h =
 short_originator : (o : Option ℕ) → length (originator_text o) ≤ 6 * length (octets_of (optional (λ n. spelled 128 9 (big_bytes 4 n)) o))
 unfolding originator_text
 short_originator None = omega arith
-short_originator (Some n) = omega (arith, short_addr n, head_at_least 128 9 (big_bytes 4 n), one_of (spelled 128 9 (big_bytes 4 n)))
+short_originator (Some n) = omega (arith, short_id n, head_at_least 128 9 (big_bytes 4 n), one_of (spelled 128 9 (big_bytes 4 n)))
 
 short_clusters : (cs : List ℕ) → length (clusters_text cs) ≤ 6 * length (octets_of (clusters_attributes cs))
 unfolding clusters_text
@@ -164,7 +164,7 @@ mandatory_octets : (as4 : Bool) (a : Attrs) → 14 + length (path_octets (width_
 mandatory_octets as4 a =
     let o = spelled 64 1 (code_of_origin a.origin ∷ []) in
     let s = spelled 64 2 (path_octets (width_of as4) a.path) in
-    let h = spelled 64 3 (big_bytes 4 a.next_hop) in
+    let h = spelled 64 3 (big_bytes 4 (a.next_hop / 2 ^ 96)) in
     omega (
       arith,
       length-append o.octets (octets_of (s ∷ h ∷ [])),
@@ -172,7 +172,7 @@ mandatory_octets as4 a =
       one_of h,
       head_at_least 64 1 (code_of_origin a.origin ∷ []),
       head_at_least 64 2 (path_octets (width_of as4) a.path),
-      head_at_least 64 3 (big_bytes 4 a.next_hop),
+      head_at_least 64 3 (big_bytes 4 (a.next_hop / 2 ^ 96)),
     )
 
 required_length : (a : Attrs) → length (required_text a) ≤ 23 + length (path_text a.path)

@@ -6,7 +6,7 @@ use Rattle.std.proofs.lemmas.Fmt.{length-decimal-le, length-decimal-le_wide}
 use Rattle.std.specs.Fmt.{decimal}
 use Rattle.std.specs.List.{AllByRecursion, list_all}
 use Rattle.addr4.specs.Prefixes.{AddressPrefix}
-use Rattle.addr4.specs.Texts.{dotted, addr_text, prefix_text}
+use Rattle.addr4.specs.Texts.{dotted, addr_text, prefix_text, id_text}
 use Rattle.rib_route.specs.declared.Proto.{Proto}
 use Rattle.rib_route.specs.declared.protocol.FibProto.{FibProto}
 use Rattle.rib_route.specs.declared.protocol.FibProto.TheVariants.{Connected}
@@ -59,20 +59,23 @@ four_dotted a b c d ha hb hc hd =
 low_octet : (n : ℕ) → n % 256 < 256
 low_octet n = omega arith
 
+pub short_id : (a : ℕ) → length (id_text a) ≤ 15
+unfolding id_text
+short_id a = four_dotted (a / 16777216 % 256) (a / 65536 % 256) (a / 256 % 256) (a % 256) (low_octet (a / 16777216)) (low_octet (a / 65536)) (low_octet (a / 256)) (low_octet a)
+
 pub short_addr : (a : ℕ) → length (addr_text a) ≤ 15
-unfolding addr_text
-short_addr a = four_dotted (a / 16777216 % 256) (a / 65536 % 256) (a / 256 % 256) (a % 256) (low_octet (a / 16777216)) (low_octet (a / 65536)) (low_octet (a / 256)) (low_octet a)
+short_addr a = short_id (a / 2 ^ 96)
 
 -- each has a semicolon at most beside it
 pub short_addresses : (addresses : List ℕ) → length (addresses_text addresses) ≤ 16 * length addresses
 short_addresses [] = omega arith
-short_addresses (a ∷ []) = omega (arith, short_addr a)
-short_addresses (a ∷ b ∷ addresses) = omega (arith, short_addr a, short_addresses (b ∷ addresses), length-append (addr_text a) (59 ∷ addresses_text (b ∷ addresses)))
+short_addresses (a ∷ []) = omega (arith, short_id a)
+short_addresses (a ∷ b ∷ addresses) = omega (arith, short_id a, short_addresses (b ∷ addresses), length-append (id_text a) (59 ∷ addresses_text (b ∷ addresses)))
 
 pub short_prefix : (p : AddressPrefix) → IsPrefix p → length (prefix_text p) ≤ 19
 unfolding prefix_text
 short_prefix p h =
-    let short = h.0.0 in
+    let short = h.short in
     omega (arith, short_addr p.address, short_octet p.length (omega arith), length-append (addr_text p.address) (47 ∷ decimal p.length))
 
 -- ---- links

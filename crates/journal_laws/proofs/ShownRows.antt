@@ -14,8 +14,8 @@ use Rattle.addr4.proofs.PrefixOrder.{prefixes_total, exact_prefixes}
 use Rattle.addr4.proofs.RankLemmas.{rank_beyond, further}
 use Rattle.loss_chain.proofs.ListLemmas.{all_appended}
 use Rattle.link_change.specs.Rows.{Rows, Candidates, IsNextCandidate, CoversRows}
-use Rattle.journal_text.specs.declared.value.Value.{Value}
-use Rattle.journal_text.specs.declared.line.Line.{Line}
+use Rattle.journal_text.specs.Lines.{Value}
+use Rattle.journal_text.specs.Lines.{Line}
 use Rattle.journal_text.specs.Journals.{Journaled, with_lines, flushed}
 use Rattle.journal_text.specs.Texts.{text_of}
 use Rattle.journal_text.proofs.JournalLemmas.{text_of_append}
@@ -100,7 +100,7 @@ module _ (candidates : Candidates) (rows : Rows Value) (covers : CoversRows cand
 -- a prefix of IPv4, if any
 abbrev pub IsPlaced : Option AddressPrefix → Type 0
 IsPlaced None = Unit {0}
-IsPlaced (Some p) = (p.length ≤ 32) × (p.address < 2 ^ 32)
+IsPlaced (Some p) = (p.length ≤ 32) × (p.address < 2 ^ 128)
 
 pub short_place : (place : Option AddressPrefix) → IsPlaced place → IsShort place
 short_place None is = tt

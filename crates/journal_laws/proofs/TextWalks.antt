@@ -11,8 +11,8 @@ use Rattle.journal_text.specs.Links.{same_link}
 use Rattle.journal_text.specs.Texts.{value_text}
 use Rattle.journal_text.specs.Walk.{Links, with_link, with_row_on, HasRow, Demands, after, IsLawful, fold_links}
 use Rattle.journal_text.specs.declared.link.Link.{Link}
-use Rattle.journal_text.specs.declared.value.Value.{Value}
-use Rattle.journal_text.specs.declared.entry.Entry.{Entry}
+use Rattle.journal_text.specs.Lines.{Value}
+use Rattle.journal_text.specs.Lines.{Entry}
 use Rattle.journal_text.specs.declared.entry.Entry.TheVariants.{Begin, Inherit, Add, Delete, Replace, Asked, Weld, End}
 use Rattle.journal_check.specs.Laws.{texts_of}
 use Rattle.journal_laws.specs.Printed.{IsWellTold, values_of}

@@ -2,16 +2,16 @@
 use Rattle.std.specs.Prelude.{◌≡◌, ◌↔◌, ◌⊎◌, ℕ, ◌^◌, ◌<◌, ◌≤◌, Bool, false, List, [], ◌∷◌, ◌++◌, length, Option, Some, IfSome}
 use Rattle.std.specs.List.{AllByRecursion}
 use Rattle.addr4.specs.Prefixes.{AddressPrefix}
-use Rattle.bgp_attr.specs.declared.attrs.Attrs.{Attrs}
-use Rattle.bgp_attr.specs.declared.route.Route.{Route}
-use Rattle.bgp_attr.specs.declared.speaker.Speaker.{Speaker}
+use Rattle.bgp_attr.specs.Attributes.{Attrs}
+use Rattle.bgp_attr.specs.Routes.{Route}
+use Rattle.bgp_attr.specs.Speakers.{Speaker}
 use Rattle.bgp_attr.specs.declared.speaker.Neighbour.{Neighbour}
 use Rattle.bgp_attr.specs.declared.speaker.Profile.{Profile}
 use Rattle.bgp_wire.specs.declared.message.Update.{Update}
 use Rattle.bgp_wire.specs.declared.message.Message.TheVariants as messages
 use Rattle.bgp_wire.specs.Grammar.{Reads}
 use Rattle.bgp_wire.specs.Readable.{AreOctets}
-use Rattle.policy_rules.specs.declared.rule.Rule.{Rule}
+use Rattle.policy_rules.specs.Rules.{Rule}
 use Rattle.policy_rules.specs.Ranges.{AreRules}
 use Rattle.filter_bank.specs.Filtered.{filtered}
 use Rattle.journal_text.specs.Texts.{value_text, line_text, text_of, entries_of}
@@ -21,11 +21,11 @@ use Rattle.journal_text.specs.Names.{IsNamed}
 use Rattle.journal_text.specs.Falls.{IsWhole, IsCut}
 use Rattle.journal_text.specs.declared.link.Link.{Link}
 use Rattle.link_change.specs.Rows.{Rows}
-use Rattle.journal_text.specs.declared.value.Value.{Value}
+use Rattle.journal_text.specs.Lines.{Value}
 use Rattle.journal_text.specs.declared.value.Value.TheVariants as values
-use Rattle.journal_text.specs.declared.entry.Entry.{Entry}
+use Rattle.journal_text.specs.Lines.{Entry}
 use Rattle.journal_text.specs.declared.line.Code.{Code}
-use Rattle.journal_text.specs.declared.line.Line.{Line}
+use Rattle.journal_text.specs.Lines.{Line}
 use Rattle.journal_text.specs.declared.line.Line.TheVariants.{Journal, Refused}
 use Rattle.journal_check.specs.Readings.{reading_of}
 use Rattle.journal_check.specs.Judged.{IsChecked}

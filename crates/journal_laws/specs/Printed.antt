@@ -1,17 +1,18 @@
 -- Lines that the program can print, beside the ranges of their numbers: what is asked of the values in them.
 use Rattle.std.specs.Prelude.{◌≡◌, ℕ, ◌^◌, ◌<◌, ◌≤◌, Bool, List, [], ◌∷◌, length, Option, Some, None}
 use Rattle.std.specs.List.{AllByRecursion}
+use Rattle.addr4.specs.Families.{IsIpv4}
 use Rattle.bgp_attr.specs.declared.attrs.Aggregator.{Aggregator}
-use Rattle.bgp_attr.specs.declared.attrs.Attrs.{Attrs}
+use Rattle.bgp_attr.specs.Attributes.{Attrs}
 use Rattle.bgp_attr.specs.declared.speaker.Neighbour.{Neighbour}
-use Rattle.bgp_attr.specs.declared.route.Route.{Route}
+use Rattle.bgp_attr.specs.Routes.{Route}
 use Rattle.bgp_wire.specs.Lengths.{attributes_length}
 use Rattle.journal_text.specs.Texts.{sender_number}
-use Rattle.journal_text.specs.declared.value.Value.{Value}
+use Rattle.journal_text.specs.Lines.{Value}
 use Rattle.journal_text.specs.declared.value.Value.TheVariants as values
-use Rattle.journal_text.specs.declared.entry.Entry.{Entry}
+use Rattle.journal_text.specs.Lines.{Entry}
 use Rattle.journal_text.specs.declared.entry.Entry.TheVariants.{Begin, Inherit, Add, Delete, Replace, Asked, Weld, End}
-use Rattle.journal_text.specs.declared.line.Line.{Line}
+use Rattle.journal_text.specs.Lines.{Line}
 use Rattle.journal_text.specs.declared.line.Line.TheVariants.{Journal, Out, Note, Row}
 use Rattle.journal_check.specs.Laws.{IsValue, IsLine}
 
@@ -32,28 +33,32 @@ HasShortText (values.FibRow r) = Unit {0}
 
 abbrev pub IsAddressIfAny : Option ℕ → Type 0
 IsAddressIfAny None = Unit {0}
-IsAddressIfAny (Some addr) = addr < 2 ^ 32
+IsAddressIfAny (Some addr) = IsIpv4 addr
+
+abbrev pub IsIdIfAny : Option ℕ → Type 0
+IsIdIfAny None = Unit {0}
+IsIdIfAny (Some id) = id < 2 ^ 32
 
 abbrev pub HasAddress : Option Aggregator → Type 0
 HasAddress None = Unit {0}
 HasAddress (Some g) = g.addr < 2 ^ 32
 
 pub record HasAddresses (a : Attrs) : Type 0 where
-  pub next_hop : a.next_hop < 2 ^ 32
+  pub next_hop : IsIpv4 a.next_hop
   pub aggregator : HasAddress a.aggregator
-  pub originator : IsAddressIfAny a.reflection.originator
+  pub originator : IsIdIfAny a.reflection.originator
   pub clusters : AllByRecursion (λ c. c < 2 ^ 32) a.reflection.clusters
 
 -- The route is from the peer of the number that its text has; number 0 stands for no peer.
 abbrev pub IsFromOneOf : (ℕ → Option Neighbour) → Route → Type 0
 IsFromOneOf peers r = r.from ≡ peers (sender_number r.from)
 
--- all that its text has not in full: the addresses are below 2^32, and the sender is known by its number
+-- all that its text has not in full: the addresses are such, and the sender is known by its number
 abbrev pub IsTold : (ℕ → Option Neighbour) → Value → Type 0
 IsTold peers (values.Attrs a) = HasAddresses a
 IsTold peers (values.Route r) = HasAddresses r.attrs × IsFromOneOf peers r
 IsTold peers (values.Interior r) = IsAddressIfAny r.gateway
-IsTold peers (values.External r) = r.next_hop < 2 ^ 32
+IsTold peers (values.External r) = IsIpv4 r.next_hop
 IsTold peers (values.FibRow r) = IsAddressIfAny r.gateway
 
 -- in its ranges, and told by its text

@@ -3,8 +3,8 @@ use Rattle.std.specs.Prelude.{ℕ, List, map, option_map}
 use Rattle.link_change.specs.Rows.{Rows}
 use Rattle.journal_text.specs.Texts.{value_text}
 use Rattle.journal_text.specs.Walk.{Links}
-use Rattle.journal_text.specs.declared.value.Value.{Value}
-use Rattle.journal_text.specs.declared.entry.Entry.{Entry}
+use Rattle.journal_text.specs.Lines.{Value}
+use Rattle.journal_text.specs.Lines.{Entry}
 use Rattle.journal_check.specs.Readings.{TextEntry}
 use Rattle.journal_check.specs.Laws.{texts_of}
 

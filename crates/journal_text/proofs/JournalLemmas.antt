@@ -1,10 +1,10 @@
 -- Journals that grow, and the text and the entries of what they hold.
-use Rattle.std.proofs.Common.{◌≡◌, ℕ, Bool, List, [], ◌∷◌, ◌++◌, map, refl, sym, ap, ◌∙◌, append_assoc}
+use Rattle.std.proofs.Common.{◌≡◌, ℕ, Bool, true, List, [], ◌∷◌, ◌++◌, map, refl, sym, ap, ◌∙◌, append_assoc}
 use Rattle.std.proofs.lemmas.List.{append-nil}
-use Rattle.journal_text.specs.declared.entry.Entry.{Entry}
-use Rattle.journal_text.specs.declared.line.Line.{Line}
+use Rattle.journal_text.specs.Lines.{Entry}
+use Rattle.journal_text.specs.Lines.{Line}
 use Rattle.journal_text.specs.declared.line.Line.TheVariants as lines
-use Rattle.journal_text.specs.declared.value.Value.{Value}
+use Rattle.journal_text.specs.Lines.{Value}
 use Rattle.journal_text.specs.Texts.{text_of, shown, entries_of, entry_list}
 use Rattle.journal_text.specs.Journals.{Journaled, with_lines, with_entries}
 
@@ -44,3 +44,14 @@ entries_of_append (line ∷ a) b = ap (λ (t : List (Entry Value)). entry_list l
 pub entries_of_entries : (entries : List (Entry Value)) → entries_of (as_lines entries) ≡ entries
 entries_of_entries [] = refl
 entries_of_entries (e ∷ entries) = ap (λ (t : List (Entry Value)). e ∷ t) (entries_of_entries entries)
+
+-- a quiet journal prints no entry
+pub none_printed : (quiet : Bool) (entries : List (Entry Value)) → quiet ≡ true → text_of quiet (as_lines entries) ≡ []
+none_printed quiet entries is = ap (λ q. text_of q (as_lines entries)) is ∙ each entries
+  where
+    each : (es : List (Entry Value)) → text_of true (as_lines es) ≡ []
+    each [] = refl
+    each (e ∷ es) = each es
+
+pub quiet_entries : (j : Journaled) (entries : List (Entry Value)) → j.quiet ≡ true → j ≡ with_entries j entries
+quiet_entries j entries is = sym (with_unprinted j (as_lines entries) (none_printed j.quiet entries is))

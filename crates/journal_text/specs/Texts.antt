@@ -4,13 +4,13 @@ use Rattle.std.specs.List.{join_with_byte, flat_map}
 use Rattle.std.specs.Fmt.{decimal}
 use Rattle.hex.specs.Hex.{encode_lower}
 use Rattle.addr4.specs.Prefixes.{AddressPrefix}
-use Rattle.addr4.specs.Texts.{addr_text, dotted, prefix_text}
+use Rattle.addr4.specs.Texts.{addr_text, dotted, id_text, prefix_text}
 use Rattle.rib_route.specs.declared.Proto.{Proto}
 use Rattle.rib_route.specs.declared.protocol.FibProto.{FibProto}
 use Rattle.rib_route.specs.declared.protocol.FibProto.TheVariants as protocols
-use Rattle.rib_route.specs.declared.rows.Interior.{Interior}
-use Rattle.rib_route.specs.declared.rows.External.{External}
-use Rattle.rib_route.specs.declared.rows.FibRow.{FibRow}
+use Rattle.rib_route.specs.Rows.{Interior}
+use Rattle.rib_route.specs.Rows.{External}
+use Rattle.rib_route.specs.Rows.{FibRow}
 use Rattle.rib_route.specs.Distances.{fib_proto, external_proto}
 use Rattle.bgp_attr.specs.declared.path.SegmentKind.{SegmentKind}
 use Rattle.bgp_attr.specs.declared.path.SegmentKind.TheVariants.{Set, Sequence}
@@ -19,21 +19,21 @@ use Rattle.bgp_attr.specs.declared.attrs.Origin.{Origin}
 use Rattle.bgp_attr.specs.declared.attrs.Origin.TheVariants.{Igp, Egp, Incomplete}
 use Rattle.bgp_attr.specs.declared.attrs.Aggregator.{Aggregator}
 use Rattle.bgp_attr.specs.declared.unrecognized.Unrecognized.{Unrecognized}
-use Rattle.bgp_attr.specs.declared.attrs.Attrs.{Attrs}
+use Rattle.bgp_attr.specs.Attributes.{Attrs}
 use Rattle.bgp_attr.specs.Reflections.{Reflected}
 use Rattle.bgp_attr.specs.declared.speaker.Neighbour.{Neighbour}
-use Rattle.bgp_attr.specs.declared.route.Route.{Route}
+use Rattle.bgp_attr.specs.Routes.{Route}
 use Rattle.journal_text.specs.declared.link.Link.{Link}
 use Rattle.journal_text.specs.declared.link.Link.TheVariants.{In, Peer, Filt, Res, Org, Lost, Low, Dyn, Int, Red, Best, ReadRib, Ebgp, Ibgp, Ext, Fib, Read, Outf, Adv}
 use Rattle.journal_text.specs.declared.link.Task.{Task}
 use Rattle.journal_text.specs.declared.link.Task.TheVariants as tasks
-use Rattle.journal_text.specs.declared.value.Value.{Value}
+use Rattle.journal_text.specs.Lines.{Value}
 use Rattle.journal_text.specs.declared.value.Value.TheVariants as values
-use Rattle.journal_text.specs.declared.entry.Entry.{Entry}
+use Rattle.journal_text.specs.Lines.{Entry}
 use Rattle.journal_text.specs.declared.entry.Entry.TheVariants.{Begin, Inherit, Add, Delete, Replace, Asked, Weld, End}
 use Rattle.journal_text.specs.declared.line.Code.{Code}
 use Rattle.journal_text.specs.declared.line.Code.TheVariants.{E1, E2, E3, E4, E5, E6, E7, E8}
-use Rattle.journal_text.specs.declared.line.Line.{Line}
+use Rattle.journal_text.specs.Lines.{Line}
 use Rattle.journal_text.specs.declared.line.Line.TheVariants.{Journal, Out, Note, Row, Rows, Cover, Settled, Work, Bound, Idle, Ignored, Absent, Refused}
 
 abbrev pub origin_number : Origin → ℕ
@@ -60,15 +60,15 @@ lettered letter (Some n) = 44 ∷ letter ∷ decimal n
 -- AS, `/`, address, and `!` where it is partial
 unfoldable pub aggregator_text : Option Aggregator → List ℕ
 aggregator_text None = []
-aggregator_text (Some g) = 44 ∷ 103 ∷ decimal g.asn ++ 47 ∷ addr_text g.addr ++ cond g.partial (33 ∷ []) []
+aggregator_text (Some g) = 44 ∷ 103 ∷ decimal g.asn ++ 47 ∷ id_text g.addr ++ cond g.partial (33 ∷ []) []
 
--- addresses with semicolons between them
+-- identifiers with semicolons between them
 abbrev pub addresses_text : List ℕ → List ℕ
-addresses_text addresses = join_with_byte 59 (map addr_text addresses)
+addresses_text addresses = join_with_byte 59 (map id_text addresses)
 
 unfoldable pub originator_text : Option ℕ → List ℕ
 originator_text None = []
-originator_text (Some id) = 44 ∷ 114 ∷ addr_text id
+originator_text (Some id) = 44 ∷ 114 ∷ id_text id
 
 unfoldable pub clusters_text : List ℕ → List ℕ
 clusters_text [] = []

@@ -5,19 +5,19 @@ use addr4::Prefix;
 
 /// An entry of the journal, over values of one type.
 #[derive(Drop)]
-pub enum Entry<V> {
+pub enum Entry<V, P = Prefix> {
     /// `b LINK`: the link begins, without rows.
     Begin(Link),
     /// `i LINK FROM`: the link begins with the rows of the other one.
     Inherit(Link, Link),
     /// `+ LINK PREFIX NEW`
-    Add(Link, Prefix, V),
+    Add(Link, P, V),
     /// `- LINK PREFIX OLD`
-    Delete(Link, Prefix, V),
+    Delete(Link, P, V),
     /// `= LINK PREFIX OLD NEW`
-    Replace(Link, Prefix, V, V),
+    Replace(Link, P, V, V),
     /// `? LINK PREFIX VALUE`: a lookup's answer; `-` for none.
-    Asked(Link, Prefix, Option<V>),
+    Asked(Link, P, Option<V>),
     /// `w UPPER LOWER`: the stage between the two links is gone, and the upper link ends.
     Weld(Link, Link),
     /// `e LINK`: the link ends.

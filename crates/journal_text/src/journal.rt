@@ -1,7 +1,7 @@
 //! The output, line by line.
 
 ghost use Rattle.std.specs.Prelude.{◌≡◌, ◌++◌, ◌∷◌, [], OnOk, OnErr};
-ghost use Rattle.journal_text.specs.declared.line.Line.{Line};
+ghost use Rattle.journal_text.specs.Lines.{Line};
 ghost use Rattle.journal_text.specs.declared.line.Line.TheVariants as lines;
 ghost use Rattle.journal_text.specs.Walk.{change_entries};
 ghost use Rattle.journal_text.specs.Journals.{with_lines, with_entries, flushed};
@@ -15,7 +15,8 @@ use crate::link::Link;
 use crate::reader::{TextReader, read_spans};
 use crate::value::{Value, copy_of};
 use crate::valued::{Valued, values_of};
-use addr4::{Memory, Prefix};
+use addr4::{Addr, Memory, Prefix, Texts, V4};
+use bgp_attr::SharedAttrs;
 use link_change::Change;
 use std::alloc::Global;
 use std::marker::Model;
@@ -23,15 +24,15 @@ use std::marker::Model;
 /// The text of the lines that the router gives, as it is made; of the octets in `out` and `note` the hex digits when it is
 /// read. Where the output is quiet, the journal's own lines give no text, and nothing is kept of them.
 #[derive(Drop)]
-pub struct Journal {
+pub struct Journal<F: Texts = V4> {
     alloc: Global,
     text: Text,
     // The lines whose text isn't made yet; none of the journal's own where it is quiet.
-    pending: Vec<Line>,
+    pending: Vec<Line<SharedAttrs<F>, Addr<F>, Prefix<F>>>,
     quiet: bool,
 }
 
-impl Model for Journal {
+impl<F: Texts> Model for Journal<F> {
     ghost use Rattle.journal_text.specs.Journals.{Journaled, journaled_code};
     ghost use Rattle.journal_text.specs.Kept.{IsWhole, chars};
     ghost use Rattle.journal_text.specs.Texts.{text_of};
@@ -45,9 +46,9 @@ impl Model for Journal {
     ghost invariant = { λ j. IsWhole j.text };
 }
 
-impl Journal {
+impl<F: Texts> Journal<F> {
     /// No line yet; takes no memory.
-    pub fn new(alloc: Global, quiet: bool) -> Journal
+    pub fn new(alloc: Global, quiet: bool) -> Journal<F>
         ensures { result ≡ record { text = []; pending = []; quiet = quiet } }
     {
         Journal {
@@ -59,7 +60,10 @@ impl Journal {
     }
 
     /// Appends a line.
-    pub fn push_line(&mut self, line: Line) -> Result<(), Memory>
+    pub fn push_line(
+        &mut self,
+        line: Line<SharedAttrs<F>, Addr<F>, Prefix<F>>,
+    ) -> Result<(), Memory>
         ensures { OnOk result (self.new ≡ with_lines self.old (line ∷ [])) }
     {
         if self.quiet && is_entry(&line) {
@@ -70,14 +74,21 @@ impl Journal {
     }
 
     /// Appends an entry of the journal.
-    pub fn push_entry(&mut self, entry: Entry<Value>) -> Result<(), Memory>
+    pub fn push_entry(
+        &mut self,
+        entry: Entry<Value<SharedAttrs<F>, Addr<F>>, Prefix<F>>,
+    ) -> Result<(), Memory>
         ensures { OnOk result (self.new ≡ with_entries self.old (entry ∷ [])) }
     {
         self.push_line(Line::Journal(entry))
     }
 
     /// Appends the entry of a change of rows on a link: an add, a delete or a replacement; none where no row was or is.
-    pub fn push_change<R: Valued>(&mut self, link: Link, change: &Change<R>) -> Result<(), Memory>
+    pub fn push_change<R: Valued<F>>(
+        &mut self,
+        link: Link,
+        change: &Change<R, Prefix<F>>,
+    ) -> Result<(), Memory>
         ensures { OnOk result (self.new ≡ with_entries self.old (valued_change R.value link change.now)) }
     {
         if self.quiet {
@@ -88,11 +99,11 @@ impl Journal {
     }
 
     /// Appends the entries of one change of rows on two links, first on the one and then on the other. The values are made once.
-    pub fn push_change_on_both<R: Valued>(
+    pub fn push_change_on_both<R: Valued<F>>(
         &mut self,
         first: Link,
         second: Link,
-        change: &Change<R>,
+        change: &Change<R, Prefix<F>>,
     ) -> Result<(), Memory>
         ensures { OnOk result (self.new ≡ with_entries self.old (valued_change R.value first change.now ++ valued_change R.value second change.now)) }
     {
@@ -105,10 +116,10 @@ impl Journal {
     }
 
     /// Appends the entry of what a stage sends on a link, if it sends something.
-    pub fn push_sent<R: Valued>(
+    pub fn push_sent<R: Valued<F>>(
         &mut self,
         link: Link,
-        sent: &Option<Change<R>>,
+        sent: &Option<Change<R, Prefix<F>>>,
     ) -> Result<(), Memory>
         ensures { OnOk result (self.new ≡ with_entries self.old (sent_entries R.value link sent.now)) }
     {
@@ -122,9 +133,9 @@ impl Journal {
     fn push_values(
         &mut self,
         link: Link,
-        prefix: Prefix,
-        before: Option<Value>,
-        after: Option<Value>,
+        prefix: Prefix<F>,
+        before: Option<Value<SharedAttrs<F>, Addr<F>>>,
+        after: Option<Value<SharedAttrs<F>, Addr<F>>>,
     ) -> Result<(), Memory>
         ensures { OnOk result (self.new ≡ with_entries self.old (change_entries link prefix before after)) }
     {

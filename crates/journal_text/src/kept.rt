@@ -8,7 +8,8 @@ ghost use Rattle.journal_text.specs.Texts.{line_text, text_of, words_line};
 
 use crate::line::Line;
 use crate::lines::{is_entry, push_line, push_peer};
-use addr4::{Memory, push_hex};
+use addr4::{Addr, Memory, Prefix, Texts, push_hex};
+use bgp_attr::SharedAttrs;
 use std::alloc::Global;
 
 /// Characters, and octets behind them.
@@ -98,7 +99,11 @@ impl Text {
 
     /// Appends the words of a line, and LF.
     #[tactic(auto, unfolding(crate::specs::Texts::line_text))]
-    fn push_line(&mut self, alloc: Global, line: &Line) -> Result<(), Memory>
+    fn push_line<F: Texts>(
+        &mut self,
+        alloc: Global,
+        line: &Line<SharedAttrs<F>, Addr<F>, Prefix<F>>,
+    ) -> Result<(), Memory>
         requires { IsWhole self.old }
         ensures { OnOk result (IsAppended (line_text line.now) self.old self.new) }
     {
@@ -110,11 +115,11 @@ impl Text {
     }
 
     /// Appends the texts of lines, one after another; where it is quiet none of the journal's own.
-    pub(crate) fn push_lines(
+    pub(crate) fn push_lines<F: Texts>(
         &mut self,
         alloc: Global,
         quiet: bool,
-        lines: &[Line],
+        lines: &[Line<SharedAttrs<F>, Addr<F>, Prefix<F>>],
     ) -> Result<(), Memory>
         requires { IsWhole self.old }
         ensures { OnOk result (IsAppended (text_of quiet lines.now) self.old self.new) }

@@ -5,6 +5,7 @@ ghost use Rattle.journal_text.specs.Walk.{LeadsOn};
 ghost use Rattle.journal_text.specs.Laws.{ChangesLead, EachLinkIsItself, LinksAreSetInEitherOrder, EntriesJoin, LinksReadBack, ReadLinksAreNamed, SameLinksAreEqual, TasksReadBack};
 
 use crate::valued::Valued;
+use addr4::Family;
 
 /// Each link is itself, and links that are the same are equal.
 pub fn same_links()
@@ -23,7 +24,7 @@ pub fn journals_join<V>()
 {}
 
 /// The entry of a lawful change of rows leads on (NSDI 2005, section 5.1).
-pub fn changes_lead<R: Valued>()
+pub fn changes_lead<F: Family, R: Valued<F>>()
     ensures { ChangesLead R.value }
 {}
 

@@ -4,7 +4,7 @@ use crate::entry::Entry;
 use crate::link::{Link, Task};
 use crate::value::Value;
 use addr4::{Addr, Prefix};
-use bgp_attr::Octets;
+use bgp_attr::{Octets, SharedAttrs};
 
 /// Why a line of the event file is refused.
 #[derive(Clone, Copy, PartialEq, Eq)]
@@ -29,22 +29,22 @@ pub enum Code {
 
 /// A line of the output.
 #[derive(Drop)]
-pub enum Line {
-    Journal(Entry<Value>),
+pub enum Line<S = SharedAttrs, A = Addr, P = Prefix> {
+    Journal(Entry<Value<S, A>, P>),
     /// `out K HEX`: an UPDATE is sent to the peer.
     Out(u32, Octets),
     /// `note K HEX`: a NOTIFICATION is sent to the peer.
     Note(u32, Octets),
     /// `row LINK PREFIX VALUE`: a row of a link that is shown.
-    Row(Link, Prefix, Value),
+    Row(Link, P, Value<S, A>),
     /// `rows LINK COUNT`: how many rows a link has that was shown.
     Rows(Link, u128),
     /// `cover ADDR MATCH SUBNET`: the prefix of the longest interior route that holds the address, `-` where there is none,
     /// and the largest subnet with that answer.
-    Cover(Addr, Option<Prefix>, Prefix),
+    Cover(A, Option<P>, P),
     /// `settled PREFIX yes`, or `settled PREFIX no TASK`: whether the rows at the prefix are final, or the first task that
     /// holds it up.
-    Settled(Prefix, Option<Task>),
+    Settled(P, Option<Task>),
     /// `work M`: how many turns `work` took.
     Work(u128),
     /// `bound B`: how many turns `idle` takes at most.

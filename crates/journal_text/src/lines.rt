@@ -12,7 +12,8 @@ use crate::link::{Link, Task};
 use crate::names::{push_link, push_task};
 use crate::texts::{push_answer, push_text, push_value, push_wide};
 use crate::value::Value;
-use addr4::{Addr, Memory, Prefix, push_addr, push_hex, push_number, push_prefix};
+use addr4::{Addr, Memory, Prefix, Texts, push_addr, push_hex, push_number, push_prefix};
+use bgp_attr::SharedAttrs;
 use std::alloc::Global;
 
 /// A word, a space, and a link.
@@ -45,7 +46,12 @@ fn push_both(out: &mut Vec<u8>, word: &[u8], link: Link, other: Link) -> Result<
 }
 
 /// A word, a link and a prefix, with a space after each.
-fn push_head(out: &mut Vec<u8>, word: &[u8], link: Link, prefix: Prefix) -> Result<(), Memory>
+fn push_head<F: Texts>(
+    out: &mut Vec<u8>,
+    word: &[u8],
+    link: Link,
+    prefix: Prefix<F>,
+) -> Result<(), Memory>
     ensures { OnOk result (out.new.items ≡ out.old.items ++ (word.now ++ 32 ∷ link_text link ++ 32 ∷ prefix_text prefix ++ 32 ∷ [])) }
 {
     push_named(out, word, link)?;
@@ -56,12 +62,12 @@ fn push_head(out: &mut Vec<u8>, word: &[u8], link: Link, prefix: Prefix) -> Resu
 }
 
 /// A word, a link, a prefix and a value: `+ LINK PREFIX NEW`, `- LINK PREFIX OLD`, `row LINK PREFIX VALUE`.
-fn push_row(
+fn push_row<F: Texts>(
     out: &mut Vec<u8>,
     word: &[u8],
     link: Link,
-    prefix: Prefix,
-    value: &Value,
+    prefix: Prefix<F>,
+    value: &Value<SharedAttrs<F>, Addr<F>>,
 ) -> Result<(), Memory>
     ensures { OnOk result (out.new.items ≡ out.old.items ++ words_line (word.now ∷ link_text link ∷ prefix_text prefix ∷ value_text value.now ∷ [])) }
 {
@@ -72,12 +78,12 @@ fn push_row(
 }
 
 /// `= LINK PREFIX OLD NEW`
-fn push_replace(
+fn push_replace<F: Texts>(
     out: &mut Vec<u8>,
     link: Link,
-    prefix: Prefix,
-    old: &Value,
-    new: &Value,
+    prefix: Prefix<F>,
+    old: &Value<SharedAttrs<F>, Addr<F>>,
+    new: &Value<SharedAttrs<F>, Addr<F>>,
 ) -> Result<(), Memory>
     ensures { OnOk result (out.new.items ≡ out.old.items ++ words_line (codes "=" ∷ link_text link ∷ prefix_text prefix ∷ value_text old.now ∷ value_text new.now ∷ [])) }
 {
@@ -90,11 +96,11 @@ fn push_replace(
 }
 
 /// `? LINK PREFIX VALUE`
-fn push_asked(
+fn push_asked<F: Texts>(
     out: &mut Vec<u8>,
     link: Link,
-    prefix: Prefix,
-    row: &Option<Value>,
+    prefix: Prefix<F>,
+    row: &Option<Value<SharedAttrs<F>, Addr<F>>>,
 ) -> Result<(), Memory>
     ensures { OnOk result (out.new.items ≡ out.old.items ++ words_line (codes "?" ∷ link_text link ∷ prefix_text prefix ∷ answer_text row.now ∷ [])) }
 {
@@ -105,7 +111,10 @@ fn push_asked(
 }
 
 #[tactic(auto, unfolding(crate::specs::Texts::entry_words))]
-fn push_entry(out: &mut Vec<u8>, entry: &Entry<Value>) -> Result<(), Memory>
+fn push_entry<F: Texts>(
+    out: &mut Vec<u8>,
+    entry: &Entry<Value<SharedAttrs<F>, Addr<F>>, Prefix<F>>,
+) -> Result<(), Memory>
     ensures { OnOk result (out.new.items ≡ out.old.items ++ words_line (entry_words entry.now)) }
 {
     match entry {
@@ -164,7 +173,7 @@ fn push_rows(alloc: Global, out: &mut Vec<u8>, link: Link, count: u128) -> Resul
 }
 
 /// A prefix, or `-` for none.
-fn push_match(out: &mut Vec<u8>, found: Option<Prefix>) -> Result<(), Memory>
+fn push_match<F: Texts>(out: &mut Vec<u8>, found: Option<Prefix<F>>) -> Result<(), Memory>
     ensures { OnOk result (out.new.items ≡ out.old.items ++ match_text found) }
 {
     match found {
@@ -174,11 +183,11 @@ fn push_match(out: &mut Vec<u8>, found: Option<Prefix>) -> Result<(), Memory>
 }
 
 /// `cover ADDR MATCH SUBNET`
-fn push_cover(
+fn push_cover<F: Texts>(
     out: &mut Vec<u8>,
-    addr: Addr,
-    found: Option<Prefix>,
-    subnet: Prefix,
+    addr: Addr<F>,
+    found: Option<Prefix<F>>,
+    subnet: Prefix<F>,
 ) -> Result<(), Memory>
     ensures { OnOk result (out.new.items ≡ out.old.items ++ words_line (codes "cover" ∷ addr_text addr ∷ match_text found ∷ prefix_text subnet ∷ [])) }
 {
@@ -203,7 +212,11 @@ fn push_held(out: &mut Vec<u8>, task: Task) -> Result<(), Memory>
 }
 
 /// `settled PREFIX yes`, `settled PREFIX no TASK`
-fn push_settled(out: &mut Vec<u8>, prefix: Prefix, held: Option<Task>) -> Result<(), Memory>
+fn push_settled<F: Texts>(
+    out: &mut Vec<u8>,
+    prefix: Prefix<F>,
+    held: Option<Task>,
+) -> Result<(), Memory>
     ensures { OnOk result (out.new.items ≡ out.old.items ++ words_line (codes "settled" ∷ prefix_text prefix ∷ held_words held)) }
 {
     push_text(out, b"settled ")?;
@@ -244,7 +257,11 @@ fn push_refused(out: &mut Vec<u8>, number: u64, code: Code) -> Result<(), Memory
 
 /// Appends the words of a line, and LF.
 #[tactic(auto, unfolding(crate::specs::Texts::line_text))]
-pub fn push_line(alloc: Global, out: &mut Vec<u8>, line: &Line) -> Result<(), Memory>
+pub fn push_line<F: Texts>(
+    alloc: Global,
+    out: &mut Vec<u8>,
+    line: &Line<SharedAttrs<F>, Addr<F>, Prefix<F>>,
+) -> Result<(), Memory>
     ensures { OnOk result (out.new.items ≡ out.old.items ++ line_text line.now) }
 {
     match line {
@@ -265,7 +282,7 @@ pub fn push_line(alloc: Global, out: &mut Vec<u8>, line: &Line) -> Result<(), Me
 }
 
 /// Whether a line is one of the journal.
-pub(crate) fn is_entry(line: &Line) -> bool
+pub(crate) fn is_entry<F: Texts>(line: &Line<SharedAttrs<F>, Addr<F>, Prefix<F>>) -> bool
     ensures { result ≡ is_entry line.now }
 {
     matches!(line, Line::Journal(_))

@@ -8,10 +8,10 @@ ghost use Rattle.journal_text.specs.Texts.{origin_number, segment_text, path_tex
 
 use crate::names::fib_proto_word;
 use crate::value::Value;
-use addr4::{Addr, Memory, push_addr, push_hex, push_number};
+use addr4::{Addr, Memory, RouterId, Texts, push_addr, push_hex, push_id, push_number};
 use bgp_attr::{
     Aggregator, AsPath, Attrs, Neighbour, Origin, Reflection, Route, Segment, SegmentKind,
-    Unrecognized,
+    SharedAttrs, Unrecognized,
 };
 use rib_route::{External, FibProto, FibRow, Iface, Interior};
 use std::alloc::Global;
@@ -107,7 +107,7 @@ fn push_aggregator(out: &mut Vec<u8>, aggregator: Option<Aggregator>) -> Result<
         push_text(out, b",g")?;
         push_number(out, u64::from(aggregator.asn))?;
         out.push(b'/')?;
-        push_addr(out, aggregator.addr)?;
+        push_id(out, aggregator.addr)?;
         if aggregator.partial {
             out.push(b'!')?;
         }
@@ -116,31 +116,31 @@ fn push_aggregator(out: &mut Vec<u8>, aggregator: Option<Aggregator>) -> Result<
 }
 
 #[tactic(auto, unfolding(crate::specs::Texts::originator_text))]
-fn push_originator(out: &mut Vec<u8>, originator: Option<Addr>) -> Result<(), Memory>
+fn push_originator(out: &mut Vec<u8>, originator: Option<RouterId>) -> Result<(), Memory>
     ensures { OnOk result (out.new.items ≡ out.old.items ++ originator_text originator) }
 {
     if let Some(id) = originator {
         push_text(out, b",r")?;
-        push_addr(out, id)?;
+        push_id(out, id)?;
     }
     Ok(())
 }
 
-/// Addresses with semicolons between them.
-fn push_addresses(out: &mut Vec<u8>, addresses: &[Addr]) -> Result<(), Memory>
+/// Identifiers with semicolons between them.
+fn push_addresses(out: &mut Vec<u8>, addresses: &[RouterId]) -> Result<(), Memory>
     ensures { OnOk result (out.new.items ≡ out.old.items ++ addresses_text addresses.now) }
 {
     for (i, addr) in addresses.iter().enumerate() {
         if i > 0 {
             out.push(b';')?;
         }
-        push_addr(out, *addr)?;
+        push_id(out, *addr)?;
     }
     Ok(())
 }
 
 #[tactic(auto, unfolding(crate::specs::Texts::clusters_text))]
-fn push_clusters(out: &mut Vec<u8>, clusters: &[Addr]) -> Result<(), Memory>
+fn push_clusters(out: &mut Vec<u8>, clusters: &[RouterId]) -> Result<(), Memory>
     ensures { OnOk result (out.new.items ≡ out.old.items ++ clusters_text clusters.now) }
 {
     if !clusters.is_empty() {
@@ -180,7 +180,7 @@ fn push_unrecognized_all(out: &mut Vec<u8>, attributes: &[Unrecognized]) -> Resu
 
 /// Origin, path and next hop.
 #[tactic(auto, unfolding(crate::specs::Texts::required_text))]
-fn push_required(out: &mut Vec<u8>, attrs: &Attrs) -> Result<(), Memory>
+fn push_required<F: Texts>(out: &mut Vec<u8>, attrs: &Attrs<Addr<F>>) -> Result<(), Memory>
     ensures { OnOk result (out.new.items ≡ out.old.items ++ required_text attrs.now) }
 {
     push_text(out, b"o")?;
@@ -203,7 +203,7 @@ fn push_atomic(out: &mut Vec<u8>, atomic: bool) -> Result<(), Memory>
 }
 
 #[tactic(auto, unfolding(crate::specs::Texts::optional_text))]
-fn push_optional(out: &mut Vec<u8>, attrs: &Attrs) -> Result<(), Memory>
+fn push_optional<F: Texts>(out: &mut Vec<u8>, attrs: &Attrs<Addr<F>>) -> Result<(), Memory>
     ensures { OnOk result (out.new.items ≡ out.old.items ++ optional_text attrs.now) }
 {
     push_lettered(out, b'm', attrs.med)?;
@@ -215,7 +215,7 @@ fn push_optional(out: &mut Vec<u8>, attrs: &Attrs) -> Result<(), Memory>
 
 /// The attributes, parted by commas.
 #[tactic(auto, unfolding(crate::specs::Texts::attrs_text))]
-fn push_attrs(out: &mut Vec<u8>, attrs: &Attrs) -> Result<(), Memory>
+fn push_attrs<F: Texts>(out: &mut Vec<u8>, attrs: &Attrs<Addr<F>>) -> Result<(), Memory>
     ensures { OnOk result (out.new.items ≡ out.old.items ++ attrs_text attrs.now) }
 {
     push_required(out, attrs)?;
@@ -255,7 +255,7 @@ fn push_known(out: &mut Vec<u8>, number: Option<u32>) -> Result<(), Memory>
 
 /// What the decision compares, each with a colon, and the attributes.
 #[tactic(auto, unfolding(crate::specs::Texts::route_text))]
-fn push_route(out: &mut Vec<u8>, route: &Route) -> Result<(), Memory>
+fn push_route<F: Texts>(out: &mut Vec<u8>, route: &Route<SharedAttrs<F>>) -> Result<(), Memory>
     ensures { OnOk result (out.new.items ≡ out.old.items ++ route_text route.now) }
 {
     push_field(out, sender_number(route.from))?;
@@ -267,7 +267,7 @@ fn push_route(out: &mut Vec<u8>, route: &Route) -> Result<(), Memory>
 }
 
 /// An address, or `direct` for none.
-fn push_gateway(out: &mut Vec<u8>, gateway: Option<Addr>) -> Result<(), Memory>
+fn push_gateway<F: Texts>(out: &mut Vec<u8>, gateway: Option<Addr<F>>) -> Result<(), Memory>
     ensures { OnOk result (out.new.items ≡ out.old.items ++ gateway_text gateway) }
 {
     match gateway {
@@ -277,10 +277,10 @@ fn push_gateway(out: &mut Vec<u8>, gateway: Option<Addr>) -> Result<(), Memory>
 }
 
 /// Protocol, gateway and interface.
-fn push_hop(
+fn push_hop<F: Texts>(
     out: &mut Vec<u8>,
     proto: FibProto,
-    gateway: Option<Addr>,
+    gateway: Option<Addr<F>>,
     iface: &Iface,
 ) -> Result<(), Memory>
     ensures { OnOk result (out.new.items ≡ out.old.items ++ with_colons (fib_proto_text proto ∷ gateway_text gateway ∷ iface.now ∷ [])) }
@@ -293,7 +293,7 @@ fn push_hop(
 }
 
 #[tactic(auto, unfolding(crate::specs::Texts::interior_text))]
-fn push_interior(out: &mut Vec<u8>, row: &Interior) -> Result<(), Memory>
+fn push_interior<F: Texts>(out: &mut Vec<u8>, row: &Interior<Addr<F>>) -> Result<(), Memory>
     ensures { OnOk result (out.new.items ≡ out.old.items ++ interior_text row.now) }
 {
     push_hop(out, row.proto.fib_proto(), row.gateway, &row.iface)?;
@@ -303,7 +303,7 @@ fn push_interior(out: &mut Vec<u8>, row: &Interior) -> Result<(), Memory>
 }
 
 #[tactic(auto, unfolding(crate::specs::Texts::external_text))]
-fn push_external(out: &mut Vec<u8>, row: &External) -> Result<(), Memory>
+fn push_external<F: Texts>(out: &mut Vec<u8>, row: &External<Addr<F>>) -> Result<(), Memory>
     ensures { OnOk result (out.new.items ≡ out.old.items ++ external_text row.now) }
 {
     push_text(out, fib_proto_word(row.fib_proto()))?;
@@ -312,14 +312,17 @@ fn push_external(out: &mut Vec<u8>, row: &External) -> Result<(), Memory>
 }
 
 #[tactic(auto, unfolding(crate::specs::Texts::fib_text))]
-fn push_fib_row(out: &mut Vec<u8>, row: &FibRow) -> Result<(), Memory>
+fn push_fib_row<F: Texts>(out: &mut Vec<u8>, row: &FibRow<Addr<F>>) -> Result<(), Memory>
     ensures { OnOk result (out.new.items ≡ out.old.items ++ fib_text row.now) }
 {
     push_hop(out, row.proto, row.gateway, &row.iface)
 }
 
 /// The text of a value.
-pub(crate) fn push_value(out: &mut Vec<u8>, value: &Value) -> Result<(), Memory>
+pub(crate) fn push_value<F: Texts>(
+    out: &mut Vec<u8>,
+    value: &Value<SharedAttrs<F>, Addr<F>>,
+) -> Result<(), Memory>
     ensures { OnOk result (out.new.items ≡ out.old.items ++ value_text value.now) }
 {
     match value {
@@ -332,7 +335,10 @@ pub(crate) fn push_value(out: &mut Vec<u8>, value: &Value) -> Result<(), Memory>
 }
 
 /// The text of a value, or `-` for none.
-pub(crate) fn push_answer(out: &mut Vec<u8>, row: &Option<Value>) -> Result<(), Memory>
+pub(crate) fn push_answer<F: Texts>(
+    out: &mut Vec<u8>,
+    row: &Option<Value<SharedAttrs<F>, Addr<F>>>,
+) -> Result<(), Memory>
     ensures { OnOk result (out.new.items ≡ out.old.items ++ answer_text row.now) }
 {
     match row {

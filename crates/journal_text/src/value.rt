@@ -2,28 +2,28 @@
 
 ghost use Rattle.std.specs.Prelude.{◌≡◌, IfOk};
 
-use addr4::{Memory, Row};
+use addr4::{Addr, Family, Memory, Row};
 use bgp_attr::{Route, SharedAttrs};
 use rib_route::{External, FibRow, Interior};
 
 /// What stands at a prefix of a link.
 #[derive(Drop)]
-pub enum Value {
+pub enum Value<S = SharedAttrs, A = Addr> {
     /// On `in.K` and `peer.K.S`.
-    Attrs(SharedAttrs),
+    Attrs(S),
     /// On `filt.K`.
-    Route(Route),
+    Route(Route<S>),
     /// On `org.PROTO`, `org.PROTO.N`, `low`, `dyn` and `int`.
-    Interior(Interior),
+    Interior(Interior<A>),
     /// On `ebgp`, `ibgp` and `ext`.
-    External(External),
+    External(External<A>),
     /// On `fib`.
-    FibRow(FibRow),
+    FibRow(FibRow<A>),
 }
 
-impl Value {
+impl<F: Family> Value<SharedAttrs<F>, Addr<F>> {
     /// The same value once more. Memory only where the row can't be copied.
-    fn copy(&self) -> Result<Value, Memory>
+    fn copy(&self) -> Result<Value<SharedAttrs<F>, Addr<F>>, Memory>
         ensures { IfOk result (λ value. value ≡ self.now) }
     {
         match self {
@@ -37,7 +37,9 @@ impl Value {
 }
 
 /// The same value once more, if there is one.
-pub(crate) fn copy_of(value: &Option<Value>) -> Result<Option<Value>, Memory>
+pub(crate) fn copy_of<F: Family>(
+    value: &Option<Value<SharedAttrs<F>, Addr<F>>>,
+) -> Result<Option<Value<SharedAttrs<F>, Addr<F>>>, Memory>
     ensures { IfOk result (λ copy. copy ≡ value.now) }
 {
     match value {

@@ -6,7 +6,7 @@ use Rattle.addr4.specs.Prefixes.{AddressPrefix, prefix_cmp}
 use Rattle.addr4.proofs.PrefixOrder.{by_prefix}
 use Rattle.link_change.specs.Rows.{Rows, with_row, computed_rows}
 use Rattle.link_change.specs.Changes.{IsSent, IsChangeOf, ComputesOn}
-use Rattle.link_change.specs.declared.change.Change.{Change}
+use Rattle.link_change.specs.Changes.{Change}
 use Rattle.link_change.proofs.RowLemmas.{same_function, with_row_same, rows_inserted, rows_removed}
 
 -- the change of one row is what leads from the old rows to those with the new one

@@ -7,7 +7,7 @@ use Rattle.link_change.specs.Rows.{Rows, with_row}
 use Rattle.link_change.specs.Changes.{IsSent}
 use Rattle.link_change.specs.InOrder.{ChangesLead, rows_before, with_last, changes_at, changed_in, RowLeads, row_before}
 use Rattle.link_change.specs.Laws.{BeforeIsOld, BeforeIsFirst, UnchangedStays, BeforeIsCovered, LeadAtEach, FirstHere, FirstElsewhere, LastHere, LastElsewhere, PutKeepsBefore, PutLeads, PutLeadsRow, TakeSends, TakeLeads, TakeSendsHere, TakeLeadsHere}
-use Rattle.link_change.specs.declared.change.Change.{Change}
+use Rattle.link_change.specs.Changes.{Change}
 use Rattle.link_change.proofs.RowLemmas.{same_function, with_row_here, with_row_same, not_first, not_second}
 
 module _ {V : Type 0} where

@@ -4,7 +4,7 @@ use Rattle.addr4.specs.Prefixes.{AddressPrefix}
 use Rattle.link_change.specs.Rows.{Rows}
 use Rattle.link_change.specs.Changes.{IsSent}
 use Rattle.link_change.specs.Turns.{IsTurned, taken_turn}
-use Rattle.link_change.specs.declared.change.Change.{Change}
+use Rattle.link_change.specs.Changes.{Change}
 
 pub turned_by : {R : Type 0} (old new : Rows R) (p : AddressPrefix) (sent : Option (Change R)) → IsSent old new p sent → IsTurned old new (taken_turn sent)
 turned_by old new p None is = is

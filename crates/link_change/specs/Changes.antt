@@ -3,7 +3,11 @@ use Rattle.std.specs.Prelude.{◌≡◌, ◌≢◌, Option, Some, None, refl}
 use Rattle.std.specs.Coded.{Coded, code_by, coded×, coded_option}
 use Rattle.addr4.specs.Prefixes.{AddressPrefix, address_prefix_code}
 use Rattle.link_change.specs.Rows.{Rows, with_row, computed_rows}
-use Rattle.link_change.specs.declared.change.Change.{Change}
+use Rattle.link_change.specs.declared.change.Change as declared
+
+-- a change, whatever the family
+abbrev pub Change : Type 0 → Type 0
+Change R = declared.Change R AddressPrefix
 
 -- the row before is the one that stands there, and the row after differs
 abbrev pub IsLawfulOn : {R : Type 0} → Rows R → Change R → Type 0

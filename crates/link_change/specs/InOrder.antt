@@ -4,7 +4,7 @@ use Rattle.std.specs.Ordering.{eq_by_cmp}
 use Rattle.addr4.specs.Prefixes.{AddressPrefix, prefix_cmp}
 use Rattle.link_change.specs.Rows.{Rows, Candidates, with_row}
 use Rattle.link_change.specs.Changes.{IsLawfulOn}
-use Rattle.link_change.specs.declared.change.Change.{Change}
+use Rattle.link_change.specs.Changes.{Change}
 
 module _ {R : Type 0} where
   -- each change is lawful on what those before it made of the old rows, and all together make the new ones

@@ -4,7 +4,7 @@ use Rattle.addr4.specs.Prefixes.{AddressPrefix}
 use Rattle.link_change.specs.Rows.{Rows, Candidates, CoversRows, together}
 use Rattle.link_change.specs.Changes.{IsSent}
 use Rattle.link_change.specs.InOrder.{ChangesLead, rows_before, with_last, changes_at, changed_in, RowLeads, row_before}
-use Rattle.link_change.specs.declared.change.Change.{Change}
+use Rattle.link_change.specs.Changes.{Change}
 
 -- ---- the rows that changes lead from
 -- Where changes lead from the old rows to the new ones, the rows before them are the old ones.

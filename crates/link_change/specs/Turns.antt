@@ -1,10 +1,14 @@
 -- What a turn makes of the map of the last link.
 use Rattle.std.specs.Prelude.{◌≡◌, Option, Some, None}
 use Rattle.link_change.specs.Rows.{Rows}
-use Rattle.link_change.specs.Changes.{IsSent}
-use Rattle.link_change.specs.declared.change.Change.{Change}
-use Rattle.link_change.specs.declared.turn.Turn.{Turn}
+use Rattle.link_change.specs.Changes.{Change, IsSent}
+use Rattle.link_change.specs.declared.turn.Turn as declared
+use Rattle.addr4.specs.Prefixes.{AddressPrefix}
 use Rattle.link_change.specs.declared.turn.Turn.TheVariants.{Nothing, Quiet, Sent}
+
+-- a turn, whatever the family
+abbrev pub Turn : Type 0 → Type 0
+Turn R = declared.Turn R AddressPrefix
 
 -- the last link's map became the new one by the turn
 abbrev pub IsTurned : {R : Type 0} → Rows R → Rows R → Turn R → Type 0

@@ -6,7 +6,7 @@ use Rattle.std.specs.List.{find, list_any, cons_option}
 use Rattle.std.specs.FinMap as tables
 use Rattle.addr4.specs.Prefixes.{AddressPrefix}
 use Rattle.rib_route.specs.declared.Proto.{Proto}
-use Rattle.rib_route.specs.declared.rows.Interior.{Interior}
+use Rattle.rib_route.specs.Rows.{Interior}
 use Rattle.live_state.specs.Lives.{Interiors}
 use Rattle.live_state.specs.Decided.{distance_of, least_of, routes_at}
 use Rattle.live_state.specs.Laws.{TheLeastDistanceIsDecided, EachLiveRouteCounts}

@@ -1,7 +1,7 @@
 -- Of two forwarding rows that of lesser distance.
 use Rattle.std.proofs.Common.{◌≡◌, ◌⊎◌, inl, inr, ◌<◌, ◌≤◌, Bool, true, false, cond, nat_lt, Some, None, ap, refl, arith}
 use Rattle.std.proofs.lemmas.Bool.Decides.{nat_tests}
-use Rattle.rib_route.specs.declared.rows.FibRow.{FibRow}
+use Rattle.rib_route.specs.Rows.{FibRow}
 use Rattle.rib_route.specs.Distances.{distance}
 use Rattle.live_state.specs.Laws.{TheLesserDistanceForwards, EachRowForwards}
 

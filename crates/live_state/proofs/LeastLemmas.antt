@@ -5,7 +5,7 @@ use Rattle.std.specs.List.{find, list_any, cons_option}
 use Rattle.std.specs.FinMap as tables
 use Rattle.link_change.specs.Rows.{Rows}
 use Rattle.rib_route.specs.declared.Proto.{Proto}
-use Rattle.rib_route.specs.declared.rows.Interior.{Interior}
+use Rattle.rib_route.specs.Rows.{Interior}
 use Rattle.live_state.specs.Decided.{distance_of, least_of, least_rows}
 use Rattle.live_state.specs.Lives.{Interiors}
 

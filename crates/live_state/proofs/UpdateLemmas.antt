@@ -10,7 +10,7 @@ use Rattle.std.proofs.lemmas.List.{map-append}
 use Rattle.std.proofs.lemmas.List.Elements.{filter_more}
 use Rattle.addr4.specs.Prefixes.{AddressPrefix, prefix_cmp, same_prefix}
 use Rattle.addr4.proofs.PrefixOrder.{by_prefix}
-use Rattle.bgp_attr.specs.declared.attrs.Attrs.{Attrs}
+use Rattle.bgp_attr.specs.Attributes.{Attrs}
 use Rattle.bgp_wire.specs.Grammar.{without}
 use Rattle.live_state.specs.Messages.{withdrawn_from}
 

@@ -8,27 +8,28 @@ use Rattle.std.specs.List.{list_any, range_with_len}
 use Rattle.best_path.specs.Steps.{pick}
 use Rattle.std.specs.FinMap as tables
 use Rattle.addr4.specs.Prefixes.{AddressPrefix, block}
-use Rattle.bgp_attr.specs.declared.attrs.Attrs.{Attrs}
-use Rattle.bgp_attr.specs.declared.route.Route.{Route}
-use Rattle.bgp_attr.specs.declared.speaker.Speaker.{Speaker}
+use Rattle.addr4.specs.Blocks.{width}
+use Rattle.bgp_attr.specs.Attributes.{Attrs}
+use Rattle.bgp_attr.specs.Routes.{Route}
+use Rattle.bgp_attr.specs.Speakers.{Speaker}
 use Rattle.bgp_attr.specs.declared.speaker.Profile.{Profile}
 use Rattle.bgp_attr.specs.declared.speaker.Neighbour.{Neighbour}
 use Rattle.link_change.specs.Rows.{Rows}
-use Rattle.policy_rules.specs.declared.rule.Rule.{Rule}
+use Rattle.policy_rules.specs.Rules.{Rule}
 use Rattle.filter_bank.specs.Filtered.{filtered}
 use Rattle.filter_bank.specs.Outgoing.{outgoing}
 use Rattle.peer_out.specs.Forms.{as_sent}
 use Rattle.rib_route.specs.declared.Proto.{Proto}
 use Rattle.rib_route.specs.declared.Proto.TheVariants.{Connected, Static, Ospf, Rip}
-use Rattle.rib_route.specs.declared.rows.Interior.{Interior}
-use Rattle.rib_route.specs.declared.rows.External.{External}
-use Rattle.rib_route.specs.declared.rows.FibRow.{FibRow}
+use Rattle.rib_route.specs.Rows.{Interior}
+use Rattle.rib_route.specs.Rows.{External}
+use Rattle.rib_route.specs.Rows.{FibRow}
 use Rattle.rib_route.specs.Distances.{distance, fib_proto, external_proto}
 use Rattle.rib_route.specs.Forwarding.{fib_row}
 use Rattle.redist.specs.Local.{local_route}
 use Rattle.journal_text.specs.declared.link.Link.{Link}
 use Rattle.journal_text.specs.declared.link.Link.TheVariants.{In, Filt, Res, Org, Low, Dyn, Int, Red, Best, ReadRib, Ebgp, Ibgp, Ext, Read, Outf, Adv, Fib}
-use Rattle.journal_text.specs.declared.value.Value.{Value}
+use Rattle.journal_text.specs.Lines.{Value}
 use Rattle.journal_text.specs.Walk.{Links}
 use Rattle.journal_text.specs.Values.{valued, attrs_rows, route_rows, interior_rows, external_value, fib_rows}
 use Rattle.event_text.specs.declared.declared.DeclaredPeer.{DeclaredPeer}
@@ -94,12 +95,12 @@ or_else (Some row) other = Some row
 
 -- of the prefixes with at most so many bits that hold the address, the route of the longest that has one
 abbrev pub longest_within : Rows Interior → ℕ → ℕ → Option Interior
-longest_within rows address zero = rows (block 32 address 0)
-longest_within rows address (suc n) = or_else (rows (block 32 address (suc n))) (longest_within rows address n)
+longest_within rows address zero = rows (block width address 0)
+longest_within rows address (suc n) = or_else (rows (block width address (suc n))) (longest_within rows address n)
 
 -- the longest match: the interior route by which the address is reached
 abbrev pub longest_match : Rows Interior → ℕ → Option Interior
-longest_match rows address = longest_within rows address 32
+longest_match rows address = longest_within rows address width
 
 -- a route with the metric of the interior route to its next hop (section 9.1.2.2 e); without one it isn't resolvable
 abbrev pub with_metric_of : Route → Option Interior → Option Route

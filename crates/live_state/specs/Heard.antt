@@ -7,7 +7,7 @@ use Rattle.bgp_attr.specs.declared.speaker.Profile.{Profile}
 use Rattle.bgp_wire.specs.declared.message.Message.TheVariants.{Update}
 use Rattle.bgp_wire.specs.declared.message.Update.{Update as Updated}
 use Rattle.bgp_wire.specs.Grammar.{Reads}
-use Rattle.journal_text.specs.declared.line.Line.{Line}
+use Rattle.journal_text.specs.Lines.{Line}
 use Rattle.journal_text.specs.declared.line.Line.TheVariants.{Out, Journal}
 use Rattle.journal_text.specs.declared.entry.Entry.TheVariants.{Begin, End}
 use Rattle.journal_text.specs.declared.link.Link.TheVariants.{Adv}

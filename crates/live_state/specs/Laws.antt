@@ -2,14 +2,15 @@
 use Rattle.std.specs.Prelude.{◌≡◌, ◌≤◌, ◌<◌, ◌⊎◌, ℕ, not, List, Contains, Option, Some, None}
 use Rattle.std.specs.FinMap as tables
 use Rattle.addr4.specs.Prefixes.{AddressPrefix, IsMasked, Holds}
+use Rattle.addr4.specs.Blocks.{width}
 use Rattle.bgp_attr.specs.declared.speaker.Profile.{Profile}
 use Rattle.link_change.specs.Rows.{Rows}
 use Rattle.bgp_wire.specs.declared.message.Message.{Message}
 use Rattle.event_text.specs.declared.event.Event.{Event}
 use Rattle.event_text.specs.declared.declared.DeclaredPeer.{DeclaredPeer}
 use Rattle.rib_route.specs.declared.Proto.{Proto}
-use Rattle.rib_route.specs.declared.rows.Interior.{Interior}
-use Rattle.rib_route.specs.declared.rows.FibRow.{FibRow}
+use Rattle.rib_route.specs.Rows.{Interior}
+use Rattle.rib_route.specs.Rows.{FibRow}
 use Rattle.rib_route.specs.Distances.{distance}
 use Rattle.live_state.specs.Messages.{Says, is_ending, ends_session}
 use Rattle.live_state.specs.Declared.{declared_after}
@@ -41,9 +42,9 @@ EachLiveRouteCounts =
 -- A match is the row of a prefix that holds the address, and no longer one that holds it has a row; there is none only where no
 -- prefix that holds the address has one.
 abbrev pub IsLongestMatch : Rows Interior → ℕ → Option Interior → Type 0
-IsLongestMatch rows address None = (q : AddressPrefix) → IsMasked 32 q → Holds 32 q address → rows q ≡ None
+IsLongestMatch rows address None = (q : AddressPrefix) → IsMasked width q → Holds width q address → rows q ≡ None
 IsLongestMatch rows address (Some row) =
-    (p : AddressPrefix) × IsMasked 32 p × Holds 32 p address × (rows p ≡ Some row) × ((q : AddressPrefix) → IsMasked 32 q → Holds 32 q address → p.length < q.length → rows q ≡ None)
+    (p : AddressPrefix) × IsMasked width p × Holds width p address × (rows p ≡ Some row) × ((q : AddressPrefix) → IsMasked width q → Holds width q address → p.length < q.length → rows q ≡ None)
 
 abbrev pub TheLongestMatchIsDecided : Type 0
 TheLongestMatchIsDecided = (rows : Rows Interior) (address : ℕ) → IsLongestMatch rows address (longest_match rows address)

@@ -5,16 +5,16 @@ use Rattle.std.specs.Prelude.{◌≡◌, ℕ, ◌+◌, ◌==◌, Bool, true, fal
 use Rattle.std.specs.FinMap as tables
 use Rattle.std.specs.FinMap.{FinMap}
 use Rattle.addr4.specs.Prefixes.{AddressPrefix, prefix_cmp}
-use Rattle.bgp_attr.specs.declared.attrs.Attrs.{Attrs}
+use Rattle.bgp_attr.specs.Attributes.{Attrs}
 use Rattle.bgp_wire.specs.declared.message.Message.{Message}
 use Rattle.bgp_wire.specs.declared.message.Message.TheVariants as messages
 use Rattle.event_text.specs.declared.event.Event.{Event}
 use Rattle.event_text.specs.declared.event.Event.TheVariants.{Nothing, As4, Revised, Reflect, Local, Peer, Up, Down, Bgp, FilterIn, FilterOut, RouteAdd, RouteDel, Lose, Redist, Cover, Settled, Idle, Work, Ask, Show}
 use Rattle.event_text.specs.declared.declared.DeclaredPeer.{DeclaredPeer}
 use Rattle.event_text.specs.Declarations.{Declaration, no_declaration, peer_at, with_profile, with_four_octets, with_revised, with_reflection, with_speaker, with_peer, with_session, without_session}
-use Rattle.policy_rules.specs.declared.rule.Rule.{Rule}
+use Rattle.policy_rules.specs.Rules.{Rule}
 use Rattle.rib_route.specs.declared.Proto.{Proto}
-use Rattle.rib_route.specs.declared.rows.Interior.{Interior}
+use Rattle.rib_route.specs.Rows.{Interior}
 use Rattle.journal_text.specs.Links.{proto_number}
 use Rattle.link_change.specs.Rows.{is_empty_map}
 use Rattle.live_state.specs.Messages.{Says, changes_of}

@@ -1,13 +1,13 @@
 -- What a peer asks for by a ROUTE-REFRESH, and what it is told then (RFC 2918).
 use Rattle.std.specs.Prelude.{◌≡◌, ℕ, Bool, true, List, Contains, Some}
 use Rattle.addr4.specs.Prefixes.{AddressPrefix}
-use Rattle.bgp_attr.specs.declared.attrs.Attrs.{Attrs}
+use Rattle.bgp_attr.specs.Attributes.{Attrs}
 use Rattle.bgp_attr.specs.declared.speaker.Profile.{Profile}
 use Rattle.bgp_wire.specs.declared.message.RouteRefresh.{RouteRefresh}
 use Rattle.bgp_wire.specs.declared.message.Message.TheVariants.{Refresh}
 use Rattle.bgp_wire.specs.Grammar.{is_served}
 use Rattle.bgp_wire.specs.Readable.{announcement}
-use Rattle.journal_text.specs.declared.line.Line.{Line}
+use Rattle.journal_text.specs.Lines.{Line}
 use Rattle.journal_text.specs.declared.line.Line.TheVariants.{Out}
 use Rattle.event_text.specs.declared.event.Event.{Event}
 use Rattle.event_text.specs.declared.event.Event.TheVariants.{Bgp}

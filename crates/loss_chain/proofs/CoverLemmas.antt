@@ -6,7 +6,7 @@ use Rattle.std.specs.FinMap.{FinMap}
 use Rattle.addr4.specs.Prefixes.{AddressPrefix, prefix_cmp}
 use Rattle.link_change.specs.Rows.{Rows, no_rows, with_row}
 use Rattle.link_change.specs.Changes.{IsSent, IsChangeOf}
-use Rattle.link_change.specs.declared.change.Change.{Change}
+use Rattle.link_change.specs.Changes.{Change}
 use Rattle.link_change.proofs.RowLemmas.{same_function, with_row_same, rows_removed, empty_rows}
 use Rattle.link_change.proofs.ChangeLemmas.{change_sent}
 use Rattle.loss_chain.specs.Covering.{row_over, covered, AreApart}

@@ -6,13 +6,13 @@ use Rattle.addr4.specs.Prefixes.{AddressPrefix, prefix_cmp}
 use Rattle.link_change.specs.Rows.{Rows, no_rows}
 use Rattle.link_change.proofs.RowLemmas.{empty_rows}
 use Rattle.link_change.specs.Changes.{IsSent}
-use Rattle.link_change.specs.declared.change.Change.{Change}
+use Rattle.link_change.specs.Changes.{Change}
 use Rattle.loss_chain.specs.Lost.{Lost}
 use Rattle.loss_chain.specs.Covering.{covered, AreApart}
 use Rattle.loss_chain.proofs.CoverLemmas.{covered_nothing, nothing_covers}
 use Rattle.journal_text.specs.declared.link.Link.{Link}
-use Rattle.journal_text.specs.declared.value.Value.{Value}
-use Rattle.journal_text.specs.declared.entry.Entry.{Entry}
+use Rattle.journal_text.specs.Lines.{Value}
+use Rattle.journal_text.specs.Lines.{Entry}
 use Rattle.journal_text.specs.declared.entry.Entry.TheVariants.{Begin, Weld}
 use Rattle.journal_text.specs.Links.{rank_of}
 use Rattle.journal_text.specs.Journals.{Journaled, with_entries, Adds}

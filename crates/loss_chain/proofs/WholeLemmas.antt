@@ -8,15 +8,15 @@ use Rattle.std.specs.FinMap as map
 use Rattle.std.specs.FinMap.{FinMap}
 use Rattle.addr4.specs.Prefixes.{AddressPrefix, prefix_cmp}
 use Rattle.rib_route.specs.declared.Proto.{Proto}
-use Rattle.link_change.specs.declared.change.Change.{Change}
-use Rattle.link_change.specs.declared.turn.Turn.{Turn}
+use Rattle.link_change.specs.Changes.{Change}
+use Rattle.link_change.specs.Turns.{Turn}
 use Rattle.link_change.specs.declared.turn.Turn.TheVariants.{Nothing, Quiet, Sent}
 use Rattle.link_change.proofs.RowLemmas.{same_function}
 use Rattle.loss_chain.specs.Lost.{Lost}
 use Rattle.journal_text.specs.declared.link.Link.{Link}
 use Rattle.journal_text.specs.declared.link.Link.TheVariants as names
-use Rattle.journal_text.specs.declared.value.Value.{Value}
-use Rattle.journal_text.specs.declared.entry.Entry.{Entry}
+use Rattle.journal_text.specs.Lines.{Value}
+use Rattle.journal_text.specs.Lines.{Entry}
 use Rattle.journal_text.specs.Links.{rank_of, proto_number}
 use Rattle.journal_text.proofs.LinkLemmas.{proto_by, proto_back}
 use Rattle.journal_text.specs.Journals.{Journaled, Adds}
@@ -124,7 +124,7 @@ module _ {R : Type 0} (value : R → Value) where
 
   -- ---- the stage above that of a loss
 
-  above_rows : (number : ℕ) (stage : Stage R) → option_map (λ s. valued value (rows_of s)) (above_of number stage) ≡ option_map (valued value) (rows_above (live_of stage) number (deletions_of stage))
+  above_rows : {F : Type 0} (number : ℕ) (stage : Stage R F) → option_map (λ s. valued value (rows_of s)) (above_of number stage) ≡ option_map (valued value) (rows_above (live_of stage) number (deletions_of stage))
   above_rows number (Top live) = refl
   above_rows number (Deletion' d at upper) =
       elim (d.number == number) as (λ b. option_map (λ s. valued value (rows_of s)) (cond b (Some upper) (above_of number upper)) ≡ option_map (valued value) (cond b (Some (rows_of upper)) (rows_above (live_of upper) number (deletions_of upper)))) [
@@ -132,11 +132,11 @@ module _ {R : Type 0} (value : R → Value) where
         | false ↦ above_rows number upper
       ]
 
-  pub out_of_session : (number k session : ℕ) (stage : Stage R) → k ≡ number → option_map (λ s. valued value (rows_of s)) (above_of session stage) ≡ chain_links value (Peer number) (tables_of stage) (names.Peer k session)
+  pub out_of_session : {F : Type 0} (number k session : ℕ) (stage : Stage R F) → k ≡ number → option_map (λ s. valued value (rows_of s)) (above_of session stage) ≡ chain_links value (Peer number) (tables_of stage) (names.Peer k session)
   out_of_session number k session stage same =
       above_rows session stage ∙ ap (λ b. cond b (option_map (valued value) (rows_above (live_of stage) session (deletions_of stage))) None) (sym (eq-eqb k number same))
 
-  pub out_of_loss : (proto p : Proto) (loss : ℕ) (stage : Stage R) → same_proto p proto ≡ true → option_map (λ s. valued value (rows_of s)) (above_of loss stage) ≡ chain_links value (Origin proto) (tables_of stage) (names.Lost p loss)
+  pub out_of_loss : {F : Type 0} (proto p : Proto) (loss : ℕ) (stage : Stage R F) → same_proto p proto ≡ true → option_map (λ s. valued value (rows_of s)) (above_of loss stage) ≡ chain_links value (Origin proto) (tables_of stage) (names.Lost p loss)
   out_of_loss proto p loss stage same =
       above_rows loss stage ∙ ap (λ b. cond b (option_map (valued value) (rows_above (live_of stage) loss (deletions_of stage))) None) (sym same)
 

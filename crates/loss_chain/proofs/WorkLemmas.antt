@@ -8,8 +8,8 @@ use Rattle.std.specs.FinMap.{FinMap, len-empty}
 use Rattle.addr4.specs.Prefixes.{AddressPrefix, prefix_cmp}
 use Rattle.link_change.specs.Rows.{Rows, is_empty_map}
 use Rattle.link_change.specs.Changes.{IsSent}
-use Rattle.link_change.specs.declared.change.Change.{Change}
-use Rattle.link_change.specs.declared.turn.Turn.{Turn}
+use Rattle.link_change.specs.Changes.{Change}
+use Rattle.link_change.specs.Turns.{Turn}
 use Rattle.link_change.specs.declared.turn.Turn.TheVariants.{Nothing, Quiet, Sent}
 use Rattle.link_change.specs.Turns.{taken_turn}
 use Rattle.link_change.proofs.RowLemmas.{empty_rows}
@@ -22,7 +22,7 @@ use Rattle.journal_text.specs.declared.entry.Entry.TheVariants.{Begin, Weld}
 use Rattle.journal_text.specs.Values.{sent_entries}
 use Rattle.journal_text.specs.Journals.{Journaled, with_entries, Adds}
 use Rattle.loss_chain.specs.Tables.{Tables, rows_below, lowest_rows, NoneEmpty, OneEmptyAtMost, AreAllApart}
-use Rattle.journal_text.specs.declared.value.Value.{Value}
+use Rattle.journal_text.specs.Lines.{Value}
 use Rattle.loss_chain.specs.declared.owner.Owner.{Owner}
 use Rattle.loss_chain.specs.Owners.{lost_link}
 use Rattle.loss_chain.specs.Falls.{way_from}

@@ -11,7 +11,7 @@ use Rattle.pass_core.specs.Passed.{is_beyond}
 use Rattle.loss_chain.specs.Lost.{Lost, lost_code}
 use Rattle.loss_chain.specs.Covering.{covered, AreApart}
 use Rattle.journal_text.specs.declared.link.Link.TheVariants as names
-use Rattle.journal_text.specs.declared.value.Value.{Value}
+use Rattle.journal_text.specs.Lines.{Value}
 use Rattle.journal_text.specs.Walk.{Links}
 use Rattle.loss_chain.specs.declared.owner.Owner.{Owner}
 use Rattle.loss_chain.specs.declared.owner.Owner.TheVariants.{Peer, Origin}

@@ -7,7 +7,7 @@ ghost use Rattle.std.specs.FinMap as map;
 ghost use Rattle.addr4.specs.Places.{key_of};
 ghost use Rattle.link_change.specs.Rows.{Rows, IsNextCandidate, with_rows, is_empty_map};
 ghost use Rattle.link_change.specs.Changes.{IsSent};
-ghost use Rattle.journal_text.specs.declared.value.Value.{Value};
+ghost use Rattle.journal_text.specs.Lines.{Value};
 ghost use Rattle.journal_text.specs.Walk.{HasRow};
 ghost use Rattle.journal_text.specs.Journals.{Adds, with_entries};
 ghost use Rattle.loss_chain.specs.Owners.{lowest_link};
@@ -21,7 +21,8 @@ use crate::deletion::Deletion;
 use crate::live::Live;
 use crate::owner::{Owner, is_same};
 use crate::stage::Stage;
-use addr4::{Memory, Place, Prefix, Row};
+use addr4::{Addr, Memory, Place, Prefix, Row, Texts, V4};
+use bgp_attr::SharedAttrs;
 use journal_text::{Journal, Link, Task, Value, Valued};
 use link_change::{Change, Turn, Upstream};
 use std::alloc::Global;
@@ -30,12 +31,12 @@ use std::marker::Model;
 /// The live rows of a source, and a deletion stage for each of its losses. Contracts see the live rows and the lost tables.
 /// Each call is told whose chain it is.
 #[derive(Drop)]
-pub struct LossChain<R> {
+pub struct LossChain<R, F: Texts = V4> {
     alloc: Global,
-    lowest: Stage<R>,
+    lowest: Stage<R, F>,
 }
 
-impl<R> Model for LossChain<R> {
+impl<R, F: Texts> Model for LossChain<R, F> {
     ghost use Rattle.std.specs.Prelude.{◌≤◌, length};
     ghost use Rattle.loss_chain.specs.Tables.{Tables, tables_code};
     ghost use Rattle.loss_chain.specs.Stages.{tables_of, deletions_of};
@@ -49,9 +50,9 @@ impl<R> Model for LossChain<R> {
     ghost invariant = { λ c. length (deletions_of c.lowest) ≤ 16 };
 }
 
-impl<R: Valued> LossChain<R> {
+impl<F: Texts, R: Valued<F>> LossChain<R, F> {
     /// A chain without rows and without deletion stages. Takes no memory; what the stages hold later comes from `alloc`.
-    pub fn new(alloc: Global) -> LossChain<R>
+    pub fn new(alloc: Global) -> LossChain<R, F>
         ensures { result ≡ no_tables }
     {
         LossChain {
@@ -61,7 +62,7 @@ impl<R: Valued> LossChain<R> {
     }
 
     /// The lowest stage, which holds all others: a deletion stage holds the stage above it in its box, up to the live rows.
-    pub fn lowest(&self) -> &Stage<R>
+    pub fn lowest(&self) -> &Stage<R, F>
         ensures { tables_of result.now ≡ self.now }
     {
         &self.lowest
@@ -73,10 +74,10 @@ impl<R: Valued> LossChain<R> {
     pub fn feed(
         &mut self,
         owner: Owner,
-        p: Prefix,
+        p: Prefix<F>,
         new: Option<R>,
-        journal: &mut Journal,
-    ) -> Result<Option<Change<R>>, Memory>
+        journal: &mut Journal<F>,
+    ) -> Result<Option<Change<R, Prefix<F>>>, Memory>
         requires chain { IsLossChain self.old }
         requires full { NoneEmpty self.old.deletions }
         ensures sent { IfOk result (IsSent (lowest_rows self.old) (lowest_rows self.new) p) }
@@ -91,14 +92,14 @@ impl<R: Valued> LossChain<R> {
     }
 
     /// The row at a prefix of the lowest link, lent.
-    pub fn row(&self, p: Prefix) -> Option<&R>
+    pub fn row(&self, p: Prefix<F>) -> Option<&R>
         ensures { option_copied result ≡ lowest_rows self.now p }
     {
         self.lowest.row(p)
     }
 
     /// The deletion stage of a loss, if it stands.
-    pub fn deletion(&self, number: u32) -> Option<&Deletion<R>>
+    pub fn deletion(&self, number: u32) -> Option<&Deletion<R, F>>
         ensures { option_map (λ d. d.rows) (option_copied result) ≡ table_of number self.now.deletions }
     {
         self.lowest.deletion(number)
@@ -112,7 +113,7 @@ impl<R: Valued> LossChain<R> {
     }
 
     /// Whether a row is live at the prefix.
-    pub fn has(&self, p: Prefix) -> bool
+    pub fn has(&self, p: Prefix<F>) -> bool
         ensures { result ≡ is_some (map.get self.now.live p) }
     {
         self.lowest.has(p)
@@ -148,7 +149,12 @@ impl<R: Valued> LossChain<R> {
 
     /// The source is lost, and this is the number of the loss: its rows, if there are any, go to a deletion stage directly
     /// below the top, and the link above it begins. The map of the lowest link stays the same.
-    pub fn lose(&mut self, owner: Owner, number: u32, journal: &mut Journal) -> Result<(), Memory>
+    pub fn lose(
+        &mut self,
+        owner: Owner,
+        number: u32,
+        journal: &mut Journal<F>,
+    ) -> Result<(), Memory>
         requires chain { IsLossChain self.old }
         requires full { NoneEmpty self.old.deletions }
         requires room { overdue_of owner self.old ≡ None }
@@ -166,7 +172,7 @@ impl<R: Valued> LossChain<R> {
     }
 
     /// Takes out the stage that a feed or a turn emptied, if there is one: the link above it is welded into the one below.
-    pub fn weld(&mut self, owner: Owner, journal: &mut Journal) -> Result<(), Memory>
+    pub fn weld(&mut self, owner: Owner, journal: &mut Journal<F>) -> Result<(), Memory>
         requires chain { IsLossChain self.old }
         requires one_empty { OneEmptyAtMost self.old.deletions }
         ensures after { OnOk result (self.new ≡ welded_tables self.old) }
@@ -188,8 +194,8 @@ impl<R: Valued> LossChain<R> {
         &mut self,
         owner: Owner,
         number: u32,
-        journal: &mut Journal,
-    ) -> Result<Turn<R>, Memory>
+        journal: &mut Journal<F>,
+    ) -> Result<Turn<R, Prefix<F>>, Memory>
         requires chain { IsLossChain self.old }
         requires full { NoneEmpty self.old.deletions }
         ensures taken { IfOk result (IsTakenTables R.value owner self.old self.new number journal.old journal.new) }
@@ -202,7 +208,7 @@ impl<R: Valued> LossChain<R> {
     }
 
     // The stage whose link out is this one.
-    fn stage_out(&self, owner: Owner, link: Link) -> Option<&Stage<R>>
+    fn stage_out(&self, owner: Owner, link: Link) -> Option<&Stage<R, F>>
         ensures { option_map (λ s. valued R.value (rows_of s)) (option_copied result) ≡ chain_links R.value owner self.now link }
     {
         match owner {
@@ -247,7 +253,12 @@ impl<R: Valued> LossChain<R> {
     }
 
     /// The row at a prefix of a link of the chain; None where it has none. Memory where the row can't be copied.
-    pub fn asked(&self, owner: Owner, link: Link, p: Prefix) -> Result<Option<Value>, Memory>
+    pub fn asked(
+        &self,
+        owner: Owner,
+        link: Link,
+        p: Prefix<F>,
+    ) -> Result<Option<Value<SharedAttrs<F>, Addr<F>>>, Memory>
         requires { IsSome (chain_links R.value owner self.now link) }
         ensures { IfOk result (HasRow (chain_links R.value owner self.now) link p) }
     {
@@ -261,9 +272,14 @@ impl<R: Valued> LossChain<R> {
     }
 
     /// The least prefix beyond a place that has a row on a link of the chain.
-    pub fn next_candidate(&self, owner: Owner, link: Link, after: Place) -> Option<Prefix>
+    pub fn next_candidate(
+        &self,
+        owner: Owner,
+        link: Link,
+        after: Place<Prefix<F>>,
+    ) -> Option<Prefix<F>>
         requires { IsSome (chain_links R.value owner self.now link) }
-        ensures { (rows : Rows Value) → chain_links R.value owner self.now link ≡ Some rows → IsNextCandidate (with_rows rows) (key_of after) result }
+        ensures { (rows : _) → chain_links R.value owner self.now link ≡ Some rows → IsNextCandidate (with_rows rows) (key_of after) result }
     {
         let Some(stage) = self.stage_out(owner, link) else {
             unreachable!();
@@ -280,18 +296,18 @@ impl<R: Valued> LossChain<R> {
     }
 }
 
-impl<R: Row> Upstream for LossChain<R> {
+impl<R: Row, F: Texts> Upstream<F> for LossChain<R, F> {
     type Row = R;
 
     ghost rows = { lowest_rows };
 
     ghost candidates = { chain_candidates };
 
-    fn asked(&self, p: &Prefix) -> Result<Option<R>, Memory> {
+    fn asked(&self, p: &Prefix<F>) -> Result<Option<R>, Memory> {
         self.lowest.asked(*p)
     }
 
-    fn next_candidate(&self, after: &Place) -> Option<Prefix> {
+    fn next_candidate(&self, after: &Place<Prefix<F>>) -> Option<Prefix<F>> {
         self.lowest.next_candidate(after)
     }
 }

@@ -1,26 +1,25 @@
 //! Deletion stages.
 
-ghost use Rattle.std.specs.Prelude.{◌≡◌, ◌≤◌, ◌↔◌, IsTrue, IfSome, IfNone, Some, None};
+ghost use Rattle.std.specs.Prelude.{◌≡◌, ◌↔◌, IsTrue, IfSome, IfNone, Some, None};
 ghost use Rattle.std.specs.Option.{option_copied};
 ghost use Rattle.std.specs.FinMap as map;
 ghost use Rattle.addr4.specs.Places.{key_of};
 ghost use Rattle.link_change.specs.Rows.{IsNextCandidate, with_rows, is_empty_map};
-ghost use Rattle.loss_chain.specs.Held.{has_over, has_within};
 ghost use Rattle.loss_chain.specs.Covering.{PassesOn, StaysApart, DeletesOn, IsLeastRow};
 
-use addr4::{Addr, Place, Prefix, Row};
+use addr4::{Place, Prefix, Row, Texts, V4};
 use link_change::Change;
 use safe_table::Table;
 use std::marker::Model;
 
 /// The rows of a lost table whose deletes weren't sent yet. Contracts see them beside the number of the loss.
 #[derive(Drop)]
-pub struct Deletion<R> {
+pub struct Deletion<R, F: Texts = V4> {
     number: u32,
-    table: Table<R>,
+    table: Table<R, F>,
 }
 
-impl<R> Model for Deletion<R> {
+impl<R, F: Texts> Model for Deletion<R, F> {
     ghost use Rattle.loss_chain.specs.Lost.{Lost, lost_code};
 
     ghost Value = { Lost R };
@@ -30,10 +29,10 @@ impl<R> Model for Deletion<R> {
     ghost view = { λ d. record { number = d.number; rows = d.table.rows } };
 }
 
-impl<R: Row> Deletion<R> {
+impl<R: Row, F: Texts> Deletion<R, F> {
     /// A stage that is to delete the rows of this table. The number tells which session, or which loss of a protocol, it
     /// was. Takes no memory.
-    pub fn new(number: u32, table: Table<R>) -> Deletion<R>
+    pub fn new(number: u32, table: Table<R, F>) -> Deletion<R, F>
         ensures { result ≡ record { number = number; rows = table.rows } }
     {
         Deletion { number, table }
@@ -49,7 +48,7 @@ impl<R: Row> Deletion<R> {
     /// A change from above, as it goes on below. Where the table has a row, that is the row before, and it leaves the
     /// table; nothing is sent where the row after is equal. Every other change goes on as it is. So None comes exactly
     /// where the rows below stay the same. Takes no memory.
-    pub fn take_in(&mut self, change: Change<R>) -> Option<Change<R>>
+    pub fn take_in(&mut self, change: Change<R, Prefix<F>>) -> Option<Change<R, Prefix<F>>>
         ensures law { PassesOn self.old.rows self.new.rows change result }
         ensures apart { StaysApart self.old.rows self.new.rows change }
         ensures rows { self.new.rows ≡ map.remove self.old.rows change.prefix }
@@ -65,7 +64,7 @@ impl<R: Row> Deletion<R> {
 
     /// One turn: takes the least row, by address and then length, out of the table, and sends its delete. None exactly
     /// where no row is left. Takes no memory.
-    pub fn unit(&mut self) -> Option<Change<R>>
+    pub fn unit(&mut self) -> Option<Change<R, Prefix<F>>>
         ensures law { IfSome result (DeletesOn self.old.rows self.new.rows) }
         ensures least { IfSome result (λ sent. IsLeastRow (map.get self.old.rows) sent.prefix sent.before) }
         ensures rows { IfSome result (λ sent. self.new.rows ≡ map.remove self.old.rows sent.prefix) }
@@ -86,21 +85,14 @@ impl<R: Row> Deletion<R> {
     }
 
     /// The row that the table still has at a prefix.
-    pub fn held(&self, prefix: Prefix) -> Option<&R>
+    pub fn held(&self, prefix: Prefix<F>) -> Option<&R>
         ensures { option_copied result ≡ map.get self.now.rows prefix }
     {
         self.table.get(prefix)
     }
 
-    /// Whether the table still has a row at a prefix that holds the address.
-    pub fn held_over(&self, address: Addr) -> bool
-        ensures { result ≡ has_over (Some self.now.rows) address }
-    {
-        held_within(self, address, 32)
-    }
-
     /// The least prefix beyond a place at which the table still has a row.
-    pub fn next_held(&self, after: Place) -> Option<Prefix>
+    pub fn next_held(&self, after: Place<Prefix<F>>) -> Option<Prefix<F>>
         ensures { IsNextCandidate (with_rows (map.get self.now.rows)) (key_of after) result }
     {
         self.table.next_after(after)
@@ -120,21 +112,4 @@ impl<R: Row> Deletion<R> {
     {
         self.table.len() == 0
     }
-}
-
-// Whether the table still has a row at one of the prefixes, of at most so many bits, that hold the address.
-fn held_within<R: Row>(deletion: &Deletion<R>, address: Addr, bits: u8) -> bool
-    requires { bits ≤ 32 }
-    ensures { result ≡ has_within (Some deletion.now.rows) address bits }
-{
-    let Some(prefix) = Prefix::new(address, bits) else {
-        unreachable!()
-    };
-    if deletion.held(prefix).is_some() {
-        return true;
-    }
-    if bits == 0 {
-        return false;
-    }
-    held_within(deletion, address, bits - 1)
 }

@@ -7,7 +7,7 @@ ghost use Rattle.addr4.specs.Places.{key_of};
 ghost use Rattle.link_change.specs.Rows.{IsNextCandidate, with_rows, is_empty_map};
 ghost use Rattle.link_change.specs.Changes.{IsSent};
 
-use addr4::{Memory, Place, Prefix, Row};
+use addr4::{Memory, Place, Prefix, Row, Texts, V4};
 use link_change::Change;
 use safe_table::Table;
 use std::alloc::Global;
@@ -16,12 +16,12 @@ use std::mem;
 
 /// The live rows. Contracts see their map by prefix.
 #[derive(Drop)]
-pub struct Live<R> {
+pub struct Live<R, F: Texts = V4> {
     alloc: Global,
-    live: Table<R>,
+    live: Table<R, F>,
 }
 
-impl<R> Model for Live<R> {
+impl<R, F: Texts> Model for Live<R, F> {
     ghost use Rattle.std.specs.FinMap as map;
     ghost use Rattle.addr4.specs.Prefixes.{prefix_cmp, address_prefix_code};
 
@@ -32,9 +32,9 @@ impl<R> Model for Live<R> {
     ghost view = { λ p. p.live.rows };
 }
 
-impl<R: Row> Live<R> {
+impl<R: Row, F: Texts> Live<R, F> {
     /// No row is live. Takes no memory.
-    pub fn new(alloc: Global) -> Live<R>
+    pub fn new(alloc: Global) -> Live<R, F>
         ensures { result ≡ map.empty }
     {
         Live {
@@ -45,7 +45,7 @@ impl<R: Row> Live<R> {
 
     /// A row is set: an add, or the replacement of the one that is live at the prefix.
     /// None exactly where the equal row is live. For want of memory nothing changes.
-    pub fn set(&mut self, prefix: Prefix, row: R) -> Result<Option<Change<R>>, Memory>
+    pub fn set(&mut self, prefix: Prefix<F>, row: R) -> Result<Option<Change<R, Prefix<F>>>, Memory>
         ensures sent { IfOk result (IsSent (map.get self.old) (map.get self.new) prefix) }
         ensures silent { IfOk result (λ sent. IsNone sent ↔ (map.get self.old prefix ≡ Some row)) }
         ensures after { IfOk result (λ sent. IfSome sent (λ change. change.after ≡ Some row)) }
@@ -58,7 +58,7 @@ impl<R: Row> Live<R> {
     }
 
     /// A row is taken away. None exactly where no row is live at the prefix. Takes no memory.
-    pub fn unset(&mut self, prefix: Prefix) -> Option<Change<R>>
+    pub fn unset(&mut self, prefix: Prefix<F>) -> Option<Change<R, Prefix<F>>>
         ensures sent { IsSent (map.get self.old) (map.get self.new) prefix result }
         ensures silent { IsNone result ↔ (map.get self.old prefix ≡ None) }
         ensures after { IfSome result (λ change. change.after ≡ None) }
@@ -69,7 +69,7 @@ impl<R: Row> Live<R> {
     }
 
     /// Gives all rows away, and begins anew. Takes no memory.
-    pub fn lose(&mut self) -> Table<R>
+    pub fn lose(&mut self) -> Table<R, F>
         ensures lost { result.rows ≡ self.old }
         ensures fresh { self.new ≡ map.empty }
     {
@@ -92,7 +92,7 @@ impl<R: Row> Live<R> {
     }
 
     /// The row that is live at a prefix.
-    pub fn asked(&self, prefix: Prefix) -> Result<Option<R>, Memory>
+    pub fn asked(&self, prefix: Prefix<F>) -> Result<Option<R>, Memory>
         ensures { IfOk result (λ row. row ≡ map.get self.now prefix) }
     {
         match self.live.get(prefix) {
@@ -102,21 +102,21 @@ impl<R: Row> Live<R> {
     }
 
     /// The row that is live at a prefix, lent.
-    pub fn row(&self, prefix: Prefix) -> Option<&R>
+    pub fn row(&self, prefix: Prefix<F>) -> Option<&R>
         ensures { option_copied result ≡ map.get self.now prefix }
     {
         self.live.get(prefix)
     }
 
     /// Whether a row is live at a prefix.
-    pub fn has(&self, prefix: Prefix) -> bool
+    pub fn has(&self, prefix: Prefix<F>) -> bool
         ensures { result ≡ is_some (map.get self.now prefix) }
     {
         self.live.get(prefix).is_some()
     }
 
     /// The least prefix beyond a place, by address and then length, at which a row is live.
-    pub fn next_candidate(&self, after: Place) -> Option<Prefix>
+    pub fn next_candidate(&self, after: Place<Prefix<F>>) -> Option<Prefix<F>>
         ensures { IsNextCandidate (with_rows (map.get self.now)) (key_of after) result }
     {
         if self.is_empty() {

@@ -11,12 +11,12 @@ ghost use Rattle.loss_chain.specs.Stages.{above_of, deletions_of, live_of, rows_
 
 use crate::deletion::Deletion;
 use crate::stage::Stage;
-use addr4::{Memory, Place, Prefix, Row};
+use addr4::{Memory, Place, Prefix, Row, Texts};
 use link_change::{Upstream, nearer};
 
-impl<R: Row> Stage<R> {
+impl<R: Row, F: Texts> Stage<R, F> {
     /// The row at a prefix of the link out of this stage.
-    pub(crate) fn asked(&self, p: Prefix) -> Result<Option<R>, Memory>
+    pub(crate) fn asked(&self, p: Prefix<F>) -> Result<Option<R>, Memory>
         ensures { IfOk result (λ row. row ≡ rows_of self.now p) }
     {
         match self {
@@ -29,7 +29,7 @@ impl<R: Row> Stage<R> {
     }
 
     /// The row at a prefix of the link out of this stage, lent.
-    pub(crate) fn row(&self, p: Prefix) -> Option<&R>
+    pub(crate) fn row(&self, p: Prefix<F>) -> Option<&R>
         ensures { option_copied result ≡ rows_of self.now p }
     {
         match self {
@@ -42,7 +42,7 @@ impl<R: Row> Stage<R> {
     }
 
     /// The deletion stage of a loss.
-    pub(crate) fn deletion(&self, number: u32) -> Option<&Deletion<R>>
+    pub(crate) fn deletion(&self, number: u32) -> Option<&Deletion<R, F>>
         ensures { option_map (λ d. d.rows) (option_copied result) ≡ table_of number (deletions_of self.now) }
     {
         match self {
@@ -72,7 +72,7 @@ impl<R: Row> Stage<R> {
     }
 
     /// Whether a row is live at the prefix.
-    pub(crate) fn has(&self, p: Prefix) -> bool
+    pub(crate) fn has(&self, p: Prefix<F>) -> bool
         ensures { result ≡ is_some (map.get (live_of self.now) p) }
     {
         match self {
@@ -82,7 +82,7 @@ impl<R: Row> Stage<R> {
     }
 
     /// The least prefix beyond a place that has a row on the link out of this stage.
-    pub(crate) fn next_candidate(&self, after: &Place) -> Option<Prefix>
+    pub(crate) fn next_candidate(&self, after: &Place<Prefix<F>>) -> Option<Prefix<F>>
         ensures { IsNextCandidate (with_rows (rows_of self.now)) (key_of after.now) result }
     {
         match self {
@@ -95,7 +95,7 @@ impl<R: Row> Stage<R> {
     }
 
     /// The stage above that of a loss.
-    pub(crate) fn above(&self, number: u32) -> Option<&Stage<R>>
+    pub(crate) fn above(&self, number: u32) -> Option<&Stage<R, F>>
         ensures { option_copied result ≡ above_of number self.now }
     {
         match self {
@@ -148,18 +148,18 @@ impl<R: Row> Stage<R> {
     }
 }
 
-impl<R: Row> Upstream for Stage<R> {
+impl<R: Row, F: Texts> Upstream<F> for Stage<R, F> {
     type Row = R;
 
     ghost rows = { rows_of };
 
     ghost candidates = { stage_candidates };
 
-    fn asked(&self, p: &Prefix) -> Result<Option<R>, Memory> {
+    fn asked(&self, p: &Prefix<F>) -> Result<Option<R>, Memory> {
         Stage::asked(self, *p)
     }
 
-    fn next_candidate(&self, after: &Place) -> Option<Prefix> {
+    fn next_candidate(&self, after: &Place<Prefix<F>>) -> Option<Prefix<F>> {
         Stage::next_candidate(self, after)
     }
 }

@@ -14,18 +14,18 @@ ghost use Rattle.loss_chain.specs.Stages.{stage_above};
 use crate::deletion::Deletion;
 use crate::live::Live;
 use crate::stage::Stage;
-use addr4::{Memory, Prefix, Row};
+use addr4::{Memory, Prefix, Row, Texts};
 use journal_text::{Entry, Journal, Link, Valued};
 use link_change::Change;
 use std::alloc::{AllocError, Global};
 use std::mem;
 
 // The top takes a row in, or gives one up.
-fn set_live<R: Row>(
-    live: &mut Live<R>,
-    p: Prefix,
+fn set_live<R: Row, F: Texts>(
+    live: &mut Live<R, F>,
+    p: Prefix<F>,
     new: Option<R>,
-) -> Result<Option<Change<R>>, Memory>
+) -> Result<Option<Change<R, Prefix<F>>>, Memory>
     ensures sent { IfOk result (IsSent (map.get live.old) (map.get live.new) p) }
     ensures live { OnOk result (live.new ≡ live_after live.old p new) }
     ensures after { IfOk result (λ sent. IfSome sent (λ change. change.after ≡ new)) }
@@ -37,13 +37,13 @@ fn set_live<R: Row>(
 }
 
 /// The same, with its entry on the link out of the top.
-pub(crate) fn feed_top<R: Valued>(
-    live: &mut Live<R>,
+pub(crate) fn feed_top<F: Texts, R: Valued<F>>(
+    live: &mut Live<R, F>,
     out: Link,
-    p: Prefix,
+    p: Prefix<F>,
     new: Option<R>,
-    journal: &mut Journal,
-) -> Result<Option<Change<R>>, Memory>
+    journal: &mut Journal<F>,
+) -> Result<Option<Change<R, Prefix<F>>>, Memory>
     ensures sent { IfOk result (IsSent (map.get live.old) (map.get live.new) p) }
     ensures live { OnOk result (live.new ≡ live_after live.old p new) }
     ensures after { IfOk result (λ sent. IfSome sent (λ change. change.after ≡ new)) }
@@ -55,12 +55,12 @@ pub(crate) fn feed_top<R: Valued>(
 }
 
 /// A change from above goes on below a deletion stage, with its entry on the link out of it.
-pub(crate) fn pass_on<R: Valued>(
-    deletion: &mut Deletion<R>,
+pub(crate) fn pass_on<F: Texts, R: Valued<F>>(
+    deletion: &mut Deletion<R, F>,
     out: Link,
-    change: Change<R>,
-    journal: &mut Journal,
-) -> Result<Option<Change<R>>, Memory>
+    change: Change<R, Prefix<F>>,
+    journal: &mut Journal<F>,
+) -> Result<Option<Change<R, Prefix<F>>>, Memory>
     ensures law { IfOk result (PassesOn deletion.old.rows deletion.new.rows change) }
     ensures apart { StaysApart deletion.old.rows deletion.new.rows change }
     ensures rows { deletion.new.rows ≡ map.remove deletion.old.rows change.prefix }
@@ -74,11 +74,11 @@ pub(crate) fn pass_on<R: Valued>(
 }
 
 /// The least row of a deletion stage goes, with the entry of its delete on the link out of it.
-pub(crate) fn sweep<R: Valued>(
-    deletion: &mut Deletion<R>,
+pub(crate) fn sweep<F: Texts, R: Valued<F>>(
+    deletion: &mut Deletion<R, F>,
     out: Link,
-    journal: &mut Journal,
-) -> Result<Change<R>, Memory>
+    journal: &mut Journal<F>,
+) -> Result<Change<R, Prefix<F>>, Memory>
     requires { is_empty_map deletion.old.rows ≡ false }
     ensures law { IfOk result (DeletesOn deletion.old.rows deletion.new.rows) }
     ensures least { IfOk result (λ sent. IsLeastRow (map.get deletion.old.rows) sent.prefix sent.before) }
@@ -95,11 +95,11 @@ pub(crate) fn sweep<R: Valued>(
 }
 
 /// A new top in a box, out of which this link begins.
-pub(crate) fn fresh_top<R: Row>(
+pub(crate) fn fresh_top<R: Row, F: Texts>(
     alloc: Global,
     link: Link,
-    journal: &mut Journal,
-) -> Result<Box<Stage<R>>, Memory>
+    journal: &mut Journal<F>,
+) -> Result<Box<Stage<R, F>>, Memory>
     ensures top { IfOk result (λ top. top.value ≡ Stage.Top map.empty) }
     ensures lines { OnOk result (journal.new ≡ with_entries journal.old (entries.Begin link ∷ [])) }
 {
@@ -109,14 +109,18 @@ pub(crate) fn fresh_top<R: Row>(
 }
 
 /// A deletion stage takes the place of a top, and holds another one.
-pub(crate) fn splice_in<R: Row>(stage: &mut Stage<R>, deletion: Deletion<R>, top: Box<Stage<R>>)
+pub(crate) fn splice_in<R: Row, F: Texts>(
+    stage: &mut Stage<R, F>,
+    deletion: Deletion<R, F>,
+    top: Box<Stage<R, F>>,
+)
     ensures { stage.new ≡ Stage.Deletion deletion top }
 {
     drop(mem::replace(stage, Stage::Deletion(deletion, top)));
 }
 
 // The stage above a deletion stage, which is dropped.
-fn above<R: Row>(stage: Stage<R>) -> Stage<R>
+fn above<R: Row, F: Texts>(stage: Stage<R, F>) -> Stage<R, F>
     ensures { result ≡ stage_above stage }
 {
     match stage {
@@ -126,7 +130,7 @@ fn above<R: Row>(stage: Stage<R>) -> Stage<R>
 }
 
 /// A deletion stage gives its place to the stage above it, and is dropped.
-pub(crate) fn splice_out<R: Row>(stage: &mut Stage<R>, alloc: Global)
+pub(crate) fn splice_out<R: Row, F: Texts>(stage: &mut Stage<R, F>, alloc: Global)
     ensures { stage.new ≡ stage_above stage.old }
 {
     let lowest = mem::replace(stage, Stage::Top(Live::new(alloc)));

@@ -17,30 +17,30 @@ use crate::deletion::Deletion;
 use crate::live::Live;
 use crate::owner::Owner;
 use crate::splice::{feed_top, fresh_top, pass_on, splice_in, splice_out, sweep};
-use addr4::{Memory, Prefix};
+use addr4::{Memory, Prefix, Texts, V4};
 use journal_text::{Entry, Journal, Link, Valued};
 use link_change::{Change, Turn};
 use std::alloc::Global;
 
 /// A stage with all that is above it.
 #[derive(Drop)]
-pub enum Stage<R> {
+pub enum Stage<R, F: Texts = V4> {
     /// The live rows.
-    Top(Live<R>),
+    Top(Live<R, F>),
     /// The rows of a loss whose deletes weren't sent yet, and the stage above.
-    Deletion(Deletion<R>, Box<Stage<R>>),
+    Deletion(Deletion<R, F>, Box<Stage<R, F>>),
 }
 
-impl<R: Valued> Stage<R> {
+impl<F: Texts, R: Valued<F>> Stage<R, F> {
     /// A row is set or taken away at the top.
     pub(crate) fn feed(
         &mut self,
         owner: Owner,
         out: Link,
-        p: Prefix,
+        p: Prefix<F>,
         new: Option<R>,
-        journal: &mut Journal,
-    ) -> Result<Option<Change<R>>, Memory>
+        journal: &mut Journal<F>,
+    ) -> Result<Option<Change<R, Prefix<F>>>, Memory>
         requires { IsSound out (tables_of self.old) }
         ensures sent { IfOk result (IsSent (rows_of self.old) (rows_of self.new) p) }
         ensures after { OnOk result (tables_of self.new ≡ fed_tables (tables_of self.old) p new) }
@@ -72,7 +72,7 @@ impl<R: Valued> Stage<R> {
         owner: Owner,
         out: Link,
         number: u32,
-        journal: &mut Journal,
+        journal: &mut Journal<F>,
     ) -> Result<(), Memory>
         requires sound { IsSound out (tables_of self.old) }
         requires above { rank_of out ≤ number }
@@ -107,7 +107,7 @@ impl<R: Valued> Stage<R> {
         alloc: Global,
         owner: Owner,
         out: Link,
-        journal: &mut Journal,
+        journal: &mut Journal<F>,
     ) -> Result<(), Memory>
         requires sound { IsSound out (tables_of self.old) }
         ensures after { OnOk result (tables_of self.new ≡ filled_once (tables_of self.old)) }
@@ -138,8 +138,8 @@ impl<R: Valued> Stage<R> {
         owner: Owner,
         out: Link,
         number: u32,
-        journal: &mut Journal,
-    ) -> Result<Turn<R>, Memory>
+        journal: &mut Journal<F>,
+    ) -> Result<Turn<R, Prefix<F>>, Memory>
         requires sound { IsSound out (tables_of self.old) }
         requires full { NoneEmpty (deletions_of self.old) }
         ensures taken { IfOk result (IsTakenOver R.value owner out (tables_of self.old) (tables_of self.new) number journal.old journal.new) }

@@ -3,6 +3,7 @@ use Rattle.std.proofs.Common.{◌≡◌, ℕ, zero, suc, ◌+◌, ◌-◌, ◌*�
 use Rattle.std.proofs.lemmas.List.{get_or-take, get_or-drop, take_all, length-drop}
 use Rattle.std.proofs.lemmas.Bool.{leb-true, lt-ltb, le-ltb, eq-eqb, ne_eqb}
 use Rattle.byteorder.specs.Endian.{big_from}
+use Rattle.addr4.specs.Families.{in_front}
 use Rattle.mrt_reader.specs.Records.{number_at}
 use Rattle.mrt_reader.specs.Fields.{Told, Said, Message, NoMessage, Malformed, Unused, Session, width_of, start_of, interface_at, is_used, is_well_sized, sides_in, are_speakers, told_by_state, told_by_message, told_in, said_of_ipv4, said_in, state_subtype}
 
@@ -44,7 +45,7 @@ sides_kept as4 kind xs =
     let local_as = number_kept (width_of as4) (start_of kind + width_of as4) 4120 xs (omega (arith, s, w)) in
     let peer = number_kept 4 (interface_at as4 kind + 4) 4120 xs (omega (arith, s, w)) in
     let local = number_kept 4 (interface_at as4 kind + 8) 4120 xs (omega (arith, s, w)) in
-    λ i. record { peer_as = peer_as i; local_as = local_as i; peer = peer i; local = local i }
+    λ i. record { peer_as = peer_as i; local_as = local_as i; peer = in_front (peer i); local = in_front (local i) }
 
 -- ---- what is told
 

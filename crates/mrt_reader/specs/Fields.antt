@@ -1,5 +1,6 @@
 -- What a record says of BGP sessions (RFC 6396, sections 4.4 and 3): types 16 and 17 are BGP4MP and the same with microseconds.
 use Rattle.std.specs.Prelude.{ℕ, ◌+◌, ◌*◌, ◌==◌, nat_lt, nat_le, Bool, not, ◌&&◌, ◌||◌, if◌then◌else◌, List, length, drop}
+use Rattle.addr4.specs.Families.{in_front}
 use Rattle.bgp_attr.specs.Hosts.{is_host}
 use Rattle.mrt_reader.specs.Records.{Record, number_at, kind_in, subtype_in}
 use Rattle.mrt_reader.specs.declared.fields.Sides.{Sides}
@@ -50,8 +51,8 @@ abbrev pub sides_in : Bool → ℕ → List ℕ → Sides
 sides_in as4 kind body = record {
   peer_as = number_at (width_of as4) (start_of kind) body;
   local_as = number_at (width_of as4) (start_of kind + width_of as4) body;
-  peer = number_at 4 (interface_at as4 kind + 4) body;
-  local = number_at 4 (interface_at as4 kind + 8) body;
+  peer = in_front (number_at 4 (interface_at as4 kind + 4) body);
+  local = in_front (number_at 4 (interface_at as4 kind + 8) body);
 }
 
 -- both sides have an AS number other than 0 and the address of a host

@@ -1,6 +1,7 @@
 -- The text of a file may be run: each line asks something of the lines before it, which they give.
 use Rattle.std.specs.Prelude.{◌≡◌, ◌⊎◌, ℕ, ◌+◌, ◌-◌, ◌*◌, ◌<◌, ◌≤◌, ◌^◌, ◌==◌, Bool, true, false, if◌then◌else◌, List, [], ◌∷◌, ◌++◌, length, Option, Some, None, ⊤}
 use Rattle.std.specs.List.{AllByRecursion}
+use Rattle.addr4.specs.Families.{IsIpv4}
 use Rattle.bgp_attr.specs.Hosts.{is_host}
 use Rattle.mrt_reader.specs.Records.{Record, AreBytes}
 use Rattle.mrt_reader.specs.Lines.{Line}
@@ -13,6 +14,7 @@ pub record IsSpeaker (as4 : Bool) (asn addr : ℕ) : Type 0 where
   pub narrow : as4 ≡ false → asn < 65536
   pub wide : asn < 2 ^ 32
   pub host : is_host addr ≡ true
+  pub ipv4 : IsIpv4 addr
 
 -- a peer with this number was declared
 pub record IsDeclared (w : Written) (k : ℕ) : Type 0 where

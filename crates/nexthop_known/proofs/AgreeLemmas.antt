@@ -6,7 +6,7 @@ use Rattle.std.proofs.lemmas.Bool.{cases_eq}
 use Rattle.addr4.specs.Prefixes.{AddressPrefix, Holds}
 use Rattle.addr4.proofs.PrefixOrder.{by_prefix}
 use Rattle.register_interest.specs.Width.{width}
-use Rattle.nexthop_known.specs.declared.answer.Hop.{Hop}
+use Rattle.nexthop_known.specs.Hops.{Hop}
 use Rattle.nexthop_known.specs.Hops.{Hops, came_at, settled, IsMapped, IsWithSome, IsUnshared}
 use Rattle.nexthop_known.specs.Agreement.{IsPresent, IsPutAt, IsInterestIn, GivesUp}
 use Rattle.nexthop_known.specs.Laws.{NothingAgrees, AnsweredAgrees, EarlyAgrees, EarlyIsGivenUp, ForgottenAgrees, SettledAgrees}

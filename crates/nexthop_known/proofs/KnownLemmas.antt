@@ -13,8 +13,8 @@ use Rattle.std.specs.FinMap as map
 use Rattle.std.proofs.lemmas.Bool.Decides.{nat_tests}
 use Rattle.addr4.specs.Prefixes.{AddressPrefix}
 use Rattle.link_change.proofs.MapLemmas.{map_read, read_in}
-use Rattle.nexthop_known.specs.declared.answer.Hop.{Hop}
-use Rattle.nexthop_known.specs.declared.index.Holding.{Holding}
+use Rattle.nexthop_known.specs.Hops.{Hop}
+use Rattle.nexthop_known.specs.Ties.{Holding}
 use Rattle.nexthop_known.specs.Hops.{Hops, is_with, came_at, is_stale_at, IsWithSome, IsWithNone, IsMapped, IsPartlyMapped, IsLeastStale, IsSettled, IsDiffering, IsUnshared, IsSettledAt, IsDifferingAt}
 use Rattle.nexthop_known.specs.Ties.{holding_cmp, AreTied, AreTold, Maps, PartlyMaps, IsFreed, IsHeldByNone}
 use Rattle.nexthop_known.proofs.HopLemmas.{same_self}

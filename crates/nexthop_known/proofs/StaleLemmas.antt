@@ -8,7 +8,7 @@ use Rattle.std.specs.FinMap.{FinMap, get, insert, remove, empty, entries, len, f
 use Rattle.std.specs.FinMap.Entries.{below_all, where_key, is_sorted-where_key, find-where_key}
 use Rattle.addr4.specs.Prefixes.{AddressPrefix}
 use Rattle.link_change.proofs.MapLemmas.{by_key, get_at, get_apart, removed_at, removed_apart}
-use Rattle.nexthop_known.specs.declared.answer.Hop.{Hop}
+use Rattle.nexthop_known.specs.Hops.{Hop}
 use Rattle.nexthop_known.specs.Hops.{Hops, is_stale_at, count_of}
 use Rattle.nexthop_known.specs.Laws.{NoneCounts, SomeCounts, OneCountsNoMore, SameCount, KnownCount, NoneStale}
 

@@ -18,8 +18,8 @@ use Rattle.std.proofs.lemmas.Bool.Decides.{nat_tests}
 use Rattle.addr4.specs.Prefixes.{AddressPrefix, prefix_cmp, same_prefix}
 use Rattle.addr4.proofs.PrefixOrder.{exact_prefixes, itself, comes_after}
 use Rattle.nexthop_known.proofs.HopLemmas.{both_equal, same_is, same_told, same_self, with_told}
-use Rattle.nexthop_known.specs.declared.answer.Hop.{Hop}
-use Rattle.nexthop_known.specs.declared.index.Holding.{Holding}
+use Rattle.nexthop_known.specs.Hops.{Hop}
+use Rattle.nexthop_known.specs.Ties.{Holding}
 use Rattle.nexthop_known.specs.Hops.{is_with, staled, came_at, is_stale_at, IsSettledAt}
 use Rattle.nexthop_known.specs.Ties.{holding_cmp, is_own, other_than, let_go, AreTied, AreTold, Puts, Sets, IsHeldByNone, Maps, PartlyMaps}
 

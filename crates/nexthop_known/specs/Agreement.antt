@@ -3,7 +3,7 @@
 use Rattle.std.specs.Prelude.{◌≡◌, ◌≢◌, ℕ, Bool, true, false, Option, Some, None}
 use Rattle.addr4.specs.Prefixes.{AddressPrefix, Holds}
 use Rattle.register_interest.specs.Width.{width}
-use Rattle.nexthop_known.specs.declared.answer.Hop.{Hop}
+use Rattle.nexthop_known.specs.Hops.{Hop}
 use Rattle.nexthop_known.specs.Hops.{IsWithSome}
 
 module _ {A : Type 0} where

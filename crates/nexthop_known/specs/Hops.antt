@@ -5,7 +5,11 @@ use Rattle.std.specs.Coded.{Coded, code_by, coded×, coded_option}
 use Rattle.std.specs.Ordering.{nat_cmp}
 use Rattle.std.specs.FinMap as map
 use Rattle.addr4.specs.Prefixes.{AddressPrefix, address_prefix_code, same_prefix}
-use Rattle.nexthop_known.specs.declared.answer.Hop.{Hop}
+use Rattle.nexthop_known.specs.declared.answer.Hop as declared
+
+-- a known next hop, whatever the family
+abbrev pub Hop : Type 0 → Type 0
+Hop A = declared.Hop A AddressPrefix
 
 abbrev pub hop_code : {A : Type 0} → Coded A → Coded (Hop A)
 hop_code {A} c = code_by (A × (A × Option AddressPrefix)) (coded× c (coded× c (coded_option address_prefix_code))) (λ h. (h.in_force, (h.fresh, h.came))) (λ p. record { in_force = p.0; fresh = p.1.0; came = p.1.1 }) (λ _. refl)

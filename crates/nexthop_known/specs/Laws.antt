@@ -4,7 +4,7 @@ use Rattle.std.specs.FinMap as map
 use Rattle.addr4.specs.Prefixes.{AddressPrefix, Holds}
 use Rattle.link_change.specs.Rows.{Rows, no_rows, with_row}
 use Rattle.register_interest.specs.Width.{width}
-use Rattle.nexthop_known.specs.declared.answer.Hop.{Hop}
+use Rattle.nexthop_known.specs.Hops.{Hop}
 use Rattle.nexthop_known.specs.Hops.{Hops, IsMapped, settled, came_at, IsLeastStale, IsWithSome, IsWithNone, IsUnshared, count_of, stale_count}
 use Rattle.nexthop_known.specs.Counts.{Counts, one_more, one_less, AreCounted, Recounts}
 use Rattle.nexthop_known.specs.Agreement.{Agree, IsPutAt, IsInterestIn, GivesUp}

@@ -8,9 +8,13 @@ use Rattle.std.specs.BTreeMap as tree
 use Rattle.std.specs.BTreeSet.{BTreeSet}
 use Rattle.std.specs.BTreeSet as set
 use Rattle.addr4.specs.Prefixes.{AddressPrefix, prefix_cmp}
-use Rattle.nexthop_known.specs.declared.answer.Hop.{Hop}
-use Rattle.nexthop_known.specs.declared.index.Holding.{Holding}
+use Rattle.nexthop_known.specs.Hops.{Hop}
+use Rattle.nexthop_known.specs.declared.index.Holding as declared
 use Rattle.nexthop_known.specs.Hops.{is_with, came_at, is_stale_at, IsSettledAt}
+
+-- a holding, whatever the family
+abbrev pub Holding : Type 0
+Holding = declared.Holding AddressPrefix ℕ
 
 -- by subnet, then address
 abbrev pub holding_cmp : Holding → Holding → Ordering

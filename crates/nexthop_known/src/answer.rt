@@ -13,11 +13,11 @@ pub trait Answer: Copy + Drop {
 
 /// A known next hop.
 #[derive(Clone, Copy, Drop)]
-pub struct Hop<A> {
+pub struct Hop<A, P = Prefix> {
     /// The answer that counts until the next change of all.
     pub in_force: A,
     /// The latest answer.
     pub fresh: A,
     /// The subnet with which the latest answer came, or none where that answer is stale.
-    pub came: Option<Prefix>,
+    pub came: Option<P>,
 }

@@ -10,49 +10,52 @@ ghost use Rattle.nexthop_known.specs.Hops.{came_at, is_stale_at, in_force_or, st
 ghost use Rattle.nexthop_known.specs.Ties.{holding_cmp, is_own, other_than, let_go, AreTied, AreTold, Puts, IsFreed, IsHeldByNone, Sets, Maps, PartlyMaps};
 
 use crate::answer::{Answer, Hop};
-use addr4::{Addr, Memory, Prefix};
+use addr4::{Addr, Family, Memory, Prefix};
 use std::collections::{BTreeMap, BTreeSet};
 use std::ops::Bound;
 
 // A next hop with the subnet of its answer.
 #[derive(Clone, Copy, PartialEq, Eq, PartialOrd, Ord)]
-pub(crate) struct Holding {
-    pub(crate) subnet: Prefix,
-    pub(crate) hop: Addr,
+pub(crate) struct Holding<P = Prefix, A = Addr> {
+    pub(crate) subnet: P,
+    pub(crate) hop: A,
 }
 
-fn copied(address: &Addr) -> Addr
+fn copied<F: Family>(address: &Addr<F>) -> Addr<F>
     ensures { result ≡ address.now }
 {
     *address
 }
 
-fn came_of<A: Answer>(row: &Hop<A>) -> Option<Prefix>
+fn came_of<A: Answer, F: Family>(row: &Hop<A, Prefix<F>>) -> Option<Prefix<F>>
     ensures { result ≡ row.now.came }
 {
     row.came
 }
 
-pub(crate) fn in_force_of<A: Answer>(row: &Hop<A>) -> A
+pub(crate) fn in_force_of<A: Answer, F: Family>(row: &Hop<A, Prefix<F>>) -> A
     ensures { result ≡ row.now.in_force }
 {
     row.in_force
 }
 
-pub(crate) fn fresh_of<A: Answer>(row: &Hop<A>) -> A
+pub(crate) fn fresh_of<A: Answer, F: Family>(row: &Hop<A, Prefix<F>>) -> A
     ensures { result ≡ row.now.fresh }
 {
     row.fresh
 }
 
-pub(crate) fn is_stale<A: Answer>(row: &Hop<A>) -> bool
+pub(crate) fn is_stale<A: Answer, F: Family>(row: &Hop<A, Prefix<F>>) -> bool
     ensures { result ≡ is_stale_at (Some row.now) }
 {
     row.came.is_none()
 }
 
 // The subnet of the answer, if the next hop is known and its answer isn't stale.
-pub(crate) fn came_at<A: Answer>(hops: &BTreeMap<Addr, Hop<A>>, hop: Addr) -> Option<Prefix>
+pub(crate) fn came_at<A: Answer, F: Family>(
+    hops: &BTreeMap<Addr<F>, Hop<A, Prefix<F>>>,
+    hop: Addr<F>,
+) -> Option<Prefix<F>>
     ensures { result ≡ came_at (tree.get nat_cmp hops.now hop) }
 {
     match hops.get(&hop) {
@@ -62,7 +65,11 @@ pub(crate) fn came_at<A: Answer>(hops: &BTreeMap<Addr, Hop<A>>, hop: Addr) -> Op
 }
 
 // The answer in force of a known next hop, or else this one.
-pub(crate) fn in_force_or<A: Answer>(hops: &BTreeMap<Addr, Hop<A>>, hop: Addr, answer: A) -> A
+pub(crate) fn in_force_or<A: Answer, F: Family>(
+    hops: &BTreeMap<Addr<F>, Hop<A, Prefix<F>>>,
+    hop: Addr<F>,
+    answer: A,
+) -> A
     ensures { result ≡ in_force_or answer (tree.get nat_cmp hops.now hop) }
 {
     match hops.get(&hop) {
@@ -72,7 +79,7 @@ pub(crate) fn in_force_or<A: Answer>(hops: &BTreeMap<Addr, Hop<A>>, hop: Addr, a
 }
 
 // The subnet, unless it is the other one.
-fn other_than(subnet: Prefix, came: &Option<Prefix>) -> Option<Prefix>
+fn other_than<F: Family>(subnet: Prefix<F>, came: &Option<Prefix<F>>) -> Option<Prefix<F>>
     ensures { result ≡ other_than subnet came.now }
 {
     match came {
@@ -87,7 +94,11 @@ fn other_than(subnet: Prefix, came: &Option<Prefix>) -> Option<Prefix>
 }
 
 // Takes out the holding of a next hop, if its answer came with a subnet.
-fn leave(held: &mut BTreeSet<Holding>, hop: Addr, came: &Option<Prefix>)
+fn leave<F: Family>(
+    held: &mut BTreeSet<Holding<Prefix<F>, Addr<F>>>,
+    hop: Addr<F>,
+    came: &Option<Prefix<F>>,
+)
     ensures { Sets holding_cmp (is_own hop came.now) false held.old held.new }
 {
     if let Some(subnet) = came {
@@ -100,12 +111,15 @@ fn leave(held: &mut BTreeSet<Holding>, hop: Addr, came: &Option<Prefix>)
 }
 
 // The least next hop whose answer came with the subnet.
-pub(crate) fn first_with(held: &BTreeSet<Holding>, subnet: Prefix) -> Option<Addr>
+pub(crate) fn first_with<F: Family>(
+    held: &BTreeSet<Holding<Prefix<F>, Addr<F>>>,
+    subnet: Prefix<F>,
+) -> Option<Addr<F>>
     ensures { MatchOption result (IsHeldByNone held.now subnet) (λ a. set.contains holding_cmp held.now (record { subnet = subnet; hop = a }) ≡ true) }
 {
     let from = Holding {
         subnet,
-        hop: Addr::new(0),
+        hop: Addr::unspecified(),
     };
     let mut range = held.range((Bound::Included(from), Bound::Unbounded));
     match range.next() {
@@ -120,13 +134,13 @@ pub(crate) fn first_with(held: &BTreeSet<Holding>, subnet: Prefix) -> Option<Add
 }
 
 // Puts a row whose answer came with the subnet. For want of memory nothing changes.
-pub(crate) fn put<A: Answer>(
-    hops: &mut BTreeMap<Addr, Hop<A>>,
-    stale: &mut BTreeSet<Addr>,
-    held: &mut BTreeSet<Holding>,
-    hop: Addr,
-    subnet: Prefix,
-    row: Hop<A>,
+pub(crate) fn put<A: Answer, F: Family>(
+    hops: &mut BTreeMap<Addr<F>, Hop<A, Prefix<F>>>,
+    stale: &mut BTreeSet<Addr<F>>,
+    held: &mut BTreeSet<Holding<Prefix<F>, Addr<F>>>,
+    hop: Addr<F>,
+    subnet: Prefix<F>,
+    row: Hop<A, Prefix<F>>,
 ) -> Result<(), Memory>
     requires tied { AreTied hops.old stale.old held.old }
     requires came { row.came ≡ Some subnet }
@@ -151,12 +165,12 @@ pub(crate) fn put<A: Answer>(
 }
 
 // Takes a known next hop out.
-pub(crate) fn take_out<A: Answer>(
-    hops: &mut BTreeMap<Addr, Hop<A>>,
-    stale: &mut BTreeSet<Addr>,
-    held: &mut BTreeSet<Holding>,
-    hop: Addr,
-) -> Option<Prefix>
+pub(crate) fn take_out<A: Answer, F: Family>(
+    hops: &mut BTreeMap<Addr<F>, Hop<A, Prefix<F>>>,
+    stale: &mut BTreeSet<Addr<F>>,
+    held: &mut BTreeSet<Holding<Prefix<F>, Addr<F>>>,
+    hop: Addr<F>,
+) -> Option<Prefix<F>>
     requires tied { AreTied hops.old stale.old held.old }
     ensures tied { AreTied hops.new stale.new held.new }
     ensures removed { Puts hops.old hops.new hop None }
@@ -170,7 +184,10 @@ pub(crate) fn take_out<A: Answer>(
 }
 
 // The subnet, unless there is none or the answer of some next hop came with it.
-pub(crate) fn unshared(held: &BTreeSet<Holding>, came: &Option<Prefix>) -> Option<Prefix>
+pub(crate) fn unshared<F: Family>(
+    held: &BTreeSet<Holding<Prefix<F>, Addr<F>>>,
+    came: &Option<Prefix<F>>,
+) -> Option<Prefix<F>>
     ensures { IsFreed held.now came.now result }
 {
     match came {
@@ -185,7 +202,11 @@ pub(crate) fn unshared(held: &BTreeSet<Holding>, came: &Option<Prefix>) -> Optio
 }
 
 // Notes a next hop among those that differ, where it does, and answers whether it is new there.
-pub(crate) fn mark(differing: &mut BTreeSet<Addr>, hop: Addr, differs: bool) -> Result<bool, Memory>
+pub(crate) fn mark<F: Family>(
+    differing: &mut BTreeSet<Addr<F>>,
+    hop: Addr<F>,
+    differs: bool,
+) -> Result<bool, Memory>
     ensures ok { OnOk result (Sets nat_cmp (λ q. differs && is_at (nat_cmp hop) q) true differing.old differing.new) }
     ensures added { IfOk result (λ added. added ≡ (differs && not (set.contains nat_cmp differing.old hop))) }
     ensures err { OnErr result (differing.new.keys ≡ differing.old.keys) }
@@ -198,7 +219,7 @@ pub(crate) fn mark(differing: &mut BTreeSet<Addr>, hop: Addr, differs: bool) -> 
 }
 
 // Takes a next hop from those that differ, where this is wanted.
-pub(crate) fn unmark(differing: &mut BTreeSet<Addr>, hop: Addr, wanted: bool)
+pub(crate) fn unmark<F: Family>(differing: &mut BTreeSet<Addr<F>>, hop: Addr<F>, wanted: bool)
     ensures { Sets nat_cmp (λ q. wanted && is_at (nat_cmp hop) q) false differing.old differing.new }
 {
     if wanted {
@@ -207,7 +228,7 @@ pub(crate) fn unmark(differing: &mut BTreeSet<Addr>, hop: Addr, wanted: bool)
 }
 
 // Makes a known next hop stale.
-fn make_stale<A: Answer>(hops: &mut BTreeMap<Addr, Hop<A>>, hop: Addr)
+fn make_stale<A: Answer, F: Family>(hops: &mut BTreeMap<Addr<F>, Hop<A, Prefix<F>>>, hop: Addr<F>)
     ensures { Puts hops.old hops.new hop (option_map let_go (tree.get nat_cmp hops.old hop)) }
 {
     if let Some(row) = hops.get_mut(&hop) {
@@ -216,7 +237,7 @@ fn make_stale<A: Answer>(hops: &mut BTreeMap<Addr, Hop<A>>, hop: Addr)
 }
 
 // Puts the fresh answer of a known next hop in force.
-fn put_in_force<A: Answer>(hops: &mut BTreeMap<Addr, Hop<A>>, hop: Addr)
+fn put_in_force<A: Answer, F: Family>(hops: &mut BTreeMap<Addr<F>, Hop<A, Prefix<F>>>, hop: Addr<F>)
     ensures { Puts hops.old hops.new hop (option_map settled (tree.get nat_cmp hops.old hop)) }
 {
     if let Some(row) = hops.get_mut(&hop) {
@@ -226,11 +247,11 @@ fn put_in_force<A: Answer>(hops: &mut BTreeMap<Addr, Hop<A>>, hop: Addr)
 
 // Makes stale the next hops whose answer came with the subnet. For want of memory some of them are stale, and the others as
 // they were.
-pub(crate) fn make_all_stale<A: Answer>(
-    hops: &mut BTreeMap<Addr, Hop<A>>,
-    stale: &mut BTreeSet<Addr>,
-    held: &mut BTreeSet<Holding>,
-    subnet: Prefix,
+pub(crate) fn make_all_stale<A: Answer, F: Family>(
+    hops: &mut BTreeMap<Addr<F>, Hop<A, Prefix<F>>>,
+    stale: &mut BTreeSet<Addr<F>>,
+    held: &mut BTreeSet<Holding<Prefix<F>, Addr<F>>>,
+    subnet: Prefix<F>,
 ) -> Result<(), Memory>
     requires tied { AreTied hops.old stale.old held.old }
     ensures tied { AreTied hops.new stale.new held.new }
@@ -246,9 +267,9 @@ pub(crate) fn make_all_stale<A: Answer>(
 }
 
 // Puts each fresh answer in force.
-pub(crate) fn put_all_in_force<A: Answer>(
-    hops: &mut BTreeMap<Addr, Hop<A>>,
-    differing: &mut BTreeSet<Addr>,
+pub(crate) fn put_all_in_force<A: Answer, F: Family>(
+    hops: &mut BTreeMap<Addr<F>, Hop<A, Prefix<F>>>,
+    differing: &mut BTreeSet<Addr<F>>,
 )
     requires { AreTold hops.old differing.old }
     ensures told { AreTold hops.new differing.new }

@@ -10,7 +10,7 @@ use crate::index::{
     Holding, first_with, fresh_of, in_force_of, in_force_or, is_stale, make_all_stale, mark, put,
     put_all_in_force, take_out, unmark, unshared,
 };
-use addr4::{Addr, Memory, Prefix};
+use addr4::{Addr, Family, Memory, Prefix, V4};
 use std::alloc::Global;
 use std::collections::{BTreeMap, BTreeSet};
 use std::marker::Model;
@@ -19,17 +19,17 @@ use std::marker::Model;
 ///
 /// Contracts see a finite map from addresses to what is kept of each.
 #[derive(Drop)]
-pub struct Known<A> {
-    hops: BTreeMap<Addr, Hop<A>>,
+pub struct Known<A, F: Family = V4> {
+    hops: BTreeMap<Addr<F>, Hop<A, Prefix<F>>>,
     // Those whose answer is stale.
-    stale: BTreeSet<Addr>,
+    stale: BTreeSet<Addr<F>>,
     // Those whose fresh answer differs from the one in force.
-    differing: BTreeSet<Addr>,
+    differing: BTreeSet<Addr<F>>,
     // Those whose answer isn't stale, by the subnet with which it came.
-    held: BTreeSet<Holding>,
+    held: BTreeSet<Holding<Prefix<F>, Addr<F>>>,
 }
 
-impl<A> Model for Known<A> {
+impl<A, F: Family> Model for Known<A, F> {
     ghost use Rattle.std.specs.FinMap as map;
     ghost use Rattle.std.specs.Coded.{coded_ℕ};
     ghost use Rattle.nexthop_known.specs.Hops.{Hops, hop_code};
@@ -44,9 +44,9 @@ impl<A> Model for Known<A> {
     ghost invariant = { λ k. AreIndexed k.hops k.stale k.differing k.held };
 }
 
-impl<A: Answer> Known<A> {
+impl<A: Answer, F: Family> Known<A, F> {
     /// No known next hop. Takes no memory.
-    pub fn new(alloc: Global) -> Known<A>
+    pub fn new(alloc: Global) -> Known<A, F>
         ensures { result ≡ map.empty }
     {
         Known {
@@ -66,7 +66,7 @@ impl<A: Answer> Known<A> {
 
     /// Adds an unknown next hop with its first answer, which came with the subnet and is in force at once. For want of memory
     /// nothing changes.
-    pub fn learn(&mut self, hop: Addr, subnet: Prefix, answer: A) -> Result<(), Memory>
+    pub fn learn(&mut self, hop: Addr<F>, subnet: Prefix<F>, answer: A) -> Result<(), Memory>
         requires { IsNone (map.get self.old hop) }
         ensures ok { OnOk result (self.new ≡ map.insert self.old hop (learnt subnet answer)) }
         ensures err { OnErr result (self.new ≡ self.old) }
@@ -90,7 +90,7 @@ impl<A: Answer> Known<A> {
 
     /// Keeps a further answer of a stale next hop, which came with the subnet and comes into force when all do. For want of
     /// memory nothing changes.
-    pub fn fresh(&mut self, hop: Addr, subnet: Prefix, answer: A) -> Result<(), Memory>
+    pub fn fresh(&mut self, hop: Addr<F>, subnet: Prefix<F>, answer: A) -> Result<(), Memory>
         requires { is_stale_at (map.get self.old hop) ≡ true }
         ensures ok { OnOk result (IsRenewed self.old self.new hop subnet answer) }
         ensures err { OnErr result (self.new ≡ self.old) }
@@ -124,7 +124,7 @@ impl<A: Answer> Known<A> {
 
     /// Takes a known next hop out, and answers the subnet with which its fresh answer came: none exactly where that was stale,
     /// or the answer of another known one that isn't stale came with that subnet.
-    pub fn forget(&mut self, hop: Addr) -> Option<Prefix>
+    pub fn forget(&mut self, hop: Addr<F>) -> Option<Prefix<F>>
         requires { IsSome (map.get self.old hop) }
         ensures removed { self.new ≡ map.remove self.old hop }
         ensures answer { IsGivenUp (map.get self.old) (map.get self.new) hop result }
@@ -135,7 +135,7 @@ impl<A: Answer> Known<A> {
     }
 
     /// Whether the answer of some known next hop that isn't stale came with the subnet.
-    pub fn is_answered_with(&self, subnet: Prefix) -> bool
+    pub fn is_answered_with(&self, subnet: Prefix<F>) -> bool
         ensures { MatchBool result (IsWithSome (map.get self.now) subnet) (IsWithNone (map.get self.now) subnet) }
     {
         first_with(&self.held, subnet).is_some()
@@ -143,7 +143,7 @@ impl<A: Answer> Known<A> {
 
     /// Makes stale the known next hops whose answer came with the subnet. For want of memory some of them are stale, and the
     /// others as they were.
-    pub fn stale(&mut self, subnet: Prefix) -> Result<(), Memory>
+    pub fn stale(&mut self, subnet: Prefix<F>) -> Result<(), Memory>
         ensures ok { OnOk result (IsMapped (staled subnet) self.old self.new) }
         ensures err { OnErr result (IsPartlyMapped (staled subnet) self.old self.new) }
     {
@@ -151,7 +151,7 @@ impl<A: Answer> Known<A> {
     }
 
     /// Whether the next hop is known and stale.
-    pub fn is_stale(&self, hop: Addr) -> bool
+    pub fn is_stale(&self, hop: Addr<F>) -> bool
         ensures { result ≡ is_stale_at (map.get self.now hop) }
     {
         match self.hops.get(&hop) {
@@ -161,7 +161,7 @@ impl<A: Answer> Known<A> {
     }
 
     /// The stale next hop of the least address.
-    pub fn next_stale(&self) -> Option<Addr>
+    pub fn next_stale(&self) -> Option<Addr<F>>
         ensures { IsLeastStale (map.get self.now) result }
     {
         match self.stale.first() {
@@ -178,7 +178,7 @@ impl<A: Answer> Known<A> {
     }
 
     /// The answer in force of a known next hop.
-    pub fn in_force(&self, hop: Addr) -> Option<A>
+    pub fn in_force(&self, hop: Addr<F>) -> Option<A>
         ensures { result ≡ option_map (λ h. h.in_force) (map.get self.now hop) }
     {
         match self.hops.get(&hop) {
@@ -188,7 +188,7 @@ impl<A: Answer> Known<A> {
     }
 
     /// The fresh answer of a known next hop.
-    pub fn fresh_of(&self, hop: Addr) -> Option<A>
+    pub fn fresh_of(&self, hop: Addr<F>) -> Option<A>
         ensures { result ≡ option_map (λ h. h.fresh) (map.get self.now hop) }
     {
         match self.hops.get(&hop) {
@@ -198,7 +198,7 @@ impl<A: Answer> Known<A> {
     }
 
     /// Whether the next hop is known, and its fresh answer isn't the one in force.
-    pub fn differs_at(&self, hop: Addr) -> bool
+    pub fn differs_at(&self, hop: Addr<F>) -> bool
         ensures { MatchBool result (IsDifferingAt (map.get self.now hop)) (IsSettledAt (map.get self.now hop)) }
     {
         self.differing.contains(&hop)

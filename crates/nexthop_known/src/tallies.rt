@@ -6,7 +6,7 @@ ghost use Rattle.std.specs.BTreeMap as tree;
 ghost use Rattle.std.specs.FinMap as map;
 ghost use Rattle.nexthop_known.specs.Counts.{one_more, one_less, is_one, counted_in, PutsCount};
 
-use addr4::{Addr, Memory};
+use addr4::{Addr, Family, Memory, V4};
 use std::alloc::Global;
 use std::collections::BTreeMap;
 use std::marker::Model;
@@ -15,11 +15,11 @@ use std::marker::Model;
 ///
 /// Contracts see a finite map from each address that some row names to how many rows name it beside one.
 #[derive(Drop)]
-pub struct Tallies {
-    others: BTreeMap<Addr, u64>,
+pub struct Tallies<F: Family = V4> {
+    others: BTreeMap<Addr<F>, u64>,
 }
 
-impl Model for Tallies {
+impl<F: Family> Model for Tallies<F> {
     ghost use Rattle.std.specs.FinMap as map;
     ghost use Rattle.std.specs.Coded.{coded_ℕ};
     ghost use Rattle.nexthop_known.specs.Counts.{Counts};
@@ -42,7 +42,7 @@ fn raised(count: u64) -> Result<u64, Memory>
 }
 
 // Sets the number of an address that has one.
-fn put_count(counts: &mut BTreeMap<Addr, u64>, hop: Addr, count: u64)
+fn put_count<F: Family>(counts: &mut BTreeMap<Addr<F>, u64>, hop: Addr<F>, count: u64)
     ensures { PutsCount counts.old counts.new hop count }
 {
     if let Some(others) = counts.get_mut(&hop) {
@@ -51,7 +51,7 @@ fn put_count(counts: &mut BTreeMap<Addr, u64>, hop: Addr, count: u64)
 }
 
 // The number of an address, if it has one.
-fn count_at(counts: &BTreeMap<Addr, u64>, hop: Addr) -> Option<u64>
+fn count_at<F: Family>(counts: &BTreeMap<Addr<F>, u64>, hop: Addr<F>) -> Option<u64>
     ensures { result ≡ tree.get nat_cmp counts.now hop }
 {
     match counts.get(&hop) {
@@ -60,9 +60,9 @@ fn count_at(counts: &BTreeMap<Addr, u64>, hop: Addr) -> Option<u64>
     }
 }
 
-impl Tallies {
+impl<F: Family> Tallies<F> {
     /// No row names any next hop. Takes no memory.
-    pub fn new(alloc: Global) -> Tallies
+    pub fn new(alloc: Global) -> Tallies<F>
         ensures { result ≡ map.empty }
     {
         Tallies {
@@ -72,7 +72,7 @@ impl Tallies {
 
     /// One row more names the next hop. Answers whether it is the first that does. For want of memory nothing changes; that too
     /// is the answer where the number has no more room, above two to the 64 rows.
-    pub fn one_more(&mut self, hop: Addr) -> Result<bool, Memory>
+    pub fn one_more(&mut self, hop: Addr<F>) -> Result<bool, Memory>
         ensures counts { OnOk result (self.new ≡ one_more self.old hop) }
         ensures first { IfOk result (λ first. first ≡ not (map.contains_key self.old hop)) }
         ensures memory { OnErr result (self.new ≡ self.old) }
@@ -91,7 +91,7 @@ impl Tallies {
     }
 
     /// One row less names the next hop, if one did. Answers whether it was the only one. Takes no memory.
-    pub fn one_less(&mut self, hop: Addr) -> bool
+    pub fn one_less(&mut self, hop: Addr<F>) -> bool
         ensures counts { self.new ≡ one_less self.old hop }
         ensures last { result ≡ is_one (map.get self.old hop) }
     {

@@ -17,8 +17,8 @@ digit_is level block a e = omega (arith, high_step level a)
 pub digits_before : (level block digit a : ℕ) → digit < 16 → high level a ≡ block * 16 + digit → high (level + 1) a ≡ block
 digits_before level block digit a small e = omega (arith, high_step level a)
 
-pub high_all : (a : ℕ) → a < 2 ^ 32 → high 8 a ≡ 0
-high_all a fits = let lt : a / 2 ^ 32 < 1 = shr_lt {n = a} 0 32 fits in omega arith
+pub high_all : (a : ℕ) → a < 2 ^ 128 → high 32 a ≡ 0
+high_all a fits = let lt : a / 2 ^ 128 < 1 = shr_lt {n = a} 0 128 fits in omega arith
 
 pub zero_high : (level : ℕ) → high level 0 ≡ 0
 zero_high level = omega (arith, div-le_self 0 (2 ^ (4 * level)))

@@ -7,7 +7,7 @@ use Rattle.std.specs.FinMap as map
 use Rattle.slab.specs.Slab.{Slab, get, Updates}
 use Rattle.addr4.specs.Prefixes.{AddressPrefix, prefix_cmp}
 use Rattle.addr4.proofs.PrefixOrder.{prefixes_total, exact_prefixes, one_prefix, itself, by_prefix}
-use Rattle.nibble_trie.specs.declared.node.Node.{Node}
+use Rattle.nibble_trie.specs.Leaves.{Node}
 use Rattle.nibble_trie.specs.Keys.{prefix_in}
 use Rattle.nibble_trie.specs.View.{listing, rows_of}
 use Rattle.nibble_trie.proofs.Digits.{some_same}

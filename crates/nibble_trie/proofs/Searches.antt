@@ -6,7 +6,7 @@ use Rattle.addr4.specs.Places.{IsBeyond}
 use Rattle.addr4.specs.Prefixes.{AddressPrefix}
 use Rattle.addr4.proofs.RankLemmas.{before_is, is_before}
 use Rattle.addr4.proofs.HalfLemmas.{one_address_prefix}
-use Rattle.nibble_trie.specs.declared.node.Node.{Node}
+use Rattle.nibble_trie.specs.Leaves.{Node}
 use Rattle.nibble_trie.specs.declared.link.Link.{Link}
 use Rattle.nibble_trie.specs.declared.link.Target.{Target}
 use Rattle.nibble_trie.specs.declared.link.Target.TheVariants.{Leaf, Inner}
@@ -40,7 +40,7 @@ pub behind_next : (keys : ℕ → Option AddressPrefix) (longer : ℕ → Option
 behind_next keys longer key length p link c found is lt = record { address = p.address; from = p.length + 1; within = omega arith; next = subst (λ l. IsNextOf keys p.address (p.length + 1) l) is (c.linked key p found) }
 
 -- fewer lengths are left behind it
-pub rest_falls : (keys : ℕ → Option AddressPrefix) (longer : ℕ → Option ℕ) (key : ℕ) (p : AddressPrefix) (link : Option ℕ) → IsChained keys longer → keys key ≡ Some p → p.length ≤ 32 → longer key ≡ link → rest_behind keys link < rest_of (Some p)
+pub rest_falls : (keys : ℕ → Option AddressPrefix) (longer : ℕ → Option ℕ) (key : ℕ) (p : AddressPrefix) (link : Option ℕ) → IsChained keys longer → keys key ≡ Some p → p.length ≤ 128 → longer key ≡ link → rest_behind keys link < rest_of (Some p)
 rest_falls keys longer key p None c found small is = omega arith
 rest_falls keys longer key p (Some m) c found small is =
     let n : IsNextOf keys p.address (p.length + 1) (Some m) = subst (λ l. IsNextOf keys p.address (p.length + 1) l) is (c.linked key p found) in
@@ -112,7 +112,7 @@ module _ (keys : ℕ → Option AddressPrefix) (index : Index) (branch level fir
           (inl (refl, refl), λ next rest. l.1 next (in_rest keys layout branch digit from least l.0 r next none (at_digit heads layout (Some (branch, digit)) (starts_digit heads layout at s)) rest))
 
 -- ---- from the root down
-pub top_starts : (keys : ℕ → Option AddressPrefix) (index : Index) (heads : ℕ → Option ℕ) (layout : Layout) (from least : ℕ) → IsLaid index heads layout → ((a : ℕ) → IsNextOf keys a 0 (heads a)) → from < 2 ^ 32 → Starts keys index heads layout None (leads index.root) 8 from least
+pub top_starts : (keys : ℕ → Option AddressPrefix) (index : Index) (heads : ℕ → Option ℕ) (layout : Layout) (from least : ℕ) → IsLaid index heads layout → ((a : ℕ) → IsNextOf keys a 0 (heads a)) → from < 2 ^ 128 → Starts keys index heads layout None (leads index.root) 32 from least
 top_starts keys index heads layout from least holds shortest fits = record {
   holds = holds;
   shortest = shortest;

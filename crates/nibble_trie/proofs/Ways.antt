@@ -51,7 +51,7 @@ pub target_some : (found : Option Branch) (branch : Branch) (digit : ℕ) → fo
 target_some found branch digit e = ap (λ f. target_in f digit) e
 
 -- ---- where a way ends
-pub inner_known : (index : Index) (a : ℕ) (spot : Spot) (branch : ℕ) → HasHeads index → IsSpotOf index a spot → spot.target ≡ Inner branch → is_live index branch × (0 < spot.level) × (spot.level ≤ 8)
+pub inner_known : (index : Index) (a : ℕ) (spot : Spot) (branch : ℕ) → HasHeads index → IsSpotOf index a spot → spot.target ≡ Inner branch → is_live index branch × (0 < spot.level) × (spot.level ≤ 32)
 inner_known index a spot branch has way is =
     let h = has.indexes.holds in
     let stands = (way has.heads has.indexes.layout h).stands in
@@ -60,21 +60,21 @@ inner_known index a spot branch has way is =
 pub spot_way : (index : Index) (layout : Layout) (end : End) (p a : ℕ) (spot : Spot) → a ≡ p → spot ≡ spot_at end a → OnWay index layout p (spot_at end p) → OnWay index layout a spot
 spot_way index layout end p a spot same is way = subst (OnWay index layout a) (sym is) (subst (λ b. OnWay index layout b (spot_at end b)) (sym same) way)
 
-pub spot_below : (end : End) (a : ℕ) → end.level < 8 → spot_at end a ≡ record { at = Some (end.branch, high end.level a % 16); level = end.level; target = leads end.link }
+pub spot_below : (end : End) (a : ℕ) → end.level < 32 → spot_at end a ≡ record { at = Some (end.branch, high end.level a % 16); level = end.level; target = leads end.link }
 spot_below end a lt =
     let digit : Option (ℕ × ℕ) = Some (end.branch, high end.level a % 16) in
-    ap (λ t. record { at = cond t None digit; level = end.level; target = leads end.link }) (ne_eqb end.level 8 (λ e. absurd (omega arith)))
+    ap (λ t. record { at = cond t None digit; level = end.level; target = leads end.link }) (ne_eqb end.level 32 (λ e. absurd (omega arith)))
 
 -- one digit more
 pub end_way : (index : Index) (heads : ℕ → Option ℕ) (layout : Layout) (a : ℕ) (end : End) (branch : ℕ) (links : Branch) (link : Link) → IsLaid index heads layout → leads end.link ≡ Inner branch → get index.branches branch ≡ Some links → leads link ≡ target_at links (high (end.level - 1) a % 16) → OnWay index layout a (spot_at end a) → OnWay index layout a (spot_at (record { branch = branch; level = end.level - 1; link = link }) a)
 end_way index heads layout a end branch links link h is found leads_to way =
     let level = end.level - 1 in
-    let short : level < 8 = omega (arith, way.stands.short, inner_level index heads layout (spot_at end a) branch h way.stands is) in
+    let short : level < 32 = omega (arith, way.stands.short, inner_level index heads layout (spot_at end a) branch h way.stands is) in
     let same = target_some _ _ (high level a % 16) found ∙ sym leads_to in
     let there : below index branch a level ≡ record { at = Some (branch, high level a % 16); level = level; target = leads link } = ap (λ t. record { at = Some (branch, high level a % 16); level = level; target = t }) same in
     subst (OnWay index layout a) (there ∙ sym (spot_below (record { branch = branch; level = level; link = link }) a short)) (below_way index heads layout a (spot_at end a) branch h is way)
 
-pub top_way : (index : Index) (layout : Layout) (a : ℕ) → a < 2 ^ 32 → OnWay index layout a (record { at = None; level = 8; target = leads index.root })
+pub top_way : (index : Index) (layout : Layout) (a : ℕ) → a < 2 ^ 128 → OnWay index layout a (record { at = None; level = 32; target = leads index.root })
 top_way index layout a fits = record { stands = record { place = tt; level = refl; leads = refl; short = omega arith }; lies = high_all a fits }
 
 pub leaf_fits : (index : Index) (heads : ℕ → Option ℕ) (layout : Layout) (spot : Spot) (key : ℕ) → IsLaid index heads layout → Stands index layout spot → spot.target ≡ Leaf key → Fits (is_live index) heads layout spot.at (Leaf key)

@@ -11,7 +11,7 @@ use Rattle.addr4.specs.Places.{IsBeyond, IsNextRow}
 use Rattle.addr4.proofs.HalfLemmas.{one_address_prefix}
 use Rattle.addr4.proofs.PrefixOrder.{prefixes_total, exact_prefixes}
 use Rattle.addr4.specs.Prefixes.{AddressPrefix, ComesBefore, prefix_cmp}
-use Rattle.nibble_trie.specs.declared.node.Node.{Node}
+use Rattle.nibble_trie.specs.Leaves.{Node}
 use Rattle.nibble_trie.specs.declared.link.Link.{Link}
 use Rattle.nibble_trie.specs.declared.branch.Branch.{Branch}
 use Rattle.nibble_trie.specs.declared.index.Index.{Index}
@@ -142,20 +142,20 @@ module _ {V : Type 0} where
   }
 
   -- the index may stay
-  pub whole_joined : (old new : Slab (Node V)) (index : Index) (p : AddressPrefix) (value : Option V) → IsWhole old index → Joins old new p value → (p.address < 2 ^ 32) × (p.length ≤ 32) → IsWhole new index
+  pub whole_joined : (old new : Slab (Node V)) (index : Index) (p : AddressPrefix) (value : Option V) → IsWhole old index → Joins old new p value → (p.address < 2 ^ 128) × (p.length ≤ 128) → IsWhole new index
   whole_joined old new index p value w j fits = record {
     heads = w.heads;
     indexes = w.indexes;
     shortest = λ a. j.heads a (w.heads a) (w.shortest a);
     chained = j.chained;
     small = λ k q at. elim (j.keys k q at) [
-      | inl e ↦ subst (λ (x : AddressPrefix). (x.address < 2 ^ 32) × (x.length ≤ 32)) (sym e) fits
+      | inl e ↦ subst (λ (x : AddressPrefix). (x.address < 2 ^ 128) × (x.length ≤ 128)) (sym e) fits
       | inr was ↦ w.small k q was
     ];
   }
 
   -- ---- a new first leaf
-  pub first_added : (old new : Slab (Node V)) (index after : Index) (key : ℕ) (n : Node V) (w : IsWhole old index) → IsHeadOf (prefix_in old) n.prefix (w.heads n.prefix.address) → get old key ≡ None → ((k : ℕ) → prefix_in old k ≡ Some n.prefix → ⊥) → Updates old new key (Some n) → leaf_of (leads n.longer) ≡ w.heads n.prefix.address → Indexes after (with_head w.heads n.prefix.address (Some key)) → (n.prefix.address < 2 ^ 32) × (n.prefix.length ≤ 32) → IsWhole new after
+  pub first_added : (old new : Slab (Node V)) (index after : Index) (key : ℕ) (n : Node V) (w : IsWhole old index) → IsHeadOf (prefix_in old) n.prefix (w.heads n.prefix.address) → get old key ≡ None → ((k : ℕ) → prefix_in old k ≡ Some n.prefix → ⊥) → Updates old new key (Some n) → leaf_of (leads n.longer) ≡ w.heads n.prefix.address → Indexes after (with_head w.heads n.prefix.address (Some key)) → (n.prefix.address < 2 ^ 128) × (n.prefix.length ≤ 128) → IsWhole new after
   first_added old new index after key n w is vacant absent u own indexes fits =
       let adds = adds_of old new key n vacant u absent in
       record {
@@ -164,7 +164,7 @@ module _ {V : Type 0} where
         shortest = first_heads (prefix_in old) (prefix_in new) key n.prefix adds (longer_in old) (longer_in new) w.chained w.heads w.shortest is;
         chained = first_chained (prefix_in old) (prefix_in new) key n.prefix adds (longer_in old) (longer_in new) w.chained (w.heads n.prefix.address) is (longer_found new key n u.changed ∙ own) (longer_others old new key (Some n) u);
         small = λ k q at. elim (was_there (prefix_in old) (prefix_in new) key n.prefix adds k q at) [
-          | inl x ↦ subst (λ (x : AddressPrefix). (x.address < 2 ^ 32) × (x.length ≤ 32)) (sym x.1) fits
+          | inl x ↦ subst (λ (x : AddressPrefix). (x.address < 2 ^ 128) × (x.length ≤ 128)) (sym x.1) fits
           | inr x ↦ w.small k q x.1
         ];
       }

@@ -38,7 +38,7 @@ pub record Layout : Type 0 where
   pub block : ℕ → ℕ
 
 abbrev pub level_of : Layout → Option (ℕ × ℕ) → ℕ
-level_of layout None = 8
+level_of layout None = 32
 level_of layout (Some at) = layout.level at.0
 
 abbrev pub block_of : Layout → Option (ℕ × ℕ) → ℕ
@@ -82,7 +82,7 @@ pub record Stands (index : Index) (layout : Layout) (spot : Spot) : Type 0 where
   pub place : IsPlace (is_live index) spot.at
   pub level : level_of layout spot.at ≡ spot.level
   pub leads : link_at index spot.at ≡ spot.target
-  pub short : spot.level ≤ 8
+  pub short : spot.level ≤ 32
 
 -- no other address of the place has a leaf
 abbrev pub IsAlone : (ℕ → Option ℕ) → Layout → Option (ℕ × ℕ) → ℕ → Type 0
@@ -99,7 +99,7 @@ IsSpotOf index a spot = (heads : ℕ → Option ℕ) (layout : Layout) → IsLai
 
 -- the place where a way ends, of the address that led there
 abbrev pub spot_at : End → ℕ → Spot
-spot_at end a = record { at = if nat_eq end.level 8 then None else Some (end.branch, high end.level a % 16); level = end.level; target = leads end.link }
+spot_at end a = record { at = if nat_eq end.level 32 then None else Some (end.branch, high end.level a % 16); level = end.level; target = leads end.link }
 
 pub record HasHeads (index : Index) : Type 0 where
   pub heads : ℕ → Option ℕ

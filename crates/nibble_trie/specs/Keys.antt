@@ -3,7 +3,7 @@ use Rattle.std.specs.Prelude.{◌≡◌, ℕ, ◌+◌, ◌-◌, ◌<◌, ◌≤�
 use Rattle.slab.specs.Slab.{Slab, get}
 use Rattle.addr4.specs.Places.{IsBeyond}
 use Rattle.addr4.specs.Prefixes.{AddressPrefix, ComesBefore}
-use Rattle.nibble_trie.specs.declared.node.Node.{Node}
+use Rattle.nibble_trie.specs.Leaves.{Node}
 use Rattle.nibble_trie.specs.Links.{leads, leaf_of}
 
 module _ {V : Type 0} where
@@ -44,9 +44,9 @@ pub record IsLastBelow (keys : ℕ → Option AddressPrefix) (longer : ℕ → O
 abbrev pub IsHeadOf : (ℕ → Option AddressPrefix) → AddressPrefix → Option ℕ → Type 0
 IsHeadOf keys p head = IsNextOf keys p.address 0 head × IsNextOf keys p.address p.length head
 
--- addresses have 32 bits
+-- addresses are numbers of 128 bits
 abbrev pub IsSmall : (ℕ → Option AddressPrefix) → Type 0
-IsSmall keys = (k : ℕ) (p : AddressPrefix) → keys k ≡ Some p → (p.address < 2 ^ 32) × (p.length ≤ 32)
+IsSmall keys = (k : ℕ) (p : AddressPrefix) → keys k ≡ Some p → (p.address < 2 ^ 128) × (p.length ≤ 128)
 
 -- the leaf of a prefix
 abbrev pub IsLeafOf : (ℕ → Option AddressPrefix) → AddressPrefix → Option ℕ → Type 0
@@ -73,7 +73,7 @@ IsOfAddressFrom a from least p = (p.address ≡ a) × IsFrom from least p
 -- how much longer prefixes may come behind a link
 abbrev pub rest_of : Option AddressPrefix → ℕ
 rest_of None = 0
-rest_of (Some p) = 33 - p.length
+rest_of (Some p) = 129 - p.length
 
 abbrev pub rest_behind : (ℕ → Option AddressPrefix) → Option ℕ → ℕ
 rest_behind keys None = 0

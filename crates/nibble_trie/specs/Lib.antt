@@ -1,3 +1,4 @@
+pub mod Leaves
 pub mod Links
 pub mod Keys
 pub mod Index

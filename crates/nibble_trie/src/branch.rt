@@ -6,6 +6,7 @@ ghost use Rattle.nibble_trie.specs.Index.{high};
 ghost use Rattle.nibble_trie.specs.declared.link.Target.TheVariants.{Nothing};
 
 use crate::link::{Link, Target};
+use addr4::{Addr, Family};
 
 /// A link for each value of four bits.
 #[derive(Drop)]
@@ -14,12 +15,12 @@ pub(crate) struct Branch {
 }
 
 // The digit of an address that so many others follow.
-pub(crate) fn digit_of(address: u32, level: u32) -> usize
-    requires { level < 8 }
+pub(crate) fn digit_of<F: Family>(address: Addr<F>, level: u32) -> usize
+    requires { level < 32 }
     ensures digit { result ≡ high level address % 16 }
     ensures small { result < 16 }
 {
-    ((address >> (4 * level)) % 16) as usize
+    address.digit(level)
 }
 
 impl Branch {

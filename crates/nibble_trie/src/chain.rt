@@ -6,11 +6,15 @@ ghost use Rattle.slab.specs.Slab.{ContainsKey};
 ghost use Rattle.nibble_trie.specs.Keys.{prefix_in, longer_in, IsNextOf, IsChained, HasNext, IsLastBelow, IsLeafOf, IsFirstOf, IsOfAddressFrom};
 
 use crate::node::Node;
-use addr4::Prefix;
+use addr4::{Addr, Family, Prefix};
 use slab::Slab;
 
 // The first leaf of an address from a length on, under a link to the first from a lesser one.
-pub(crate) fn seek<V>(leaves: &Slab<Node<V>>, link: Option<usize>, length: u8) -> Option<usize>
+pub(crate) fn seek<V, F: Family>(
+    leaves: &Slab<Node<V, Prefix<F>>>,
+    link: Option<usize>,
+    length: u8,
+) -> Option<usize>
     requires chained { IsChained (prefix_in leaves.now) (longer_in leaves.now) }
     requires next { HasNext (prefix_in leaves.now) link length }
     ensures { (a from : ℕ) → from ≤ length → IsNextOf (prefix_in leaves.now) a from link → IsNextOf (prefix_in leaves.now) a length result }
@@ -27,10 +31,10 @@ pub(crate) fn seek<V>(leaves: &Slab<Node<V>>, link: Option<usize>, length: u8) -
 }
 
 // The first leaf of an address from another address and a length on, under the key of the address's first.
-pub(crate) fn first_from<V>(
-    leaves: &Slab<Node<V>>,
+pub(crate) fn first_from<V, F: Family>(
+    leaves: &Slab<Node<V, Prefix<F>>>,
     key: usize,
-    from: u32,
+    from: Addr<F>,
     least: u8,
 ) -> Option<usize>
     requires chained { IsChained (prefix_in leaves.now) (longer_in leaves.now) }
@@ -38,7 +42,7 @@ pub(crate) fn first_from<V>(
     ensures { (a : ℕ) → IsNextOf (prefix_in leaves.now) a 0 (Some key) → IsFirstOf (prefix_in leaves.now) (IsOfAddressFrom a from least) result }
 {
     let node = &leaves[key];
-    let address = node.prefix.address().number();
+    let address = node.prefix.address();
     if address < from {
         return None;
     }
@@ -49,7 +53,11 @@ pub(crate) fn first_from<V>(
 }
 
 // The leaf of an address and a length, if that is what a link to the first from the length on leads to.
-pub(crate) fn exact<V>(leaves: &Slab<Node<V>>, link: Option<usize>, length: u8) -> Option<usize>
+pub(crate) fn exact<V, F: Family>(
+    leaves: &Slab<Node<V, Prefix<F>>>,
+    link: Option<usize>,
+    length: u8,
+) -> Option<usize>
     requires { HasNext (prefix_in leaves.now) link length }
     ensures { (a : ℕ) → IsNextOf (prefix_in leaves.now) a length link → IsLeafOf (prefix_in leaves.now) (record { address = a; length = length }) result }
 {
@@ -66,7 +74,11 @@ pub(crate) fn exact<V>(leaves: &Slab<Node<V>>, link: Option<usize>, length: u8) 
 }
 
 // The leaf of an address and a length, under the link to the address's first.
-pub(crate) fn find<V>(leaves: &Slab<Node<V>>, link: Option<usize>, length: u8) -> Option<usize>
+pub(crate) fn find<V, F: Family>(
+    leaves: &Slab<Node<V, Prefix<F>>>,
+    link: Option<usize>,
+    length: u8,
+) -> Option<usize>
     requires chained { IsChained (prefix_in leaves.now) (longer_in leaves.now) }
     requires next { HasNext (prefix_in leaves.now) link 0 }
     ensures { (a : ℕ) → IsNextOf (prefix_in leaves.now) a 0 link → IsLeafOf (prefix_in leaves.now) (record { address = a; length = length }) result }
@@ -75,7 +87,11 @@ pub(crate) fn find<V>(leaves: &Slab<Node<V>>, link: Option<usize>, length: u8) -
 }
 
 // The last leaf of an address below a length: the first one given is below it.
-pub(crate) fn last_below<V>(leaves: &Slab<Node<V>>, key: usize, length: u8) -> usize
+pub(crate) fn last_below<V, F: Family>(
+    leaves: &Slab<Node<V, Prefix<F>>>,
+    key: usize,
+    length: u8,
+) -> usize
     requires chained { IsChained (prefix_in leaves.now) (longer_in leaves.now) }
     requires has { ContainsKey leaves.now key }
     requires below { (p : AddressPrefix) → prefix_in leaves.now key ≡ Some p → p.length < length }
@@ -95,10 +111,10 @@ pub(crate) fn last_below<V>(leaves: &Slab<Node<V>>, key: usize, length: u8) -> u
 
 // Where a prefix stands among the leaves of its address, of which the first one is shorter: the last one below it, and its
 // own.
-pub(crate) fn place_behind<V>(
-    leaves: &Slab<Node<V>>,
+pub(crate) fn place_behind<V, F: Family>(
+    leaves: &Slab<Node<V, Prefix<F>>>,
     first: usize,
-    prefix: Prefix,
+    prefix: Prefix<F>,
 ) -> (usize, Option<usize>)
     requires chained { IsChained (prefix_in leaves.now) (longer_in leaves.now) }
     requires has { ContainsKey leaves.now first }

@@ -10,6 +10,7 @@ ghost use Rattle.nibble_trie.specs.Index.{Layout, high, link_at, is_live, IsPlac
 use crate::branch::{Branch, digit_of};
 use crate::link::{Link, Target};
 use crate::node::Node;
+use addr4::{Addr, Family, Prefix};
 use slab::Slab;
 use std::alloc::Global;
 
@@ -40,11 +41,11 @@ pub(crate) struct End {
 
 impl End {
     // The place of the last link.
-    pub(crate) fn spot(self, address: u32) -> Spot
-        requires { self.level ≤ 8 }
+    pub(crate) fn spot<F: Family>(self, address: Addr<F>) -> Spot
+        requires { self.level ≤ 32 }
         ensures { result ≡ spot_at self address }
     {
-        let at = if self.level == 8 {
+        let at = if self.level == 32 {
             None
         } else {
             Some((self.branch, digit_of(address, self.level)))
@@ -69,19 +70,19 @@ impl Index {
 
     // The root's place.
     pub(crate) fn top(&self) -> Spot
-        ensures { result ≡ record { at = None; level = 8; target = leads self.now.root } }
+        ensures { result ≡ record { at = None; level = 32; target = leads self.now.root } }
     {
         Spot {
             at: None,
-            level: 8,
+            level: 32,
             target: self.root.target(),
         }
     }
 
     // The place below a branch on an address's way.
-    pub(crate) fn below(&self, branch: usize, address: u32, level: u32) -> Spot
+    pub(crate) fn below<F: Family>(&self, branch: usize, address: Addr<F>, level: u32) -> Spot
         requires live { is_live self.now branch }
-        requires short { level < 8 }
+        requires short { level < 32 }
         ensures { result ≡ record { at = Some (branch, high level address % 16); level = level; target = link_at self.now (Some (branch, high level address % 16)) } }
     {
         let digit = digit_of(address, level);
@@ -94,14 +95,15 @@ impl Index {
     }
 
     // Where the way of an address ends: from the root down to where no branch is. Words alone go down, no places.
-    pub(crate) fn end_of(&self, address: u32) -> End
+    pub(crate) fn end_of<F: Family>(&self, address: Addr<F>) -> End
         requires { HasHeads self.now }
         ensures way { IsSpotOf self.now address (spot_at result address) }
         ensures cell { IsCell (leads result.link) }
     {
+        address.known();
         let mut end = End {
             branch: 0,
-            level: 8,
+            level: 32,
             link: self.root,
         };
         'way: loop {
@@ -122,7 +124,12 @@ impl Index {
     }
 
     // The first leaf of an address, where its way ends.
-    pub(crate) fn head<V>(&self, leaves: &Slab<Node<V>>, end: End, address: u32) -> Option<usize>
+    pub(crate) fn head<V, F: Family>(
+        &self,
+        leaves: &Slab<Node<V, Prefix<F>>>,
+        end: End,
+        address: Addr<F>,
+    ) -> Option<usize>
         requires way { HasNamedWay (prefix_in leaves.now) self.now address (spot_at end address) }
         requires cell { IsCell (leads end.link) }
         ensures { (heads : ℕ → Option ℕ) (layout : Layout) → IsLaid self.now heads layout → Names (prefix_in leaves.now) heads → OnWay self.now layout address (spot_at end address) → result ≡ heads address }
@@ -131,7 +138,7 @@ impl Index {
             Target::Nothing => None,
             Target::Leaf(key) => {
                 let node = &leaves[key];
-                if node.prefix.address().number() == address {
+                if node.prefix.address() == address {
                     Some(key)
                 } else {
                     None
@@ -168,7 +175,7 @@ impl Index {
     }
 
     // Makes a leaf the first of an address, at its place, where no other address has one.
-    pub(crate) fn point(&mut self, spot: Spot, address: u32, key: usize)
+    pub(crate) fn point<F: Family>(&mut self, spot: Spot, address: Addr<F>, key: usize)
         requires way { HasLoneWay self.old address spot }
         requires cell { IsCell spot.target }
         requires small { key + 1 < 2 ^ 31 }
@@ -178,7 +185,13 @@ impl Index {
     }
 
     // Makes a leaf the first of an address, at its place.
-    pub(crate) fn put<V>(&mut self, leaves: &Slab<Node<V>>, spot: Spot, address: u32, key: usize)
+    pub(crate) fn put<V, F: Family>(
+        &mut self,
+        leaves: &Slab<Node<V, Prefix<F>>>,
+        spot: Spot,
+        address: Addr<F>,
+        key: usize,
+    )
         requires way { HasNamedWay (prefix_in leaves.now) self.old address spot }
         requires cell { IsCell spot.target }
         requires small { key + 1 < 2 ^ 31 }
@@ -190,7 +203,7 @@ impl Index {
             Target::Nothing => self.point(spot, address, key),
             Target::Leaf(other) => {
                 let node = &leaves[other];
-                let standing = node.prefix.address().number();
+                let standing = node.prefix.address();
                 if standing == address {
                     return self.point(spot, address, key);
                 }
@@ -202,7 +215,7 @@ impl Index {
     }
 
     // Puts a branch between a place and its leaf, which stands for one address, on the way of another one.
-    fn split(&mut self, spot: Spot, standing: u32, address: u32) -> Spot
+    fn split<F: Family>(&mut self, spot: Spot, standing: Addr<F>, address: Addr<F>) -> Spot
         requires way { HasWay self.old address spot }
         requires deep { 0 < spot.level }
         requires room { HasRoomFor self.old.branches spot.level }
@@ -222,7 +235,7 @@ impl Index {
     }
 
     // The place that leads to a branch on an address's way, from one above it on.
-    fn above(&self, branch: usize, address: u32, mut spot: Spot) -> Spot
+    fn above<F: Family>(&self, branch: usize, address: Addr<F>, mut spot: Spot) -> Spot
         requires { IsAbove self.now address branch spot }
         ensures way { (heads : ℕ → Option ℕ) (layout : Layout) → IsLaid self.now heads layout → OnWay self.now layout address spot → OnWay self.now layout address result }
         ensures target { result.target ≡ Inner branch }
@@ -242,10 +255,11 @@ impl Index {
     }
 
     // Takes away the branch of a bare link, if it has no other, and those above that are left without.
-    fn prune(&mut self, at: Option<(usize, usize)>, address: u32)
+    fn prune<F: Family>(&mut self, at: Option<(usize, usize)>, address: Addr<F>)
         requires { IsBare self.old address at }
         ensures { (heads : ℕ → Option ℕ) → Indexes self.old heads → Indexes self.new heads }
     {
+        address.known();
         let branch = match at {
             None => return,
             Some(at) => at.0,
@@ -261,7 +275,7 @@ impl Index {
     }
 
     // Makes an address one without a leaf, at its place, where no other has one.
-    pub(crate) fn clear(&mut self, spot: Spot, address: u32)
+    pub(crate) fn clear<F: Family>(&mut self, spot: Spot, address: Addr<F>)
         requires way { HasLoneWay self.old address spot }
         requires cell { IsCell spot.target }
         ensures { (heads : ℕ → Option ℕ) (layout : Layout) → IsLaid self.old heads layout → OnWay self.old layout address spot → IsAlone heads layout spot.at address → Indexes self.new (with_head heads address None) }

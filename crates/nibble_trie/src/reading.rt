@@ -14,28 +14,32 @@ use crate::chain;
 use crate::index::{End, Index};
 use crate::link::{Link, Target};
 use crate::node::Node;
-use addr4::{Place, Prefix};
+use addr4::{Addr, Family, Place, Prefix};
 use slab::Slab;
 
 // Where the way of a prefix's address ends in the index, and the first leaf of that address.
-pub(crate) fn first_leaf<V>(
+pub(crate) fn first_leaf<V, F: Family>(
     index: &Index,
-    leaves: &Slab<Node<V>>,
-    prefix: Prefix,
+    leaves: &Slab<Node<V, Prefix<F>>>,
+    prefix: Prefix<F>,
 ) -> (End, Option<usize>)
     requires { IsWhole leaves.now index.now }
     ensures way { IsSpotOf index.now prefix.address (spot_at result.0 prefix.address) }
     ensures cell { IsCell (leads result.0.link) }
     ensures head { IsNextOf (prefix_in leaves.now) prefix.address 0 result.1 }
 {
-    let address = prefix.address().number();
+    let address = prefix.address();
     let end = index.end_of(address);
     let head = index.head(leaves, end, address);
     (end, head)
 }
 
 // The leaf of a prefix.
-pub(crate) fn find<V>(index: &Index, leaves: &Slab<Node<V>>, prefix: Prefix) -> Option<usize>
+pub(crate) fn find<V, F: Family>(
+    index: &Index,
+    leaves: &Slab<Node<V, Prefix<F>>>,
+    prefix: Prefix<F>,
+) -> Option<usize>
     requires { IsWhole leaves.now index.now }
     ensures { IsLeafOf (prefix_in leaves.now) prefix result }
 {
@@ -44,7 +48,7 @@ pub(crate) fn find<V>(index: &Index, leaves: &Slab<Node<V>>, prefix: Prefix) -> 
 }
 
 // Whether the leaf of a prefix lies at a key.
-fn is_at<V>(leaves: &Slab<Node<V>>, key: usize, prefix: Prefix) -> bool
+fn is_at<V, F: Family>(leaves: &Slab<Node<V, Prefix<F>>>, key: usize, prefix: Prefix<F>) -> bool
     ensures { IsTrue result ↔ (prefix_in leaves.now key ≡ Some prefix) }
 {
     let node = match leaves.get(key) {
@@ -54,18 +58,18 @@ fn is_at<V>(leaves: &Slab<Node<V>>, key: usize, prefix: Prefix) -> bool
     if node.prefix.length() != prefix.length() {
         return false;
     }
-    if node.prefix.address().number() != prefix.address().number() {
+    if node.prefix.address() != prefix.address() {
         return false;
     }
     true
 }
 
 // The leaf of a prefix, which may lie at a key.
-pub(crate) fn find_near<V>(
+pub(crate) fn find_near<V, F: Family>(
     index: &Index,
-    leaves: &Slab<Node<V>>,
+    leaves: &Slab<Node<V, Prefix<F>>>,
     near: usize,
-    prefix: Prefix,
+    prefix: Prefix<F>,
 ) -> Option<usize>
     requires { IsWhole leaves.now index.now }
     ensures { IsLeafOf (prefix_in leaves.now) prefix result }
@@ -78,12 +82,12 @@ pub(crate) fn find_near<V>(
 
 // The leaf of the first key from an address and a length on, among the addresses of a link.
 #[cycle(next)]
-fn first_at<V>(
+fn first_at<V, F: Family>(
     index: &Index,
-    leaves: &Slab<Node<V>>,
+    leaves: &Slab<Node<V, Prefix<F>>>,
     link: Link,
     level: u32,
-    from: u32,
+    from: Addr<F>,
     least: u8,
 ) -> Option<usize>
     requires chained { IsChained (prefix_in leaves.now) (longer_in leaves.now) }
@@ -100,12 +104,12 @@ fn first_at<V>(
 // The same among the addresses of a link that leads to a branch: of the first digit from there on, of the others the first
 // of all.
 #[cycle(next)]
-fn first_in<V>(
+fn first_in<V, F: Family>(
     index: &Index,
-    leaves: &Slab<Node<V>>,
+    leaves: &Slab<Node<V, Prefix<F>>>,
     branch: usize,
     level: u32,
-    mut from: u32,
+    mut from: Addr<F>,
     mut least: u8,
 ) -> Option<usize>
     requires chained { IsChained (prefix_in leaves.now) (longer_in leaves.now) }
@@ -119,26 +123,32 @@ fn first_in<V>(
         if found.is_some() {
             return found;
         }
-        from = 0;
+        from = Addr::unspecified();
         least = 0;
     }
     None
 }
 
 // The leaf of the first key from an address and a length on.
-fn first_from<V>(index: &Index, leaves: &Slab<Node<V>>, from: u32, least: u8) -> Option<usize>
+fn first_from<V, F: Family>(
+    index: &Index,
+    leaves: &Slab<Node<V, Prefix<F>>>,
+    from: Addr<F>,
+    least: u8,
+) -> Option<usize>
     requires { IsWhole leaves.now index.now }
     ensures { IsFirstOf (prefix_in leaves.now) (IsFrom from least) result }
 {
-    first_at(index, leaves, index.root, 8, from, least)
+    from.known();
+    first_at(index, leaves, index.root, 32, from, least)
 }
 
 // The leaf of the first key beyond a prefix, whose own leaf may lie at a key.
-fn next_behind<V>(
+fn next_behind<V, F: Family>(
     index: &Index,
-    leaves: &Slab<Node<V>>,
+    leaves: &Slab<Node<V, Prefix<F>>>,
     near: usize,
-    prefix: Prefix,
+    prefix: Prefix<F>,
 ) -> Option<usize>
     requires { IsWhole leaves.now index.now }
     ensures { IsNextLeaf (prefix_in leaves.now) (Some prefix) result }
@@ -150,26 +160,21 @@ fn next_behind<V>(
             return longer;
         }
     }
-    first_from(
-        index,
-        leaves,
-        prefix.address().number(),
-        prefix.length() + 1,
-    )
+    first_from(index, leaves, prefix.address(), prefix.length() + 1)
 }
 
 // The leaf of the first key beyond a place, at which a leaf may lie at a key.
-pub(crate) fn next_leaf<V>(
+pub(crate) fn next_leaf<V, F: Family>(
     index: &Index,
-    leaves: &Slab<Node<V>>,
+    leaves: &Slab<Node<V, Prefix<F>>>,
     near: usize,
-    after: Place,
+    after: Place<Prefix<F>>,
 ) -> Option<usize>
     requires { IsWhole leaves.now index.now }
     ensures { IsNextLeaf (prefix_in leaves.now) (key_of after) result }
 {
     match after {
-        Place::Before => first_from(index, leaves, 0, 0),
+        Place::Before => first_from(index, leaves, Addr::unspecified(), 0),
         Place::At(prefix) => next_behind(index, leaves, near, prefix),
     }
 }

@@ -10,7 +10,7 @@ ghost use Rattle.nibble_trie.specs.Contents.{HasKey};
 use crate::index::Index;
 use crate::node::Node;
 use crate::{reading, writing};
-use addr4::{Place, Prefix};
+use addr4::{Family, Place, Prefix, V4};
 use slab::Slab;
 use std::alloc::Global;
 use std::marker::Model;
@@ -18,12 +18,12 @@ use std::marker::Model;
 /// A map from prefixes to values. Contracts see its rows, a finite map, and of each key in [`nodes`](Trie::nodes) the prefix
 /// of the leaf that lies there.
 #[derive(Drop)]
-pub struct Trie<V> {
-    leaves: Slab<Node<V>>,
+pub struct Trie<V, F: Family = V4> {
+    leaves: Slab<Node<V, Prefix<F>>>,
     index: Index,
 }
 
-impl<V> Model for Trie<V> {
+impl<V, F: Family> Model for Trie<V, F> {
     ghost use Rattle.nibble_trie.specs.Contents.{Contents, contents_code};
 
     ghost Value = { Contents V };
@@ -38,7 +38,7 @@ impl<V> Model for Trie<V> {
     ghost invariant = { λ t. IsWhole t.leaves t.index };
 }
 
-impl<V> Trie<V> {
+impl<V, F: Family> Trie<V, F> {
     ghost use Rattle.nibble_trie.specs.Lent.{lends_value, lends_get};
     ghost use Rattle.nibble_trie.specs.Contents.{LiesAt};
     ghost use Rattle.nibble_trie.specs.Nodes.{HasNodes, prefixes_of};
@@ -55,7 +55,7 @@ impl<V> Trie<V> {
 
     /// Puts a value at a prefix, and answers the one that stood there. For want of memory the value is handed back and the
     /// rows stay; so they do where there are 2^31 keys.
-    pub fn insert(&mut self, prefix: Prefix, value: V) -> Result<Option<V>, V>
+    pub fn insert(&mut self, prefix: Prefix<F>, value: V) -> Result<Option<V>, V>
         ensures before { IfOk result (λ before. before ≡ map.get self.old.rows prefix) }
         ensures ok { OnOk result (self.new.rows ≡ map.insert self.old.rows prefix value) }
         ensures value_returned { IfErr result (λ back. back ≡ value) }
@@ -69,7 +69,7 @@ impl<V> Trie<V> {
     }
 
     /// Takes out what stands at a prefix. Takes no memory, as all calls below.
-    pub fn remove(&mut self, prefix: Prefix) -> Option<V>
+    pub fn remove(&mut self, prefix: Prefix<F>) -> Option<V>
         ensures before { result ≡ map.get self.old.rows prefix }
         ensures rows { self.new.rows ≡ map.remove self.old.rows prefix }
     {
@@ -77,9 +77,9 @@ impl<V> Trie<V> {
     }
 
     /// Lends the value at a key, to be changed in place.
-    pub fn value_mut(&mut self, prefix: Prefix) -> &mut V
+    pub fn value_mut(&mut self, prefix: Prefix<F>) -> &mut V
         requires { HasKey self.old.rows prefix }
-        ensures* writes_back { sem 𝓛 (lends_value V.row self.entry prefix result) }
+        ensures* writes_back { sem 𝓛 (lends_value V.row F.row F.Family self.entry prefix result) }
         ensures value { map.get self.old.rows prefix ≡ Some result.now }
     {
         let key = reading::find(&self.index, &self.leaves, prefix).unwrap();
@@ -88,9 +88,9 @@ impl<V> Trie<V> {
 
     /// [`value_mut`](Trie::value_mut), without a descent where `near` is the key in [`nodes`](Trie::nodes) of the prefix's
     /// leaf. Any other key costs a descent and changes nothing else.
-    pub fn value_near(&mut self, near: usize, prefix: Prefix) -> &mut V
+    pub fn value_near(&mut self, near: usize, prefix: Prefix<F>) -> &mut V
         requires { HasKey self.old.rows prefix }
-        ensures* writes_back { sem 𝓛 (lends_value V.row self.entry prefix result) }
+        ensures* writes_back { sem 𝓛 (lends_value V.row F.row F.Family self.entry prefix result) }
         ensures value { map.get self.old.rows prefix ≡ Some result.now }
     {
         let key = reading::find_near(&self.index, &self.leaves, near, prefix).unwrap();
@@ -98,8 +98,8 @@ impl<V> Trie<V> {
     }
 
     /// Lends what stands at a prefix, if anything, to be changed in place.
-    pub fn get_mut(&mut self, prefix: Prefix) -> Option<&mut V>
-        ensures* writes_back { sem 𝓛 (lends_get V.row self.entry prefix result) }
+    pub fn get_mut(&mut self, prefix: Prefix<F>) -> Option<&mut V>
+        ensures* writes_back { sem 𝓛 (lends_get V.row F.row F.Family self.entry prefix result) }
         ensures value { option_copied_mut result ≡ map.get self.old.rows prefix }
     {
         match reading::find(&self.index, &self.leaves, prefix) {
@@ -109,7 +109,7 @@ impl<V> Trie<V> {
     }
 
     /// What stands at a prefix.
-    pub fn get(&self, prefix: Prefix) -> Option<&V>
+    pub fn get(&self, prefix: Prefix<F>) -> Option<&V>
         ensures { option_copied result ≡ map.get self.now.rows prefix }
     {
         match reading::find(&self.index, &self.leaves, prefix) {
@@ -122,7 +122,7 @@ impl<V> Trie<V> {
     }
 
     /// What stands at a prefix, and the key of its leaf in [`nodes`](Trie::nodes).
-    pub fn find(&self, prefix: Prefix) -> Option<(&V, usize)>
+    pub fn find(&self, prefix: Prefix<F>) -> Option<(&V, usize)>
         ensures value { option_map (λ found. found.0.now) result ≡ map.get self.now.rows prefix }
         ensures key { IfSome result (λ found. LiesAt self.now.leaves found.1 prefix) }
     {
@@ -136,7 +136,7 @@ impl<V> Trie<V> {
     }
 
     /// The leaves: one for each key.
-    pub fn nodes(&self) -> &Slab<Node<V>>
+    pub fn nodes(&self) -> &Slab<Node<V, Prefix<F>>>
         ensures rows { HasNodes result.now self.now.rows }
         ensures leaves { prefixes_of result.now ≡ self.now.leaves }
     {
@@ -144,7 +144,7 @@ impl<V> Trie<V> {
     }
 
     /// The first row beyond a place, by address and then length.
-    pub fn next_row(&self, after: Place) -> Option<(Prefix, &V)>
+    pub fn next_row(&self, after: Place<Prefix<F>>) -> Option<(Prefix<F>, &V)>
         ensures prefix { IsNextRow (map.get self.now.rows) (key_of after) (option_map (λ row. row.0) result) }
         ensures value { IfSome result (λ row. map.get self.now.rows row.0 ≡ Some row.1.now) }
     {
@@ -159,7 +159,7 @@ impl<V> Trie<V> {
 
     /// [`next_row`](Trie::next_row), and the key of its leaf in [`nodes`](Trie::nodes): without a descent where `near` is the
     /// key of the place's leaf and the next row has its address. Any other key costs that descent and changes no row.
-    pub fn next_near(&self, near: usize, after: Place) -> Option<(Prefix, &V, usize)>
+    pub fn next_near(&self, near: usize, after: Place<Prefix<F>>) -> Option<(Prefix<F>, &V, usize)>
         ensures prefix { IsNextRow (map.get self.now.rows) (key_of after) (option_map (λ row. row.0) result) }
         ensures value { IfSome result (λ row. map.get self.now.rows row.0 ≡ Some row.1.now) }
         ensures key { IfSome result (λ row. LiesAt self.now.leaves row.2 row.0) }

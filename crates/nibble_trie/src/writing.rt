@@ -4,7 +4,7 @@ ghost use Rattle.std.specs.Prelude.{◌≡◌, ℕ, ◌+◌, ◌<◌, ◌≤◌,
 ghost use Rattle.std.specs.FinMap as map;
 ghost use Rattle.slab.specs.Slab.{get, Slab, ContainsKey, Updates, HasRoomFor};
 ghost use Rattle.addr4.specs.Prefixes.{AddressPrefix};
-ghost use Rattle.nibble_trie.specs.declared.node.Node.{Node};
+ghost use Rattle.nibble_trie.specs.Leaves.{Node as Noded};
 ghost use Rattle.nibble_trie.specs.Links.{leads, IsCell};
 ghost use Rattle.nibble_trie.specs.Keys.{prefix_in, longer_in, IsNextOf, IsChained, IsLastBelow, IsSmall, IsHeadOf};
 ghost use Rattle.nibble_trie.specs.Index.{Layout, IsLaid, Indexes, with_head, IsAlone, OnWay, IsSpotOf, spot_at, HasLoneWay};
@@ -15,49 +15,52 @@ use crate::index::{End, Index, Spot};
 use crate::link::Link;
 use crate::node::Node;
 use crate::{chain, reading};
-use addr4::Prefix;
+use addr4::{Addr, Family, Prefix};
 use slab::Slab;
 use std::mem;
 
 // Room for one leaf more, and for the branches above it; the keys of both fit a link.
-pub(crate) fn make_room<V>(leaves: &mut Slab<Node<V>>, branches: &mut Slab<Branch>) -> bool
+pub(crate) fn make_room<V, F: Family>(
+    leaves: &mut Slab<Node<V, Prefix<F>>>,
+    branches: &mut Slab<Branch>,
+) -> bool
     ensures leaves { leaves.new ≡ record leaves.old { capacity = leaves.new.capacity } }
     ensures branches { branches.new ≡ record branches.old { capacity = branches.new.capacity } }
     ensures room { result ≡ true → HasRoomFor leaves.new 1 }
     ensures small { result ≡ true → leaves.new.capacity < 2 ^ 31 }
-    ensures branch_room { result ≡ true → HasRoomFor branches.new 8 }
+    ensures branch_room { result ≡ true → HasRoomFor branches.new 32 }
     ensures branch_small { result ≡ true → branches.new.capacity ≤ 2 ^ 31 }
 {
     if leaves.reserve(1).is_err() {
         return false;
     }
-    if branches.reserve(8).is_err() {
+    if branches.reserve(32).is_err() {
         return false;
     }
     leaves.capacity() < 2147483648 && branches.capacity() <= 2147483648
 }
 
 // Puts another value in the place of one.
-fn replace<V>(leaves: &mut Slab<Node<V>>, key: usize, value: V) -> V
+fn replace<V, F: Family>(leaves: &mut Slab<Node<V, Prefix<F>>>, key: usize, value: V) -> V
     requires { ContainsKey leaves.old key }
-    ensures before { (n : Node V) → get leaves.old key ≡ Some n → result ≡ n.value }
-    ensures updates { (n : Node V) → get leaves.old key ≡ Some n → Updates leaves.old leaves.new key (Some (record n { value = value })) }
+    ensures before { (n : Noded V) → get leaves.old key ≡ Some n → result ≡ n.value }
+    ensures updates { (n : Noded V) → get leaves.old key ≡ Some n → Updates leaves.old leaves.new key (Some (record n { value = value })) }
 {
     mem::replace(&mut leaves[key].value, value)
 }
 
 // Makes a leaf the one behind another.
-fn set_longer<V>(leaves: &mut Slab<Node<V>>, key: usize, link: Link)
+fn set_longer<V, F: Family>(leaves: &mut Slab<Node<V, Prefix<F>>>, key: usize, link: Link)
     requires { ContainsKey leaves.old key }
-    ensures { (n : Node V) → get leaves.old key ≡ Some n → Updates leaves.old leaves.new key (Some (record n { longer = link })) }
+    ensures { (n : Noded V) → get leaves.old key ≡ Some n → Updates leaves.old leaves.new key (Some (record n { longer = link })) }
 {
     leaves[key].longer = link;
 }
 
 // Takes a leaf out, and answers its value.
-fn take<V>(leaves: &mut Slab<Node<V>>, key: usize) -> V
+fn take<V, F: Family>(leaves: &mut Slab<Node<V, Prefix<F>>>, key: usize) -> V
     requires { ContainsKey leaves.old key }
-    ensures before { (n : Node V) → get leaves.old key ≡ Some n → result ≡ n.value }
+    ensures before { (n : Noded V) → get leaves.old key ≡ Some n → result ≡ n.value }
     ensures updates { Updates leaves.old leaves.new key None }
 {
     let Node {
@@ -69,12 +72,12 @@ fn take<V>(leaves: &mut Slab<Node<V>>, key: usize) -> V
 }
 
 // A new leaf before the first of its address, if there is one.
-fn add_first<V>(
-    leaves: &mut Slab<Node<V>>,
+fn add_first<V, F: Family>(
+    leaves: &mut Slab<Node<V, Prefix<F>>>,
     index: &mut Index,
     end: End,
     head: Option<usize>,
-    prefix: Prefix,
+    prefix: Prefix<F>,
     value: V,
 )
     requires whole { IsWhole leaves.old index.old }
@@ -96,12 +99,17 @@ fn add_first<V>(
         longer: Link::to(head),
         value,
     });
-    let address = prefix.address().number();
+    let address = prefix.address();
     index.put(leaves, end.spot(address), address, key);
 }
 
 // A new leaf behind the last one below it.
-fn add_behind<V>(leaves: &mut Slab<Node<V>>, before: usize, prefix: Prefix, value: V)
+fn add_behind<V, F: Family>(
+    leaves: &mut Slab<Node<V, Prefix<F>>>,
+    before: usize,
+    prefix: Prefix<F>,
+    value: V,
+)
     requires room { HasRoomFor leaves.old 1 }
     requires small { leaves.old.capacity < 2 ^ 31 }
     requires chained { IsChained (prefix_in leaves.old) (longer_in leaves.old) }
@@ -120,7 +128,12 @@ fn add_behind<V>(leaves: &mut Slab<Node<V>>, before: usize, prefix: Prefix, valu
 }
 
 // Puts a value at a prefix whose address has a shorter one, and answers the one that stood there.
-fn put_behind<V>(leaves: &mut Slab<Node<V>>, first: usize, prefix: Prefix, value: V) -> Option<V>
+fn put_behind<V, F: Family>(
+    leaves: &mut Slab<Node<V, Prefix<F>>>,
+    first: usize,
+    prefix: Prefix<F>,
+    value: V,
+) -> Option<V>
     requires room { HasRoomFor leaves.old 1 }
     requires small { leaves.old.capacity < 2 ^ 31 }
     requires chained { IsChained (prefix_in leaves.old) (longer_in leaves.old) }
@@ -140,16 +153,16 @@ fn put_behind<V>(leaves: &mut Slab<Node<V>>, first: usize, prefix: Prefix, value
 }
 
 // Puts a value at a prefix, and answers the one that stood there.
-pub(crate) fn put<V>(
-    leaves: &mut Slab<Node<V>>,
+pub(crate) fn put<V, F: Family>(
+    leaves: &mut Slab<Node<V, Prefix<F>>>,
     index: &mut Index,
-    prefix: Prefix,
+    prefix: Prefix<F>,
     value: V,
 ) -> Option<V>
     requires whole { IsWhole leaves.old index.old }
     requires room { HasRoomFor leaves.old 1 }
     requires small { leaves.old.capacity < 2 ^ 31 }
-    requires branch_room { HasRoomFor index.old.branches 8 }
+    requires branch_room { HasRoomFor index.old.branches 32 }
     requires branch_small { index.old.branches.capacity ≤ 2 ^ 31 }
     ensures whole { IsWhole leaves.new index.new }
     ensures before { result ≡ map.get (rows_of leaves.old) prefix }
@@ -177,7 +190,13 @@ pub(crate) fn put<V>(
 }
 
 // The leaf behind the first one of an address becomes the first.
-fn drop_head<V>(leaves: &Slab<Node<V>>, index: &mut Index, spot: Spot, address: u32, first: usize)
+fn drop_head<V, F: Family>(
+    leaves: &Slab<Node<V, Prefix<F>>>,
+    index: &mut Index,
+    spot: Spot,
+    address: Addr<F>,
+    first: usize,
+)
     requires way { HasLoneWay index.old address spot }
     requires cell { IsCell spot.target }
     requires has { ContainsKey leaves.now first }
@@ -191,11 +210,11 @@ fn drop_head<V>(leaves: &Slab<Node<V>>, index: &mut Index, spot: Spot, address: 
 }
 
 // Takes the first leaf of an address out, and answers its value.
-fn take_first<V>(
-    leaves: &mut Slab<Node<V>>,
+fn take_first<V, F: Family>(
+    leaves: &mut Slab<Node<V, Prefix<F>>>,
     index: &mut Index,
     end: End,
-    prefix: Prefix,
+    prefix: Prefix<F>,
     first: usize,
 ) -> V
     requires whole { IsWhole leaves.old index.old }
@@ -207,13 +226,18 @@ fn take_first<V>(
     ensures before { Some result ≡ map.get (rows_of leaves.old) prefix }
     ensures rows { rows_of leaves.new ≡ map.remove (rows_of leaves.old) prefix }
 {
-    let address = prefix.address().number();
+    let address = prefix.address();
     drop_head(leaves, index, end.spot(address), address, first);
     take(leaves, first)
 }
 
 // Takes a leaf out that stands behind another one, and answers its value.
-fn unlink<V>(leaves: &mut Slab<Node<V>>, before: usize, key: usize, prefix: Prefix) -> V
+fn unlink<V, F: Family>(
+    leaves: &mut Slab<Node<V, Prefix<F>>>,
+    before: usize,
+    key: usize,
+    prefix: Prefix<F>,
+) -> V
     requires chained { IsChained (prefix_in leaves.old) (longer_in leaves.old) }
     requires last { IsLastBelow (prefix_in leaves.old) (longer_in leaves.old) prefix.address prefix.length before }
     requires behind { longer_in leaves.old before ≡ Some key }
@@ -228,7 +252,11 @@ fn unlink<V>(leaves: &mut Slab<Node<V>>, before: usize, key: usize, prefix: Pref
 }
 
 // Takes out what stands at a prefix whose address has a shorter one.
-fn take_behind<V>(leaves: &mut Slab<Node<V>>, first: usize, prefix: Prefix) -> Option<V>
+fn take_behind<V, F: Family>(
+    leaves: &mut Slab<Node<V, Prefix<F>>>,
+    first: usize,
+    prefix: Prefix<F>,
+) -> Option<V>
     requires chained { IsChained (prefix_in leaves.old) (longer_in leaves.old) }
     requires has { ContainsKey leaves.old first }
     requires below { (p : AddressPrefix) → prefix_in leaves.old first ≡ Some p → (p.address ≡ prefix.address) × (p.length < prefix.length) }
@@ -243,7 +271,11 @@ fn take_behind<V>(leaves: &mut Slab<Node<V>>, first: usize, prefix: Prefix) -> O
 }
 
 // Takes out what stands at a prefix.
-pub(crate) fn remove<V>(leaves: &mut Slab<Node<V>>, index: &mut Index, prefix: Prefix) -> Option<V>
+pub(crate) fn remove<V, F: Family>(
+    leaves: &mut Slab<Node<V, Prefix<F>>>,
+    index: &mut Index,
+    prefix: Prefix<F>,
+) -> Option<V>
     requires { IsWhole leaves.old index.old }
     ensures whole { IsWhole leaves.new index.new }
     ensures before { result ≡ map.get (rows_of leaves.old) prefix }

@@ -4,7 +4,7 @@ use Rattle.addr4.specs.Prefixes.{AddressPrefix}
 use Rattle.link_change.specs.Rows.{Rows, with_row, Candidates, IsNextCandidate, CoversRows, computed_rows}
 use Rattle.link_change.specs.Changes.{IsSent, IsChangeOf}
 use Rattle.link_change.specs.Turns.{taken_turn}
-use Rattle.link_change.specs.declared.change.Change.{Change}
+use Rattle.link_change.specs.Changes.{Change}
 use Rattle.link_change.specs.declared.turn.Turn.TheVariants.{Nothing, Quiet, Sent}
 use Rattle.link_change.proofs.RowLemmas.{same_function}
 use Rattle.link_change.proofs.ChangeLemmas.{computes_on, change_sent}

@@ -5,8 +5,8 @@ use Rattle.addr4.specs.Places.{IsBeyond}
 use Rattle.link_change.specs.Rows.{Rows, Candidates, IsNextCandidate, CoversRows, with_row, computed_rows}
 use Rattle.link_change.specs.Changes.{IsSent, IsChangeOf}
 use Rattle.link_change.specs.Turns.{IsTurned}
-use Rattle.link_change.specs.declared.change.Change.{Change}
-use Rattle.link_change.specs.declared.turn.Turn.{Turn}
+use Rattle.link_change.specs.Changes.{Change}
+use Rattle.link_change.specs.Turns.{Turn}
 use Rattle.pass_core.specs.Passed.{Passed, Walked, function_at, holds_up, present, edited, stepped, finished}
 use Rattle.pass_core.specs.Split.{split, MakesNone}
 use Rattle.pass_core.specs.Turns.{passed, passed_rows, row_lags, IsPassedOn, Walks, IsWalked}

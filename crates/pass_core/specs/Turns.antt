@@ -4,8 +4,8 @@ use Rattle.std.specs.Prelude.{◌≡◌, ◌&&◌, Bool, is_some, Option, Some, 
 use Rattle.addr4.specs.Prefixes.{AddressPrefix}
 use Rattle.link_change.specs.Rows.{Rows, Candidates, IsNextCandidate}
 use Rattle.link_change.specs.Changes.{IsSent, ComputesOn}
-use Rattle.link_change.specs.declared.change.Change.{Change}
-use Rattle.link_change.specs.declared.turn.Turn.{Turn}
+use Rattle.link_change.specs.Changes.{Change}
+use Rattle.link_change.specs.Turns.{Turn}
 use Rattle.link_change.specs.declared.turn.Turn.TheVariants.{Nothing, Quiet, Sent}
 use Rattle.pass_core.specs.Passed.{Passed, Walked, function_at, holds_up, stepped, finished}
 

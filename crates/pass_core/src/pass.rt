@@ -5,38 +5,38 @@ ghost use Rattle.addr4.specs.Places.{key_of, IsBeyond};
 ghost use Rattle.pass_core.specs.Passed.{is_beyond, function_at, present, holds_up, edited, stepped, finished, begun, latest_of, waits};
 ghost use Rattle.pass_core.specs.Walks.{walked};
 
-use addr4::{Place, Prefix};
+use addr4::{Family, Place, Prefix, V4};
 use std::marker::Model;
 
 /// A function, as of a filter, that is changed in the background. Contracts see the function in force and the walk that is
 /// on, if any, with its place and the function that waits for its end. No call takes memory.
 #[derive(Drop)]
-pub struct Pass<F> {
-    in_force: F,
-    walk: Option<Walk<F>>,
+pub struct Pass<T, F: Family = V4> {
+    in_force: T,
+    walk: Option<Walk<T, Prefix<F>>>,
 }
 
 // A walk over the prefixes. What waits is part of it, so nothing can wait without a walk.
 #[derive(Drop)]
-struct Walk<F> {
-    next: F,
-    place: Place,
-    waiting: Option<F>,
+struct Walk<T, P> {
+    next: T,
+    place: Place<P>,
+    waiting: Option<T>,
 }
 
-impl<F> Model for Pass<F> {
+impl<T, F: Family> Model for Pass<T, F> {
     ghost use Rattle.pass_core.specs.Passed.{Passed, passed_code};
     ghost use Rattle.pass_core.specs.Walks.{walk_of};
 
-    ghost Value = { Passed F };
+    ghost Value = { Passed T };
 
-    ghost coded = { passed_code F.code };
+    ghost coded = { passed_code T.code };
 
     ghost view = { λ p. record { in_force = p.in_force; walk = walk_of p.walk } };
 }
 
 // Whether the prefix lies beyond the place.
-fn is_beyond(place: Place, prefix: Prefix) -> bool
+fn is_beyond<F: Family>(place: Place<Prefix<F>>, prefix: Prefix<F>) -> bool
     ensures { result ≡ is_beyond (key_of place) prefix }
 {
     match place {
@@ -46,7 +46,7 @@ fn is_beyond(place: Place, prefix: Prefix) -> bool
 }
 
 // A walk that stands before all prefixes.
-fn begun<F>(next: F) -> Walk<F>
+fn begun<T, F: Family>(next: T) -> Walk<T, Prefix<F>>
     ensures { walked result ≡ begun next }
 {
     Walk {
@@ -56,9 +56,9 @@ fn begun<F>(next: F) -> Walk<F>
     }
 }
 
-impl<F> Walk<F> {
+impl<T, P> Walk<T, P> {
     // The function that waits, or else the new one.
-    fn latest(&self) -> &F
+    fn latest(&self) -> &T
         ensures { result.now ≡ latest_of self.now.next self.now.waiting }
     {
         match &self.waiting {
@@ -68,9 +68,9 @@ impl<F> Walk<F> {
     }
 }
 
-impl<F: Drop> Pass<F> {
+impl<T: Drop, F: Family> Pass<T, F> {
     /// The function is in force everywhere, and no walk is on.
-    pub fn new(first: F) -> Pass<F>
+    pub fn new(first: T) -> Pass<T, F>
         ensures { result ≡ record { in_force = first; walk = None } }
     {
         Pass {
@@ -81,7 +81,7 @@ impl<F: Drop> Pass<F> {
 
     /// Begins a walk that is to bring the function into force. During a walk the function waits for its end, in place of one
     /// that waited before.
-    pub fn edit(&mut self, function: F)
+    pub fn edit(&mut self, function: T)
         ensures { self.new ≡ edited self.old function }
     {
         match &mut self.walk {
@@ -92,7 +92,7 @@ impl<F: Drop> Pass<F> {
 
     /// The one function that holds at a prefix: up to the place of a walk, that prefix included, the new one, beyond it the
     /// one in force.
-    pub fn at(&self, prefix: Prefix) -> &F
+    pub fn at(&self, prefix: Prefix<F>) -> &T
         ensures { result.now ≡ function_at self.now prefix }
     {
         match &self.walk {
@@ -107,7 +107,7 @@ impl<F: Drop> Pass<F> {
     }
 
     /// The function of the latest edit: the one that waits, or else the new one of the walk, or else the one in force.
-    pub fn present(&self) -> &F
+    pub fn present(&self) -> &T
         ensures { result.now ≡ present self.now }
     {
         match &self.walk {
@@ -135,7 +135,7 @@ impl<F: Drop> Pass<F> {
 
     /// Whether another function than the latest one may hold at a prefix: a walk is on that has yet to come there, or at whose
     /// end a function waits.
-    pub fn holds_up(&self, prefix: Prefix) -> bool
+    pub fn holds_up(&self, prefix: Prefix<F>) -> bool
         ensures { result ≡ holds_up self.now prefix }
     {
         match &self.walk {
@@ -145,7 +145,7 @@ impl<F: Drop> Pass<F> {
     }
 
     /// How far the walk has come. To be asked while a walk is on.
-    pub fn place(&self) -> Place
+    pub fn place(&self) -> Place<Prefix<F>>
         requires { IsSome self.now.walk }
         ensures { IfSome self.now.walk (λ walk. key_of result ≡ walk.place) }
     {
@@ -156,7 +156,7 @@ impl<F: Drop> Pass<F> {
     }
 
     /// The function that the walk brings into force. To be asked while a walk is on.
-    pub fn coming(&self) -> &F
+    pub fn coming(&self) -> &T
         requires { IsSome self.now.walk }
         ensures { IfSome self.now.walk (λ walk. result.now ≡ walk.next) }
     {
@@ -168,7 +168,7 @@ impl<F: Drop> Pass<F> {
 
     /// The walk goes on to a prefix beyond its place: there, and at all that lie between, the new function holds from now
     /// on. To be called while a walk is on.
-    pub fn step_to(&mut self, prefix: Prefix)
+    pub fn step_to(&mut self, prefix: Prefix<F>)
         requires busy { IsSome self.old.walk }
         requires beyond { IfSome self.old.walk (λ walk. IsBeyond walk.place prefix) }
         ensures { self.new ≡ stepped self.old prefix }

@@ -2,17 +2,17 @@
 use Rattle.std.proofs.Common.{◌≡◌, ℕ, ◌<◌, ◌≤◌, List, length, Option, Some, None, refl, sym, ap, subst, ◌∙◌, arith}
 use Rattle.std.specs.List.{AllByRecursion}
 use Rattle.addr4.specs.Prefixes.{AddressPrefix}
-use Rattle.bgp_attr.specs.declared.attrs.Attrs.{Attrs}
-use Rattle.bgp_attr.specs.declared.route.Route.{Route}
+use Rattle.bgp_attr.specs.Attributes.{Attrs}
+use Rattle.bgp_attr.specs.Routes.{Route}
 use Rattle.link_change.specs.Changes.{IsSent}
-use Rattle.link_change.specs.declared.change.Change.{Change}
-use Rattle.policy_rules.specs.declared.rule.Rule.{Rule}
+use Rattle.link_change.specs.Changes.{Change}
+use Rattle.policy_rules.specs.Rules.{Rule}
 use Rattle.pass_core.specs.Passed.{Passed, Walked, present, latest_of, present_of, stepped, walk_of_waiting, after_walk}
 use Rattle.pass_core.specs.Turns.{walked_on, IsSentAt}
 use Rattle.journal_text.specs.declared.link.Task.{Task}
 use Rattle.journal_text.specs.declared.link.Task.TheVariants.{Del, Fin}
-use Rattle.journal_text.specs.declared.entry.Entry.{Entry}
-use Rattle.journal_text.specs.declared.value.Value.{Value}
+use Rattle.journal_text.specs.Lines.{Entry}
+use Rattle.journal_text.specs.Lines.{Value}
 use Rattle.loss_chain.specs.Lost.{Lost}
 use Rattle.loss_chain.specs.Steps.{without, deletions_after, swept_one}
 use Rattle.loss_chain.proofs.ListLemmas.{all_mapped, all_filtered}

@@ -5,9 +5,9 @@ use Rattle.std.specs.FinMap.{FinMap}
 use Rattle.std.proofs.lemmas.List.Sums.{sum_by-cons, sum_by-le-sum_by}
 use Rattle.std.specs.List.{sum_by}
 use Rattle.addr4.specs.Prefixes.{AddressPrefix, prefix_cmp}
-use Rattle.bgp_attr.specs.declared.attrs.Attrs.{Attrs}
+use Rattle.bgp_attr.specs.Attributes.{Attrs}
 use Rattle.link_change.proofs.MapLemmas.{values_length}
-use Rattle.policy_rules.specs.declared.rule.Rule.{Rule}
+use Rattle.policy_rules.specs.Rules.{Rule}
 use Rattle.pass_core.specs.Passed.{Walked}
 use Rattle.loss_chain.specs.Tables.{Tables, tables_count, tables_beyond}
 use Rattle.loss_chain.specs.Steps.{table_of}

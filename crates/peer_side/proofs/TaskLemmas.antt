@@ -5,13 +5,14 @@ use Rattle.std.specs.List.{AllByRecursion, find, flat_map, sum_by}
 use Rattle.std.specs.FinMap as tables
 use Rattle.std.specs.Cmp.{nat_cmp_total}
 use Rattle.std.proofs.lemmas.List.Sums.{sum_by-cons}
-use Rattle.bgp_attr.specs.declared.attrs.Attrs.{Attrs}
+use Rattle.bgp_attr.specs.Attributes.{Attrs}
 use Rattle.link_change.proofs.MapLemmas.{all_values}
 use Rattle.journal_text.specs.declared.link.Task.{Task}
 use Rattle.journal_text.specs.declared.link.Task.TheVariants.{Del, Fin}
 use Rattle.loss_chain.specs.Lost.{Lost}
 use Rattle.loss_chain.specs.Tables.{lost_count}
-use Rattle.loss_chain.specs.Steps.{first_task, table_of}
+use Rattle.loss_chain.specs.declared.owner.Owner.TheVariants.{Peer}
+use Rattle.loss_chain.specs.Steps.{first_task, oldest_of, table_of}
 use Rattle.loss_chain.proofs.ListLemmas.{all_so, all_made, all_flat}
 use Rattle.loss_chain.proofs.TableLemmas.{same_by, all_tables}
 use Rattle.link_region.proofs.RegionLemmas.{by_bool}
@@ -45,6 +46,15 @@ first_stage a cs peers is = ap (λ (l : List Chained). first_task (flat_map chai
 pub first_none : {A : Type 0} (f : A → Task) (xs : List A) (rest : List Task) → first_task (map f xs ++ rest) ≡ None → (xs ≡ []) × (first_task rest ≡ None)
 first_none f [] rest e = (refl, e)
 first_none f (x ∷ xs) rest e = absurd (cc)
+
+-- a chain's own answer is that of its tasks, before those of the others
+pub oldest_found : (n : ℕ) (ds : List (Lost Attrs)) (rest : List Task) (t : Task) → oldest_of (Peer n) ds ≡ Some t → first_task (map (λ d. Del n d.number) ds ++ rest) ≡ Some t
+oldest_found n [] rest t e = absurd (cc)
+oldest_found n (d ∷ ds) rest t e = e
+
+pub oldest_none : (n : ℕ) (ds : List (Lost Attrs)) (rest : List Task) → oldest_of (Peer n) ds ≡ None → first_task (map (λ d. Del n d.number) ds ++ rest) ≡ first_task rest
+oldest_none n [] rest e = refl
+oldest_none n (d ∷ ds) rest e = absurd (cc)
 
 no_stage : (cs : List Chained) → first_task (flat_map chain_tasks cs) ≡ None → sum_by lost_of cs ≡ 0
 no_stage [] e = refl

@@ -7,10 +7,10 @@ use Rattle.std.specs.BTreeMap.{BTreeMap, get}
 use Rattle.std.specs.FinMap as tables
 use Rattle.std.specs.FinMap.{FinMap}
 use Rattle.addr4.specs.Prefixes.{AddressPrefix, prefix_cmp}
-use Rattle.bgp_attr.specs.declared.attrs.Attrs.{Attrs}
-use Rattle.bgp_attr.specs.declared.route.Route.{Route}
+use Rattle.bgp_attr.specs.Attributes.{Attrs}
+use Rattle.bgp_attr.specs.Routes.{Route}
 use Rattle.link_change.specs.Rows.{Rows, Candidates, no_rows}
-use Rattle.policy_rules.specs.declared.rule.Rule.{Rule}
+use Rattle.policy_rules.specs.Rules.{Rule}
 use Rattle.pass_core.specs.Passed.{present}
 use Rattle.journal_text.specs.Links.{owner_of}
 use Rattle.journal_text.specs.Walk.{Links}
@@ -18,9 +18,9 @@ use Rattle.journal_text.specs.declared.link.Link.{Link}
 use Rattle.journal_text.specs.declared.link.Link.TheVariants.{In, Filt}
 use Rattle.journal_text.specs.declared.link.Task.{Task}
 use Rattle.journal_text.specs.declared.link.Task.TheVariants.{Del, Fin, Nh, Out, Ref}
-use Rattle.journal_text.specs.declared.entry.Entry.{Entry}
+use Rattle.journal_text.specs.Lines.{Entry}
 use Rattle.journal_text.specs.declared.entry.Entry.TheVariants.{Begin}
-use Rattle.journal_text.specs.declared.value.Value.{Value}
+use Rattle.journal_text.specs.Lines.{Value}
 use Rattle.loss_chain.specs.Tables.{NoneEmpty, OneEmptyAtMost, lost_count}
 use Rattle.in_chain.specs.Chains.{Chained, links_of, filt_rows, candidates_of, row_count, turns_left, IsChain}
 use Rattle.in_chain.specs.Incomings.{overdue_of}

@@ -10,7 +10,7 @@ ghost use Rattle.link_region.specs.Regions.{LeadsIn};
 ghost use Rattle.peer_side.specs.Peers.{chain_at, put_chain, peer_links, begin_entries, overdue_at, IsPeers};
 ghost use Rattle.peer_side.specs.Steps.{EditsInward};
 
-use addr4::Memory;
+use addr4::{Addr, Family, Memory, Texts, V4};
 use bgp_attr::{Neighbour, Speaker};
 use in_chain::Chain;
 use journal_text::{Entry, Journal, Link, Task};
@@ -21,27 +21,28 @@ use std::marker::Model;
 
 /// The chains of all peers. Contracts see a finite map from the peers' numbers to their chains.
 #[derive(Drop)]
-pub struct Peers {
+pub struct Peers<F: Texts = V4> {
     pub(crate) alloc: Global,
-    pub(crate) chains: BTreeMap<u32, Chain>,
+    pub(crate) chains: BTreeMap<u32, Chain<F>>,
 }
 
-impl Model for Peers {
+impl<F: Texts> Model for Peers<F> {
     ghost use Rattle.std.specs.Coded.{coded_ℕ};
     ghost use Rattle.std.specs.FinMap as map;
+    ghost use Rattle.addr4.specs.contracts.family.V4 as family_row;
     ghost use Rattle.in_chain.specs.contracts.chain.Chain as chain_row;
     ghost use Rattle.peer_side.specs.Peers.{Chains};
 
     ghost Value = { Chains };
 
-    ghost coded = { map.code coded_ℕ chain_row.the_row.coded };
+    ghost coded = { map.code coded_ℕ (chain_row.the_row family_row.the_row ⟦<V4 as Family>⟧).coded };
 
     ghost view = { λ p. map.from_entries p.chains.entries };
 }
 
-impl Peers {
+impl<F: Texts> Peers<F> {
     /// No peer. Takes no memory.
-    pub fn new(alloc: Global) -> Peers
+    pub fn new(alloc: Global) -> Peers<F>
         ensures { result ≡ map.empty }
     {
         Peers {
@@ -51,7 +52,7 @@ impl Peers {
     }
 
     /// The chain of a peer.
-    pub fn chain(&self, number: u32) -> Option<&Chain>
+    pub fn chain(&self, number: u32) -> Option<&Chain<F>>
         ensures { option_copied result ≡ chain_at number self.now }
     {
         self.chains.get(&number)
@@ -72,9 +73,9 @@ impl Peers {
     pub fn begin(
         &mut self,
         number: u32,
-        me: Speaker,
+        me: Speaker<Addr<F>>,
         words: Neighbour,
-        journal: &mut Journal,
+        journal: &mut Journal<F>,
     ) -> Result<(), Memory>
         requires sound { IsPeers self.old }
         requires absent { chain_at number self.old ≡ None }
@@ -92,7 +93,7 @@ impl Peers {
 
     /// A peer's incoming filter has new rules. They hold nowhere at first: the task `fin.K` brings them into force. Takes no
     /// memory.
-    pub fn edit(&mut self, number: u32, rules: Rules)
+    pub fn edit(&mut self, number: u32, rules: Rules<F>)
         requires sound { IsPeers self.old }
         requires there { IsSome (chain_at number self.old) }
         ensures { EditsInward number rules self.old self.new }

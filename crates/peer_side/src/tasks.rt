@@ -10,12 +10,12 @@ ghost use Rattle.in_chain.specs.Steps.{chain_lags};
 ghost use Rattle.peer_side.specs.Peers.{chain_tasks, deletion_tasks, filter_tasks, first_walk, first_lost, first_walking, HaveFew, has_peer_work, peer_lags, rows_in, lost_in, left_in, IsPeers};
 
 use crate::peers::Peers;
-use addr4::{Memory, Prefix};
+use addr4::{Memory, Prefix, Texts};
 use in_chain::{Chain, turns_are_bounded};
 use journal_text::Task;
 use std::collections::BTreeMap;
 
-impl Peers {
+impl<F: Texts> Peers<F> {
     /// The first deletion stage, by peer, then session. None exactly where no row of a lost session is left.
     pub fn first_loss(&self) -> Option<Task>
         requires { IsPeers self.now }
@@ -36,7 +36,7 @@ impl Peers {
     }
 
     /// The first deletion stage that holds up a prefix, by peer, then session. Takes no memory.
-    pub fn first_loss_at(&self, p: Prefix) -> Option<Task>
+    pub fn first_loss_at(&self, p: Prefix<F>) -> Option<Task>
         requires { IsPeers self.now }
         ensures { result ≡ find (λ task. peer_lags self.now task p) (deletion_tasks self.now) }
     {
@@ -44,7 +44,7 @@ impl Peers {
     }
 
     /// The first filter's walk that holds up a prefix, by peer. Takes no memory.
-    pub fn first_walk_at(&self, p: Prefix) -> Option<Task>
+    pub fn first_walk_at(&self, p: Prefix<F>) -> Option<Task>
         requires { IsPeers self.now }
         ensures { result ≡ find (λ task. peer_lags self.now task p) (filter_tasks self.now) }
     {
@@ -60,7 +60,7 @@ impl Peers {
 }
 
 /// The oldest stage of the first chain that has one.
-fn first_oldest(chains: &BTreeMap<u32, Chain>) -> Option<Task>
+fn first_oldest<F: Texts>(chains: &BTreeMap<u32, Chain<F>>) -> Option<Task>
     ensures first { result ≡ first_task (flat_map chain_tasks (values chains.now)) }
     ensures ordered { IsOrdered nat_cmp chains.now }
 {
@@ -73,7 +73,7 @@ fn first_oldest(chains: &BTreeMap<u32, Chain>) -> Option<Task>
 }
 
 /// The walk of the first filter that has one.
-fn first_busy(chains: &BTreeMap<u32, Chain>) -> Option<Task>
+fn first_busy<F: Texts>(chains: &BTreeMap<u32, Chain<F>>) -> Option<Task>
     ensures first { result ≡ first_walk (values chains.now) }
     ensures ordered { IsOrdered nat_cmp chains.now }
 {
@@ -86,7 +86,7 @@ fn first_busy(chains: &BTreeMap<u32, Chain>) -> Option<Task>
 }
 
 /// The first stage of a chain that holds up a prefix, the longest standing first. At most 16 stand.
-fn first_stage(chain: &Chain, p: Prefix) -> Option<Task>
+fn first_stage<F: Texts>(chain: &Chain<F>, p: Prefix<F>) -> Option<Task>
     requires { length chain.now.incoming.tables.deletions ≤ 16 }
     ensures { result ≡ find (λ task. chain_lags chain.now task p) (chain_tasks chain.now) }
 {
@@ -104,7 +104,7 @@ fn first_stage(chain: &Chain, p: Prefix) -> Option<Task>
 }
 
 /// The first stage that holds up a prefix.
-fn first_lost(chains: &BTreeMap<u32, Chain>, p: Prefix) -> Option<Task>
+fn first_lost<F: Texts>(chains: &BTreeMap<u32, Chain<F>>, p: Prefix<F>) -> Option<Task>
     requires few { HaveFew chains.now }
     ensures first { result ≡ first_lost p (values chains.now) }
     ensures ordered { IsOrdered nat_cmp chains.now }
@@ -118,7 +118,7 @@ fn first_lost(chains: &BTreeMap<u32, Chain>, p: Prefix) -> Option<Task>
 }
 
 /// The first walk that holds up a prefix.
-fn first_walking(chains: &BTreeMap<u32, Chain>, p: Prefix) -> Option<Task>
+fn first_walking<F: Texts>(chains: &BTreeMap<u32, Chain<F>>, p: Prefix<F>) -> Option<Task>
     ensures first { result ≡ first_walking p (values chains.now) }
     ensures ordered { IsOrdered nat_cmp chains.now }
 {
@@ -132,7 +132,7 @@ fn first_walking(chains: &BTreeMap<u32, Chain>, p: Prefix) -> Option<Task>
 }
 
 /// How many rows these chains have together.
-fn count_rows(chains: &BTreeMap<u32, Chain>) -> Result<u128, Memory>
+fn count_rows<F: Texts>(chains: &BTreeMap<u32, Chain<F>>) -> Result<u128, Memory>
     ensures sum { IfOk result (λ rows. rows ≡ sum_by row_count (values chains.now)) }
     ensures ordered { IsOrdered nat_cmp chains.now }
 {

@@ -1,8 +1,8 @@
 -- What is behind a prefix, and rules in front of others.
 use Rattle.std.proofs.Common.{◌≡◌, ℕ, Bool, List, [], ◌∷◌, ◌++◌, Option, Some, None, ap, refl, sym, ◌∙◌}
 use Rattle.std.proofs.lemmas.List.{append-nil, append_assoc}
-use Rattle.policy_rules.specs.declared.rule.Rule.{Rule}
-use Rattle.policy_rules.specs.declared.rule.Condition.{Condition}
+use Rattle.policy_rules.specs.Rules.{Rule}
+use Rattle.policy_rules.specs.Rules.{Condition}
 use Rattle.policy_rules.specs.Words.{◌>>=◌, within_of}
 use Rattle.policy_rules.specs.Grammar.{rules_of, behind, behind_prefix, in_front, all_in_front}
 

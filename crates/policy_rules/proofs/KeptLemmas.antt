@@ -1,12 +1,12 @@
 -- What rules never change in a route.
 use Rattle.std.proofs.Common.{List, [], ◌∷◌, Option, IfSome, refl, sym, ◌∙◌, subst, inl, inr}
 use Rattle.addr4.specs.Prefixes.{AddressPrefix}
-use Rattle.bgp_attr.specs.declared.route.Route.{Route}
+use Rattle.bgp_attr.specs.Routes.{Route}
 use Rattle.policy_rules.specs.declared.rule.Action.{Action}
 use Rattle.policy_rules.specs.declared.rule.Action.TheVariants.{Pref, Med, NoMed, Prepend}
 use Rattle.policy_rules.specs.declared.rule.Verdict.{Verdict}
 use Rattle.policy_rules.specs.declared.rule.Verdict.TheVariants.{Accept, Reject, Next}
-use Rattle.policy_rules.specs.declared.rule.Rule.{Rule}
+use Rattle.policy_rules.specs.Rules.{Rule}
 use Rattle.policy_rules.specs.Judged.{Judged, KeepsSource, AllPassOn, PassesOn, EndsWith, Decides, done, acted}
 
 same : (r : Route) → KeepsSource r r

@@ -1,20 +1,22 @@
 -- What was read is in range.
-use Rattle.std.proofs.Common.{◌≡◌, ℕ, ◌+◌, ◌-◌, ◌*◌, ◌/◌, ◌%◌, ◌^◌, ◌<◌, ◌&&◌, Bool, true, false, List, [], ◌∷◌, ◌++◌, Option, Some, None, cond, nat_lt, All, IfSome, codes, refl, sym, ap, subst, ◌∙◌, arith}
+use Rattle.std.proofs.Common.{◌≡◌, ℕ, ◌+◌, ◌-◌, ◌*◌, ◌/◌, ◌%◌, ◌^◌, ◌<◌, ◌&&◌, Bool, true, false, List, [], ◌∷◌, ◌++◌, Option, Some, None, option_map, cond, nat_lt, All, IfSome, codes, refl, sym, ap, subst, ◌∙◌, arith}
 use Rattle.std.proofs.lemmas.Bool.Decides.{nat_tests}
 use Rattle.std.proofs.lemmas.List.Elements.{All-nil, All-cons, All-push}
-use Rattle.std.proofs.lemmas.Nat.{div-add-mod', mod-mul-add, pow_pos}
 use Rattle.std.specs.Str.{bytes_eq}
 use Rattle.std.specs.Str.Parse.{digits_value}
-use Rattle.addr4.specs.Blocks.{size_of_length}
-use Rattle.addr4.specs.Prefixes.{IsMasked}
-use Rattle.addr4.specs.Texts.{is_numeral, value_below, number_below, number_of, addr_of, addr_from_parts, addr_from_octets, address_prefix_of, prefix_from_parts, prefix_of, parts}
+use Rattle.std.specs.Int.{w32, from_be_bytes}
+use Rattle.addr4.specs.Blocks.{width, size_of_length}
+use Rattle.addr4.specs.Families.{in_front as address_of, IsIpv4, IsIpv4Prefix}
+use Rattle.addr4.proofs.FrontLemmas.{front_zeros}
+use Rattle.addr4.specs.Texts.{is_numeral, value_below, number_below, number_of, addr_of, id_of, id_from_parts, id_from_octets, address_prefix_of, prefix_from_parts, prefix_of, parts}
+use Rattle.addr4.proofs.BlockLemmas.{masked_down, size_pos}
 use Rattle.bgp_attr.specs.declared.attrs.Origin as origin
-use Rattle.policy_rules.specs.declared.rule.Condition.{Condition}
+use Rattle.policy_rules.specs.Rules.{Condition}
 use Rattle.policy_rules.specs.declared.rule.Condition.TheVariants.{Any, Path, Origin}
 use Rattle.policy_rules.specs.declared.rule.Action.{Action}
 use Rattle.policy_rules.specs.declared.rule.Action.TheVariants.{NoMed}
 use Rattle.policy_rules.specs.declared.rule.Verdict.{Verdict}
-use Rattle.policy_rules.specs.declared.rule.Rule.{Rule}
+use Rattle.policy_rules.specs.Rules.{Rule}
 use Rattle.bgp_attr.specs.Speakers.{asn_bound}
 use Rattle.policy_rules.specs.Words.{◌>>=◌, origin_of, within_of, setting_of, verdict_of}
 use Rattle.policy_rules.specs.Grammar.{in_front, all_in_front, at_verdict, rules_of, behind_path, behind_origin, behind_prefix, behind, behind_setting}
@@ -42,14 +44,14 @@ below bound text =
     either (is_numeral text) (value_below bound text) None (λ n. n < bound)
     (value_fits bound text (nat_lt (digits_value 10 text) bound) refl) tt
 
-four_fit : (a b c d : Option ℕ) → IfSome a (λ n. n < 256) → IfSome b (λ n. n < 256) → IfSome c (λ n. n < 256) → IfSome d (λ n. n < 256) → IfSome (addr_from_octets a b c d) (λ n. n < 2 ^ 32)
+four_fit : (a b c d : Option ℕ) → IfSome a (λ n. n < 256) → IfSome b (λ n. n < 256) → IfSome c (λ n. n < 256) → IfSome d (λ n. n < 256) → IfSome (id_from_octets a b c d) (λ n. n < 2 ^ 32)
 four_fit None b c d ha hb hc hd = tt
 four_fit (Some a) None c d ha hb hc hd = tt
 four_fit (Some a) (Some b) None d ha hb hc hd = tt
 four_fit (Some a) (Some b) (Some c) None ha hb hc hd = tt
 four_fit (Some a) (Some b) (Some c) (Some d) ha hb hc hd = omega arith
 
-parts_fit : (ps : List (List ℕ)) → IfSome (addr_from_parts ps) (λ n. n < 2 ^ 32)
+parts_fit : (ps : List (List ℕ)) → IfSome (id_from_parts ps) (λ n. n < 2 ^ 32)
 parts_fit [] = tt
 parts_fit (a ∷ []) = tt
 parts_fit (a ∷ b ∷ []) = tt
@@ -57,27 +59,29 @@ parts_fit (a ∷ b ∷ c ∷ []) = tt
 parts_fit (a ∷ b ∷ c ∷ d ∷ []) = four_fit (number_below 256 a) (number_below 256 b) (number_below 256 c) (number_below 256 d) (below 256 a) (below 256 b) (below 256 c) (below 256 d)
 parts_fit (a ∷ b ∷ c ∷ d ∷ e ∷ more) = tt
 
-pub addr_fits : (text : List ℕ) → IfSome (addr_of text) (λ n. n < 2 ^ 32)
-unfolding addr_of
-addr_fits text = parts_fit (parts 46 text)
+pub id_fits : (text : List ℕ) → IfSome (id_of text) (λ n. n < 2 ^ 32)
+unfolding id_of
+id_fits text = parts_fit (parts 46 text)
 
-masked_again : (a s : ℕ) → 0 < s → (a - a % s) % s ≡ 0
-masked_again a s pos =
-    let e : a - a % s ≡ a / s * s + 0 = omega (arith, div-add-mod' a s) in
-    ap (λ n. n % s) e ∙ mod-mul-add (a / s) s 0 pos
+in_front_fits : (o : Option ℕ) → IfSome o (λ n. n < 2 ^ 32) → IfSome (option_map address_of o) IsIpv4
+in_front_fits None h = tt
+in_front_fits (Some n) h = (omega (arith, h), front_zeros n)
 
-address_prefix_ok : (a l : Option ℕ) → IfSome a (λ n. n < 2 ^ 32) → IfSome l (λ n. n < 33) → IfSome (address_prefix_of 32 a l) (λ q. IsMasked 32 q × (q.address < 2 ^ 32))
+pub addr_fits : (text : List ℕ) → IfSome (addr_of text) IsIpv4
+addr_fits text = in_front_fits (id_of text) (id_fits text)
+
+address_prefix_ok : (a l : Option ℕ) → IfSome a IsIpv4 → IfSome l (λ n. n < 33) → IfSome (address_prefix_of a l) IsIpv4Prefix
 address_prefix_ok None l ha hl = tt
 address_prefix_ok (Some a) None ha hl = tt
-address_prefix_ok (Some a) (Some l) ha hl = ((omega arith, masked_again a (size_of_length 32 l) (pow_pos (32 - l))), omega arith)
+address_prefix_ok (Some a) (Some l) ha hl = record { masked = (omega (arith, hl), masked_down a (size_of_length width l) (size_pos width l)); fits = omega (arith, ha.0); short = omega (arith, hl) }
 
-prefix_parts_ok : (ps : List (List ℕ)) → IfSome (prefix_from_parts 32 ps) (λ q. IsMasked 32 q × (q.address < 2 ^ 32))
+prefix_parts_ok : (ps : List (List ℕ)) → IfSome (prefix_from_parts 32 ps) IsIpv4Prefix
 prefix_parts_ok [] = tt
 prefix_parts_ok (a ∷ []) = tt
 prefix_parts_ok (a ∷ l ∷ []) = address_prefix_ok (addr_of a) (number_below 33 l) (addr_fits a) (below 33 l)
 prefix_parts_ok (a ∷ l ∷ x ∷ more) = tt
 
-pub prefix_ok : (text : List ℕ) → IfSome (prefix_of 32 text) (λ q. IsMasked 32 q × (q.address < 2 ^ 32))
+pub prefix_ok : (text : List ℕ) → IfSome (prefix_of 32 text) IsIpv4Prefix
 unfolding prefix_of
 prefix_ok text = prefix_parts_ok (parts 47 text)
 
@@ -85,9 +89,9 @@ within_ok : (as4 : Bool) (prefix ge least le most : List ℕ) → IfSome (within
 unfolding within_of
 within_ok as4 prefix ge least le most =
     either (bytes_eq ge (codes "ge") && bytes_eq le (codes "le")) _ None (IsCondition as4)
-    (and_then (prefix_of 32 prefix) _ (λ q. IsMasked 32 q × (q.address < 2 ^ 32)) (IsCondition as4) (prefix_ok prefix) (λ q hq.
+    (and_then (prefix_of 32 prefix) _ IsIpv4Prefix (IsCondition as4) (prefix_ok prefix) (λ q hq.
     and_then (number_below 33 least) _ (λ n. n < 33) (IsCondition as4) (below 33 least) (λ n hn.
-    and_then (number_below 33 most) _ (λ n. n < 33) (IsCondition as4) (below 33 most) (λ m hm. (hq.0, hq.1, omega arith, omega arith))))) tt
+    and_then (number_below 33 most) _ (λ n. n < 33) (IsCondition as4) (below 33 most) (λ m hm. (hq, omega (arith, hn), omega (arith, hm)))))) tt
 
 setting_ok : (w number : List ℕ) → IfSome (setting_of w number) IsAction
 unfolding setting_of

@@ -6,17 +6,18 @@ use Rattle.std.proofs.lemmas.Bool.{eqb-true, eq-eqb, leb-true, le-leb}
 use Rattle.std.proofs.lemmas.Bool.Decides.{Decides-and, Decides-like, Decides-eqb, not_from_Decides}
 use Rattle.std.proofs.lemmas.List.Folds.{Any-from_list_any, list_any-from_Any, list_any_at}
 use Rattle.std.proofs.lemmas.Map.Views.{Contains-from_any}
+use Rattle.addr4.specs.Blocks.{width}
 use Rattle.addr4.specs.Prefixes.{AddressPrefix, Covers, behind}
 use Rattle.bgp_attr.specs.Paths.{HasAs}
 use Rattle.bgp_attr.specs.declared.path.Segment.{Segment}
 use Rattle.bgp_attr.specs.declared.attrs.Origin as origin
 use Rattle.bgp_attr.specs.declared.attrs.Origin.TheVariants.{Igp, Egp, Incomplete}
-use Rattle.bgp_attr.specs.declared.route.Route.{Route}
-use Rattle.policy_rules.specs.declared.rule.Condition.{Condition}
+use Rattle.bgp_attr.specs.Routes.{Route}
+use Rattle.policy_rules.specs.Rules.{Condition}
 use Rattle.policy_rules.specs.declared.rule.Condition.TheVariants.{Any as All, Within, Path, Origin}
 use Rattle.policy_rules.specs.declared.rule.Verdict.{Verdict}
 use Rattle.policy_rules.specs.declared.rule.Verdict.TheVariants.{Accept, Reject, Next}
-use Rattle.policy_rules.specs.declared.rule.Rule.{Rule}
+use Rattle.policy_rules.specs.Rules.{Rule}
 use Rattle.policy_rules.specs.Judged.{Judged, Holds, PassesOn, Decides as DecidesBy, acted}
 use Rattle.policy_rules.specs.Verdicts.{has_as, origin_number, covers, holds, by_verdict, judged_by}
 use Rattle.policy_rules.specs.Laws.{AnswerIsJudged}
@@ -42,10 +43,10 @@ has_decides path asn = any_decides _ _ (λ s. number_decides s.numbers asn) path
 at_most_decides : (a b : ℕ) → Decides (nat_le a b) (a ≤ b)
 at_most_decides a b = (leb-true a b, le-leb a b)
 
-covers_decides : (p q : AddressPrefix) → Decides (covers p q) (Covers 32 p q)
+covers_decides : (p q : AddressPrefix) → Decides (covers p q) (Covers width p q)
 covers_decides p q =
     Decides-like _ (λ h. record { from = h.0; to = h.1 }) (λ h. (h.from, h.to))
-    (Decides-and _ _ (at_most_decides p.address q.address) (at_most_decides (behind 32 q) (behind 32 p)))
+    (Decides-and _ _ (at_most_decides p.address q.address) (at_most_decides (behind width q) (behind width p)))
 
 same_origin : (a b : origin.Origin) → origin_number a ≡ origin_number b → a ≡ b
 same_origin Igp Igp e = refl

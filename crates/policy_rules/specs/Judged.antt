@@ -1,20 +1,21 @@
 -- The first rule that decides.
 use Rattle.std.specs.Prelude.{◌≡◌, ◌≤◌, ◌⊎◌, List, [], ◌∷◌, ◌++◌, Option, Some, None, fold}
+use Rattle.addr4.specs.Blocks.{width}
 use Rattle.addr4.specs.Prefixes.{AddressPrefix, Covers}
 use Rattle.bgp_attr.specs.Paths.{HasAs}
-use Rattle.bgp_attr.specs.declared.route.Route.{Route}
-use Rattle.policy_rules.specs.declared.rule.Condition.{Condition}
+use Rattle.bgp_attr.specs.Routes.{Route}
+use Rattle.policy_rules.specs.Rules.{Condition}
 use Rattle.policy_rules.specs.declared.rule.Condition.TheVariants.{Any, Within, Path, Origin}
 use Rattle.policy_rules.specs.declared.rule.Action.{Action}
 use Rattle.policy_rules.specs.declared.rule.Action.TheVariants.{Pref, Med, NoMed, Prepend}
 use Rattle.policy_rules.specs.declared.rule.Verdict.{Verdict}
 use Rattle.policy_rules.specs.declared.rule.Verdict.TheVariants.{Accept, Reject, Next}
-use Rattle.policy_rules.specs.declared.rule.Rule.{Rule}
+use Rattle.policy_rules.specs.Rules.{Rule}
 
 -- the condition holds of a route at a prefix
 abbrev pub Holds : Condition → AddressPrefix → Route → Type 0
 Holds Any p r = Unit {0}
-Holds (Within q least most) p r = Covers 32 q p × (least ≤ p.length) × (p.length ≤ most)
+Holds (Within q least most) p r = Covers width q p × (least ≤ p.length) × (p.length ≤ most)
 Holds (Path asn) p r = HasAs r.attrs.path asn
 Holds (Origin o) p r = r.attrs.origin ≡ o
 

@@ -1,8 +1,8 @@
 -- What holds of judging as a whole.
 use Rattle.std.specs.Prelude.{◌≡◌, List, Option}
 use Rattle.addr4.specs.Prefixes.{AddressPrefix}
-use Rattle.bgp_attr.specs.declared.route.Route.{Route}
-use Rattle.policy_rules.specs.declared.rule.Rule.{Rule}
+use Rattle.bgp_attr.specs.Routes.{Route}
+use Rattle.policy_rules.specs.Rules.{Rule}
 use Rattle.policy_rules.specs.Judged.{Judged}
 use Rattle.policy_rules.specs.Verdicts.{judged_by}
 

@@ -1,17 +1,17 @@
 -- The ranges of what stands in rules that were read.
 use Rattle.std.specs.Prelude.{◌<◌, ◌≤◌, ◌^◌, Bool, List, All}
-use Rattle.addr4.specs.Prefixes.{IsMasked}
-use Rattle.policy_rules.specs.declared.rule.Condition.{Condition}
+use Rattle.addr4.specs.Families.{IsIpv4Prefix}
+use Rattle.policy_rules.specs.Rules.{Condition}
 use Rattle.policy_rules.specs.declared.rule.Condition.TheVariants.{Any, Within, Path, Origin}
 use Rattle.policy_rules.specs.declared.rule.Action.{Action}
 use Rattle.policy_rules.specs.declared.rule.Action.TheVariants.{Pref, Med, NoMed, Prepend}
-use Rattle.policy_rules.specs.declared.rule.Rule.{Rule}
+use Rattle.policy_rules.specs.Rules.{Rule}
 use Rattle.bgp_attr.specs.Speakers.{asn_bound}
 
--- a prefix masked to its length, lengths to 32, an AS of two octets or four
+-- an IPv4 prefix, lengths to 32, an AS of two octets or four
 abbrev pub IsCondition : Bool → Condition → Type 0
 IsCondition as4 Any = Unit {0}
-IsCondition as4 (Within q least most) = IsMasked 32 q × (q.address < 2 ^ 32) × (least ≤ 32) × (most ≤ 32)
+IsCondition as4 (Within q least most) = IsIpv4Prefix q × (least ≤ 32) × (most ≤ 32)
 IsCondition as4 (Path asn) = asn < asn_bound as4
 IsCondition as4 (Origin o) = Unit {0}
 

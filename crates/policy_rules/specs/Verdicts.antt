@@ -2,16 +2,17 @@
 -- law.
 use Rattle.std.specs.Prelude.{ℕ, ◌==◌, ◌&&◌, nat_le, nat_eq, Bool, true, cond, List, [], ◌∷◌, Option, Some, None}
 use Rattle.std.specs.List.{list_any}
+use Rattle.addr4.specs.Blocks.{width}
 use Rattle.addr4.specs.Prefixes.{AddressPrefix, behind}
 use Rattle.bgp_attr.specs.declared.path.Segment.{Segment}
 use Rattle.bgp_attr.specs.declared.attrs.Origin as origin
 use Rattle.bgp_attr.specs.declared.attrs.Origin.TheVariants.{Igp, Egp, Incomplete}
-use Rattle.bgp_attr.specs.declared.route.Route.{Route}
-use Rattle.policy_rules.specs.declared.rule.Condition.{Condition}
+use Rattle.bgp_attr.specs.Routes.{Route}
+use Rattle.policy_rules.specs.Rules.{Condition}
 use Rattle.policy_rules.specs.declared.rule.Condition.TheVariants.{Any, Within, Path, Origin}
 use Rattle.policy_rules.specs.declared.rule.Verdict.{Verdict}
 use Rattle.policy_rules.specs.declared.rule.Verdict.TheVariants.{Accept, Reject, Next}
-use Rattle.policy_rules.specs.declared.rule.Rule.{Rule}
+use Rattle.policy_rules.specs.Rules.{Rule}
 use Rattle.policy_rules.specs.Judged.{acted}
 
 -- the AS is in some segment
@@ -24,7 +25,7 @@ origin_number Egp = 1
 origin_number Incomplete = 2
 
 abbrev pub covers : AddressPrefix → AddressPrefix → Bool
-covers p q = nat_le p.address q.address && nat_le (behind 32 q) (behind 32 p)
+covers p q = nat_le p.address q.address && nat_le (behind width q) (behind width p)
 
 -- whether the condition holds
 abbrev pub holds : Condition → AddressPrefix → Route → Bool

@@ -5,7 +5,7 @@ use Rattle.std.specs.List.{filter}
 use Rattle.addr4.specs.Texts.{number_of, number_below, prefix_of, parts}
 use Rattle.bgp_attr.specs.declared.attrs.Origin as origin
 use Rattle.bgp_attr.specs.declared.attrs.Origin.TheVariants.{Igp, Egp, Incomplete}
-use Rattle.policy_rules.specs.declared.rule.Condition.{Condition}
+use Rattle.policy_rules.specs.Rules.{Condition}
 use Rattle.policy_rules.specs.declared.rule.Condition.TheVariants.{Within}
 use Rattle.policy_rules.specs.declared.rule.Action.{Action}
 use Rattle.policy_rules.specs.declared.rule.Action.TheVariants.{Pref, Med, Prepend}

@@ -3,7 +3,6 @@
 ghost use Rattle.std.specs.Prelude.{◌≡◌, ◌∷◌, ◌<◌, ◌≤◌, ◌++◌, Bool, List, [], length, IfOk, IfSome, None, MatchOption};
 ghost use Rattle.std.specs.Result.{result_ok};
 ghost use Rattle.policy_rules.specs.declared.rule.Action.{Action};
-ghost use Rattle.policy_rules.specs.declared.rule.Condition.{Condition};
 ghost use Rattle.policy_rules.specs.Words.{words};
 ghost use Rattle.policy_rules.specs.Ranges.{AreRules};
 ghost use Rattle.policy_rules.specs.Grammar.{rules_of, behind, behind_prefix, at_action, in_front};
@@ -132,7 +131,7 @@ fn within<'a>(profile: Profile, prefix: &[u8], rest: &'a [u8]) -> Option<(Condit
 /// An action, by its first word and what follows that, and what follows the action.
 #[tactic(auto, unfolding(crate::specs::Grammar::rules_of))]
 fn action<'a>(word: &[u8], rest: &'a [u8]) -> Option<(Action, &'a [u8])>
-    ensures value { (as4 : Bool) (c : Condition) (before : List Action) → MatchOption result (at_action as4 c before word.now (words rest.now) ≡ None) (λ r. at_action as4 c before word.now (words rest.now) ≡ behind as4 c (before ++ r.0 ∷ []) (words r.1.now)) }
+    ensures value { (as4 : Bool) (c : _) (before : List Action) → MatchOption result (at_action as4 c before word.now (words rest.now) ≡ None) (λ r. at_action as4 c before word.now (words rest.now) ≡ behind as4 c (before ++ r.0 ∷ []) (words r.1.now)) }
     ensures shorter { IfSome result (λ r. length (words r.1.now) ≤ length (words rest.now)) }
 {
     if word == b"nomed".as_slice() {

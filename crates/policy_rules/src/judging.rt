@@ -1,19 +1,23 @@
 //! The first rule that decides.
 
 ghost use Rattle.std.specs.Prelude.{◌≡◌, ◌↔◌, IsTrue, IfSome, is_some};
-ghost use Rattle.bgp_attr.specs.declared.route.Route.{Route};
+ghost use Rattle.bgp_attr.specs.Routes.{Route as Routed};
 ghost use Rattle.policy_rules.specs.Judged.{Holds, Judged, KeepsSource, Outcome, done, acted};
 ghost use Rattle.policy_rules.specs.Verdicts.{judged_by};
 
 use crate::rule::{Action, Condition, Rule, Rules, Verdict};
-use addr4::Prefix;
-use bgp_attr::{Attrs, Route};
+use addr4::{Addr, Family, Prefix};
+use bgp_attr::{Attrs, Route, SharedAttrs};
 
 /// Lets a route of a prefix pass along the rules. A rule whose condition doesn't hold passes the route on; so does one
 /// whose verdict is `next`, after its actions. The first other rule decides: `accept` does its actions and accepts, `reject`
 /// rejects. After the last rule the route is accepted as it then is. None exactly where a rule rejects. The route's
 /// attributes, its interior metric and its peer stay. Takes no memory.
-pub fn judge(rules: &Rules, prefix: Prefix, route: Route) -> Option<Route>
+pub fn judge<F: Family>(
+    rules: &Rules<F>,
+    prefix: Prefix<F>,
+    route: Route<SharedAttrs<F>>,
+) -> Option<Route<SharedAttrs<F>>>
     ensures judged { Judged rules.now prefix route result }
     ensures value { result ≡ judged_by rules.now prefix route }
     ensures kept { IfSome result (KeepsSource route) }
@@ -30,8 +34,8 @@ pub fn judge(rules: &Rules, prefix: Prefix, route: Route) -> Option<Route>
 }
 
 /// Whether [`judge`] accepts routes with these attributes: no condition looks at anything else of a route. Takes no memory.
-pub fn accepts(rules: &Rules, prefix: Prefix, attrs: &Attrs) -> bool
-    ensures { (r : Route) → r.attrs ≡ attrs.now → result ≡ is_some (judged_by rules.now prefix r) }
+pub fn accepts<F: Family>(rules: &Rules<F>, prefix: Prefix<F>, attrs: &Attrs<Addr<F>>) -> bool
+    ensures { (r : Routed) → r.attrs ≡ attrs.now → result ≡ is_some (judged_by rules.now prefix r) }
 {
     for rule in rules.as_slice() {
         if holds(rule.condition, prefix, attrs) {
@@ -46,7 +50,11 @@ pub fn accepts(rules: &Rules, prefix: Prefix, attrs: &Attrs) -> bool
 }
 
 /// What one rule does: `Next` where it passes the route on.
-fn outcome(rule: &Rule, prefix: Prefix, route: &mut Route) -> Verdict
+fn outcome<F: Family>(
+    rule: &Rule<Prefix<F>>,
+    prefix: Prefix<F>,
+    route: &mut Route<SharedAttrs<F>>,
+) -> Verdict
     ensures { Outcome result rule.now prefix route.old route.new }
 {
     if !holds(rule.condition, prefix, route.attrs.attrs()) {
@@ -57,8 +65,12 @@ fn outcome(rule: &Rule, prefix: Prefix, route: &mut Route) -> Verdict
 }
 
 /// Whether a condition holds of a route of this prefix with these attributes.
-fn holds(condition: Condition, prefix: Prefix, attrs: &Attrs) -> bool
-    ensures { (r : Route) → r.attrs ≡ attrs.now → (IsTrue result ↔ Holds condition prefix r) }
+fn holds<F: Family>(
+    condition: Condition<Prefix<F>>,
+    prefix: Prefix<F>,
+    attrs: &Attrs<Addr<F>>,
+) -> bool
+    ensures { (r : Routed) → r.attrs ≡ attrs.now → (IsTrue result ↔ Holds condition prefix r) }
 {
     match condition {
         Condition::Any => true,
@@ -73,7 +85,7 @@ fn holds(condition: Condition, prefix: Prefix, attrs: &Attrs) -> bool
 }
 
 /// Does actions, in order.
-fn act(actions: &[Action], route: &mut Route)
+fn act<F: Family>(actions: &[Action], route: &mut Route<SharedAttrs<F>>)
     ensures { route.new ≡ acted actions.now route.old }
 {
     for action in actions {
@@ -82,7 +94,7 @@ fn act(actions: &[Action], route: &mut Route)
 }
 
 /// Does one action.
-fn set(action: Action, route: &mut Route)
+fn set<F: Family>(action: Action, route: &mut Route<SharedAttrs<F>>)
     ensures { route.new ≡ done action route.old }
 {
     match action {

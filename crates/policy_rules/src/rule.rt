@@ -2,18 +2,18 @@
 
 ghost use Rattle.std.specs.Prelude.{◌≡◌, [], length, IfOk};
 
-use addr4::{Memory, Prefix};
+use addr4::{Family, Memory, Prefix, V4};
 use bgp_attr::Origin;
 use std::alloc::Global;
 use std::marker::Model;
 
 /// Which routes a rule is for.
 #[derive(Clone, Copy, PartialEq, Eq)]
-pub enum Condition {
+pub enum Condition<P = Prefix> {
     /// `any`: all.
     Any,
     /// `PREFIX ge N le N`: those whose prefix lies in this one, with a length from the least to the most, 0 to 32.
-    Within { prefix: Prefix, least: u8, most: u8 },
+    Within { prefix: P, least: u8, most: u8 },
     /// `path AS`: those with this AS number in some segment of the AS path.
     Path(u32),
     /// `origin N`: those with this ORIGIN.
@@ -87,15 +87,15 @@ impl Actions {
 
 /// One rule.
 #[derive(Drop)]
-pub struct Rule {
-    pub condition: Condition,
+pub struct Rule<P = Prefix> {
+    pub condition: Condition<P>,
     pub actions: Actions,
     pub verdict: Verdict,
 }
 
-impl Rule {
+impl<F: Family> Rule<Prefix<F>> {
     /// The same rule again.
-    pub fn copy(&self, alloc: Global) -> Result<Rule, Memory>
+    pub fn copy(&self, alloc: Global) -> Result<Rule<Prefix<F>>, Memory>
         ensures { IfOk result (λ copied. copied ≡ self.now) }
     {
         Ok(Rule {
@@ -108,22 +108,22 @@ impl Rule {
 
 /// A list of rules, perhaps empty.
 #[derive(Drop)]
-pub struct Rules {
-    items: Vec<Rule>,
+pub struct Rules<F: Family = V4> {
+    items: Vec<Rule<Prefix<F>>>,
 }
 
-impl Model for Rules {
+impl<F: Family> Model for Rules<F> {
     ghost use Rattle.std.specs.Prelude.{List};
-    ghost use Rattle.policy_rules.specs.declared.rule.Rule.{Rule};
+    ghost use Rattle.policy_rules.specs.Rules.{Rule};
 
     ghost Value = { List Rule };
 
     ghost view = { λ r. r.items.items };
 }
 
-impl Rules {
+impl<F: Family> Rules<F> {
     /// The empty list; takes no memory.
-    pub fn new(alloc: Global) -> Rules
+    pub fn new(alloc: Global) -> Rules<F>
         ensures { result ≡ [] }
     {
         Rules {
@@ -132,14 +132,14 @@ impl Rules {
     }
 
     /// Takes no memory.
-    pub fn from_vec(items: Vec<Rule>) -> Rules
+    pub fn from_vec(items: Vec<Rule<Prefix<F>>>) -> Rules<F>
         ensures { result ≡ items.items }
     {
         Rules { items }
     }
 
     /// The same rules again.
-    pub fn copy(&self, alloc: Global) -> Result<Rules, Memory>
+    pub fn copy(&self, alloc: Global) -> Result<Rules<F>, Memory>
         ensures { IfOk result (λ copied. copied ≡ self.now) }
     {
         let mut items = Vec::with_capacity(alloc, self.items.len())?;
@@ -156,7 +156,7 @@ impl Rules {
         self.items.len()
     }
 
-    pub fn as_slice(&self) -> &[Rule]
+    pub fn as_slice(&self) -> &[Rule<Prefix<F>>]
         ensures { result.now ≡ self.now }
     {
         self.items.as_slice()

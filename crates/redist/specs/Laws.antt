@@ -1,10 +1,10 @@
 -- Laws of redistribution, for the crates above.
 use Rattle.std.specs.Prelude.{◌≡◌, ◌≢◌, Bool, Some, None, Option}
 use Rattle.addr4.specs.Prefixes.{AddressPrefix}
-use Rattle.bgp_attr.specs.declared.route.Route.{Route}
-use Rattle.bgp_attr.specs.declared.speaker.Speaker.{Speaker}
+use Rattle.bgp_attr.specs.Routes.{Route}
+use Rattle.bgp_attr.specs.Speakers.{Speaker}
 use Rattle.rib_route.specs.declared.Proto.{Proto}
-use Rattle.rib_route.specs.declared.rows.Interior.{Interior}
+use Rattle.rib_route.specs.Rows.{Interior}
 use Rattle.link_change.specs.Rows.{Rows, no_rows}
 use Rattle.pass_core.specs.Split.{MakesNone}
 use Rattle.pass_core.specs.Turns.{passed_rows}

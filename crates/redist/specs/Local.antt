@@ -1,12 +1,12 @@
 -- The routes of this speaker's own, which redistribution makes of interior ones (RFC 4271, sections 5.1 and 9.4).
 use Rattle.std.specs.Prelude.{ℕ, Bool, false, if◌then◌else◌, [], Option, Some, None}
 use Rattle.addr4.specs.Prefixes.{AddressPrefix}
-use Rattle.bgp_attr.specs.declared.attrs.Attrs.{Attrs}
+use Rattle.bgp_attr.specs.Attributes.{Attrs}
 use Rattle.bgp_attr.specs.declared.attrs.Origin.TheVariants.{Incomplete}
-use Rattle.bgp_attr.specs.declared.route.Route.{Route}
+use Rattle.bgp_attr.specs.Routes.{Route}
 use Rattle.bgp_attr.specs.Reflections.{not_reflected}
-use Rattle.bgp_attr.specs.declared.speaker.Speaker.{Speaker}
-use Rattle.rib_route.specs.declared.rows.Interior.{Interior}
+use Rattle.bgp_attr.specs.Speakers.{Speaker}
+use Rattle.rib_route.specs.Rows.{Interior}
 use Rattle.redist.specs.declared.protos.Protos.{Protos}
 use Rattle.redist.specs.Protocols.{has}
 

@@ -2,7 +2,6 @@
 
 ghost use Rattle.std.specs.Prelude.{◌≡◌, IfOk, OnErr, None, IsSome, IfSome, is_some};
 ghost use Rattle.addr4.specs.Places.{key_of};
-ghost use Rattle.bgp_attr.specs.declared.speaker.Speaker.{Speaker};
 ghost use Rattle.link_change.specs.Rows.{IsNextCandidate, CoversRows};
 ghost use Rattle.pass_core.specs.Passed.{edited, holds_up, present, waits};
 ghost use Rattle.pass_core.specs.Turns.{passed, passed_rows, IsPassedOn, IsWalked};
@@ -11,8 +10,8 @@ ghost use Rattle.redist.specs.Local.{redistributed};
 
 use crate::local::Maker;
 use crate::protos::Protos;
-use addr4::{Memory, Place, Prefix};
-use bgp_attr::{Route, Speaker};
+use addr4::{Addr, Family, Memory, Place, Prefix, V4};
+use bgp_attr::{Route, SharedAttrs, Speaker};
 use link_change::{Change, Turn, Upstream};
 use pass_core::Pass;
 use rib_route::{Interior, Proto};
@@ -21,12 +20,12 @@ use std::marker::Model;
 
 /// Redistribution of interior routes. Contracts see the set in force and the walk that is on, if any.
 #[derive(Drop)]
-pub struct Redist {
-    pass: Pass<Protos>,
-    maker: Maker,
+pub struct Redist<F: Family = V4> {
+    pass: Pass<Protos, F>,
+    maker: Maker<F>,
 }
 
-impl Model for Redist {
+impl<F: Family> Model for Redist<F> {
     ghost use Rattle.pass_core.specs.Passed.{Passed};
     ghost use Rattle.redist.specs.declared.protos.Protos.{Protos};
 
@@ -35,9 +34,9 @@ impl Model for Redist {
     ghost view = { λ r. r.pass };
 }
 
-impl Redist {
+impl<F: Family> Redist<F> {
     /// Nothing is redistributed. Takes no memory.
-    pub fn new(alloc: Global) -> Redist
+    pub fn new(alloc: Global) -> Redist<F>
         ensures { result ≡ record { in_force = no_protos; walk = None } }
     {
         Redist {
@@ -65,15 +64,15 @@ impl Redist {
 
     /// Whether another set than the latest one may hold at a prefix: a walk is on that has yet to come there, or at whose end a
     /// set waits.
-    pub fn holds_up(&self, prefix: Prefix) -> bool
+    pub fn holds_up(&self, prefix: Prefix<F>) -> bool
         ensures { result ≡ holds_up self.now prefix }
     {
         self.pass.holds_up(prefix)
     }
 
     /// Whether `red` has a row at a prefix, where this is the row of `int`. Takes no memory.
-    pub fn has(&self, row: &Option<Interior>, prefix: Prefix) -> bool
-        ensures { (me : Speaker) → result ≡ is_some (passed (redistributed me) self.now prefix row.now) }
+    pub fn has(&self, row: &Option<Interior<Addr<F>>>, prefix: Prefix<F>) -> bool
+        ensures { (me : _) → result ≡ is_some (passed (redistributed me) self.now prefix row.now) }
     {
         match row {
             None => false,
@@ -89,7 +88,7 @@ impl Redist {
     }
 
     /// How far the walk has come. To be asked while a walk is on.
-    pub fn place(&self) -> Place
+    pub fn place(&self) -> Place<Prefix<F>>
         requires { IsSome self.now.walk }
         ensures { IfSome self.now.walk (λ walk. key_of result ≡ walk.place) }
     {
@@ -107,9 +106,9 @@ impl Redist {
     /// same. Memory only for want of memory: then nothing changes.
     pub fn take_in(
         &mut self,
-        change: Change<Interior>,
-        me: &Speaker,
-    ) -> Result<Option<Change<Route>>, Memory>
+        change: Change<Interior<Addr<F>>, Prefix<F>>,
+        me: &Speaker<Addr<F>>,
+    ) -> Result<Option<Change<Route<SharedAttrs<F>>, Prefix<F>>>, Memory>
         ensures sent { IfOk result (IsPassedOn (redistributed me.now) self.old change) }
         ensures same { self.new ≡ self.old }
     {
@@ -122,11 +121,11 @@ impl Redist {
     /// One turn of the walk: it goes to the least candidate of `int` that lies beyond its place, and sends the change there, if
     /// there is one. The turn that finds no candidate ends the walk; a set that waited then begins a walk of its own. Nothing
     /// exactly where no walk is on. Memory only for want of memory: then nothing changes.
-    pub fn unit<U: Upstream<Row = Interior>>(
+    pub fn unit<U: Upstream<F, Row = Interior<Addr<F>>>>(
         &mut self,
         upper: &U,
-        me: &Speaker,
-    ) -> Result<Turn<Route>, Memory>
+        me: &Speaker<Addr<F>>,
+    ) -> Result<Turn<Route<SharedAttrs<F>>, Prefix<F>>, Memory>
         ensures taken { IfOk result (IsWalked (redistributed me.now) (U.candidates upper.now) (U.rows upper.now) self.old self.new) }
         ensures memory { OnErr result (self.new ≡ self.old) }
     {
@@ -148,12 +147,12 @@ impl Redist {
 
     /// The row at a prefix of the link below. Where no protocol is in the set that holds there, the link above isn't asked.
     /// Memory only for want of memory.
-    pub fn asked<U: Upstream<Row = Interior>>(
+    pub fn asked<U: Upstream<F, Row = Interior<Addr<F>>>>(
         &self,
         upper: &U,
-        prefix: Prefix,
-        me: &Speaker,
-    ) -> Result<Option<Route>, Memory>
+        prefix: Prefix<F>,
+        me: &Speaker<Addr<F>>,
+    ) -> Result<Option<Route<SharedAttrs<F>>>, Memory>
         ensures { IfOk result (λ row. row ≡ passed_rows (redistributed me.now) self.now (U.rows upper.now) prefix) }
     {
         let on = *self.pass.at(prefix);
@@ -166,13 +165,13 @@ impl Redist {
 
     /// The least candidate of the link below beyond a place: those of the link above, of which some may have no row below.
     /// Every row below stands at one.
-    pub fn next_candidate<U: Upstream<Row = Interior>>(
+    pub fn next_candidate<U: Upstream<F, Row = Interior<Addr<F>>>>(
         &self,
         upper: &U,
-        after: Place,
-    ) -> Option<Prefix>
+        after: Place<Prefix<F>>,
+    ) -> Option<Prefix<F>>
         ensures next { IsNextCandidate (U.candidates upper.now) (key_of after) result }
-        ensures covers { (me : Speaker) → CoversRows (U.candidates upper.now) (passed_rows (redistributed me) self.now (U.rows upper.now)) }
+        ensures covers { (me : _) → CoversRows (U.candidates upper.now) (passed_rows (redistributed me) self.now (U.rows upper.now)) }
     {
         upper.next_candidate(&after)
     }

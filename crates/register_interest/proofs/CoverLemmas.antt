@@ -1,20 +1,14 @@
 -- The longest row is one for a whole subnet, and which change can change it.
 use Rattle.std.proofs.Common.{◌≡◌, ℕ, zero, suc, ◌+◌, ◌-◌, ◌*◌, ◌/◌, ◌%◌, ◌<◌, ◌≤◌, cond, Option, Some, None, refl, sym, ap, ◌∙◌, subst, inl, inr, arith}
-use Rattle.std.proofs.lemmas.Nat.{div-add-mod', mod-mul-add}
 use Rattle.std.proofs.lemmas.Bool.{cases_lt, cases_eq}
 use Rattle.addr4.specs.Blocks.{size_of_length, masked_to}
 use Rattle.addr4.specs.Prefixes.{AddressPrefix, IsMasked, Covers, Overlaps, Holds, block}
-use Rattle.addr4.proofs.BlockLemmas.{from_masked, to_masked, apart, size_pos, masked_at, covers_from_holds}
+use Rattle.addr4.proofs.BlockLemmas.{from_masked, to_masked, apart, size_pos, masked_at, covers_from_holds, masked_down}
 use Rattle.addr4.proofs.PrefixOrder.{by_prefix}
 use Rattle.link_change.specs.Rows.{Rows, with_row}
 use Rattle.register_interest.specs.Covers.{keyed_or, longest_to, longest, IsLongest, matched, IsFree, IsCover, IsWithin, IsHit, Stands}
 
 -- ---- blocks of an address
-
-masked_down : (a s : ℕ) → 0 < s → (a - a % s) % s ≡ 0
-masked_down a s pos =
-    let e : a - a % s ≡ a / s * s + 0 = omega (arith, div-add-mod' a s) in
-    ap (λ y. y % s) e ∙ mod-mul-add (a / s) s 0 pos
 
 pub block_masked : (w a n : ℕ) → n ≤ w → IsMasked w (block w a n)
 block_masked w a n le = (le, masked_down a (size_of_length w n) (size_pos w n))

@@ -8,7 +8,8 @@ use Rattle.addr4.proofs.BlockLemmas.{size_pos}
 use Rattle.addr4.proofs.HalfLemmas.{same_block, block_same}
 use Rattle.link_change.specs.Rows.{Rows}
 use Rattle.register_interest.specs.Covers.{longest}
-use Rattle.register_interest.specs.Search.{IsLastTo, IsNoneAbove, Shared}
+use Rattle.addr4.specs.Blocks.{Shared}
+use Rattle.register_interest.specs.Search.{IsLastTo, IsNoneAbove, AreShort}
 use Rattle.register_interest.proofs.CoverLemmas.{block_masked, block_holds, nested, held_by_cover, longest_from}
 use Rattle.register_interest.proofs.OrderLemmas.{before_address, before_length, cases_before, cases_up_to, up_to, inside}
 
@@ -50,8 +51,8 @@ pub record IsDescent {V : Type 0} (w : ℕ) (rows : Rows V) (a n : ℕ) : Type 0
   pub within : n ≤ w
   pub none : IsNoneAbove w rows a n
 
-pub descent_first : {V : Type 0} (w : ℕ) (rows : Rows V) (a n : ℕ) → n ≡ w → IsDescent w rows a n
-descent_first w rows a n is = record { within = omega arith; none = λ q mq hq lt. absurd (let le = mq.0 in omega arith) }
+pub descent_first : {V : Type 0} (w most : ℕ) (rows : Rows V) (a n : ℕ) → n ≡ most → most ≤ w → AreShort most rows → IsDescent w rows a n
+descent_first w most rows a n is le short = record { within = omega arith; none = λ q mq hq lt. short q (omega arith) }
 
 -- no row up to the bound
 pub descent_none : {V : Type 0} (w : ℕ) (rows : Rows V) (a n : ℕ) (b : AddressPrefix) → IsDescent w rows a n → b ≡ block w a n → IsLastTo rows b None → None ≡ longest w rows a

@@ -1,5 +1,5 @@
 -- Interests as a finite map, their order, and those that a change reaches.
-use Rattle.std.proofs.Common.{◌≡◌, ◌⊎◌, ◌≤◌, ◌<◌, ◌+◌, ◌-◌, ◌^◌, ◌&&◌, ℕ, Bool, true, false, not, cond, List, [], ◌∷◌, ◌++◌, refl, sym, ap, ◌∙◌, subst, inl, inr, Option, Some, None, length, arith, zero, suc}
+use Rattle.std.proofs.Common.{◌≡◌, ◌⊎◌, ◌≤◌, ◌<◌, ◌+◌, ◌-◌, ◌%◌, ◌^◌, ◌&&◌, ℕ, Bool, true, false, not, cond, List, [], ◌∷◌, ◌++◌, refl, sym, ap, ◌∙◌, subst, inl, inr, Option, Some, None, length, arith, zero, suc}
 use Rattle.std.proofs.lemmas.Bool.{cases_lt, cases_eq}
 use Rattle.std.proofs.lemmas.Bool.Decides.{nat_tests}
 use Rattle.std.specs.List.{Contains}
@@ -20,13 +20,14 @@ use Rattle.std.proofs.lemmas.Map.Views.{btree_map_get_iff}
 use Rattle.std.proofs.lemmas.Map.Lookups.{exact_pairs, exact_unsigned}
 use Rattle.std.proofs.lemmas.List.Elements.{Contains-append_left, Contains-append_right, Contains-append_cases, Contains-push, Contains-push_cases}
 use Rattle.addr4.specs.Prefixes.{AddressPrefix, prefix_cmp, ComesBefore, IsMasked, Covers, Holds, behind, block}
-use Rattle.addr4.proofs.BlockLemmas.{size_pos, covers_length, covers_holds}
+use Rattle.addr4.specs.Blocks.{size_of_length}
+use Rattle.addr4.proofs.BlockLemmas.{size_pos, size_falls, covers_length, covers_holds}
 use Rattle.addr4.proofs.HalfLemmas.{same_from_covers}
 use Rattle.addr4.proofs.PrefixOrder.{prefixes_total, exact_prefixes}
 use Rattle.link_change.proofs.MapLemmas.{map_read, read_in, removed_at, removed_apart, by_key}
 use Rattle.register_interest.specs.Covers.{IsHit}
-use Rattle.register_interest.specs.declared.interests.Interest.{Interest}
-use Rattle.register_interest.specs.Interests.{Interests, interest_cmp, IsProper, AreProper, Pushes, IsBetween, Appends, AreReached, without}
+use Rattle.register_interest.specs.Interests.{Interest}
+use Rattle.register_interest.specs.Interests.{Interests, interest_cmp, IsProper, AreProper, AreShortIn, Pushes, IsBetween, Appends, AreReached, without}
 use Rattle.register_interest.proofs.CoverLemmas.{block_masked, block_holds, block_is, nested}
 use Rattle.register_interest.proofs.OrderLemmas.{before_address, before_length, before_by_address, before_by_length, cases_before, not_itself, inside, between}
 use Rattle.register_interest.proofs.ListLemmas.{sorted_append, sorted_front, contains_filter, filter_contains, keys_pushed, has_key, keys_filter}
@@ -228,6 +229,15 @@ choose w p m P Q before now proper onward back is = record {
   all = λ k f e hit q. is.all k f e hit (back k (proper k f e) q);
 }
 
+choose_short : (w most : ℕ) (p : AddressPrefix) (m : Interests) (P Q : Interest → Type 0) (before now : List Interest) → AreProper w m → AreShortIn most m → ((k : Interest) → IsProper w k → P k → Q k) → ((k : Interest) → IsProper w k → k.subnet.length ≤ most → Q k → P k) → Appends w p (get m) P before now → Appends w p (get m) Q before now
+choose_short w most p m P Q before now proper short onward back is = record {
+  hits = is.hits;
+  is = is.is;
+  sorted = is.sorted;
+  only = λ k c. let o = is.only k c in (o.0, o.1, o.2, onward k (proper k o.0 o.1) o.3);
+  all = λ k f e hit q. is.all k f e hit (back k (proper k f e) (short k f e) q);
+}
+
 -- those in one subnet
 pub at_subnet : (w : ℕ) (p s : AddressPrefix) (m : Interests) (before now : List Interest) → AreProper w m → Appends w p (get m) (IsBetween (first_of s) (last_of s)) before now → Appends w p (get m) (λ k. k.subnet ≡ s) before now
 at_subnet w p s m before now proper is =
@@ -235,28 +245,28 @@ at_subnet w p s m before now proper is =
     (λ k _ h. let b = between_subnets s s k h in both_from s k.subnet b.0 b.1)
     (λ k ok e. subnets_between s s k ok.1 (inl (sym e)) (inl e)) is
 
--- the last prefix that p covers, of all bits
-last_covered : (w : ℕ) (p : AddressPrefix) (a : ℕ) (q : AddressPrefix) → IsMasked w p → a + 1 ≡ behind w p → q ≡ block w a w → Covers w p q × (q.address ≡ a) × (q.length ≡ w)
-last_covered w p a q mp a_is q_is =
-    let here : Holds w p a = record { from = omega (arith, size_pos w p.length); to = omega arith } in
-    let c : Covers w p (block w a w) = nested w a p (block w a w) mp (block_masked w a w (omega arith)) mp.0 here (block_holds w a w) in
-    let h = block_holds w a w in
-    let one : w - w ≡ 0 = omega arith in
-    let f = h.from in
-    let t : a < (block w a w).address + 2 ^ (w - w) = h.to in
-    let u : a < (block w a w).address + 2 ^ 0 = subst (λ (n : ℕ). a < (block w a w).address + 2 ^ n) one t in
-    let e : (block w a w).address ≡ a = omega arith in
-    (subst (λ (x : AddressPrefix). Covers w p x) (sym q_is) c, ap (λ (x : AddressPrefix). x.address) q_is ∙ e, ap (λ (x : AddressPrefix). x.length) q_is)
+-- a prefix of so many bits begins at each of their multiples
+masked_down : (w most a : ℕ) → most ≤ w → a % 2 ^ (w - most) ≡ 0 → (block w a most).address ≡ a
+masked_down w most a top rest = omega (arith, rest)
+
+-- the last prefix that p covers, of so many bits
+last_covered : (w most : ℕ) (p : AddressPrefix) (a : ℕ) (q : AddressPrefix) → most ≤ w → p.length ≤ most → IsMasked w p → a + 2 ^ (w - most) ≡ behind w p → a % 2 ^ (w - most) ≡ 0 → q ≡ block w a most → Covers w p q × (q.address ≡ a) × (q.length ≡ most)
+last_covered w most p a q top few mp a_is rest q_is =
+    let pos = size_pos w most in
+    let size : size_of_length w most ≤ size_of_length w p.length = size_falls w p.length most few in
+    let here : Holds w p a = record { from = omega arith; to = omega arith } in
+    let c : Covers w p (block w a most) = nested w a p (block w a most) mp (block_masked w a most top) few here (block_holds w a most) in
+    (subst (λ (x : AddressPrefix). Covers w p x) (sym q_is) c, ap (λ (x : AddressPrefix). x.address) q_is ∙ masked_down w most a top rest, ap (λ (x : AddressPrefix). x.length) q_is)
 
 covered_from : (w : ℕ) (p q : AddressPrefix) → IsMasked w p → IsMasked w q → Covers w p q → IsFrom p q
 covered_from w p q mp mq c = inside w p.address p q mp mq c
 
 -- those in subnets that p covers
-pub within_subnets : (w : ℕ) (p q : AddressPrefix) (a : ℕ) (m : Interests) (before now : List Interest) → IsMasked w p → a + 1 ≡ behind w p → q ≡ block w a w → AreProper w m
+pub within_subnets : (w most : ℕ) (p q : AddressPrefix) (a : ℕ) (m : Interests) (before now : List Interest) → most ≤ w → p.length ≤ most → IsMasked w p → a + 2 ^ (w - most) ≡ behind w p → a % 2 ^ (w - most) ≡ 0 → q ≡ block w a most → AreProper w m → AreShortIn most m
     → Appends w p (get m) (IsBetween (first_of p) (last_of q)) before now → Appends w p (get m) (λ k. Covers w p k.subnet) before now
-within_subnets w p q a m before now mp a_is q_is proper is =
-    let last = last_covered w p a q mp a_is q_is in
-    choose w p m (IsBetween (first_of p) (last_of q)) (λ k. Covers w p k.subnet) before now proper
+within_subnets w most p q a m before now top few mp a_is rest q_is proper short is =
+    let last = last_covered w most p a q top few mp a_is rest q_is in
+    choose_short w most p m (IsBetween (first_of p) (last_of q)) (λ k. Covers w p k.subnet) before now proper short
     (λ k ok h. let b = between_subnets p q k h in elim b.0 [
       | inl same ↦ subst (λ (x : AddressPrefix). Covers w p x) same (record { from = omega arith; to = omega arith })
       | inr after ↦ elim b.1 [
@@ -264,28 +274,27 @@ within_subnets w p q a m before now mp a_is q_is proper is =
         | inr before_last ↦ between w p k.subnet q mp ok.0 last.0 after before_last
       ]
     ])
-    (λ k ok c. subnets_between p q k ok.1 (covered_from w p k.subnet mp ok.0 c) (elim (cases_before k.subnet q) [
+    (λ k ok bits c. subnets_between p q k ok.1 (covered_from w p k.subnet mp ok.0 c) (elim (cases_before k.subnet q) [
       | inl before_last ↦ inr before_last
       | inr o ↦ elim o [
         | inl same ↦ inl same
         | inr after ↦ absurd (
             let low = before_address q k.subnet after in
             let end = c.to in
-            let pos = size_pos w k.subnet.length in
+            let size : size_of_length w most ≤ size_of_length w k.subnet.length = size_falls w k.subnet.length most bits in
             let addr = last.1 in
             let e : q.address ≡ k.subnet.address = omega arith in
             let longer = before_length q k.subnet after e in
-            let deep = ok.0.0 in
             let whole = last.2 in
             omega arith)
       ]
     ])) is
 
 -- the range is no empty one
-pub within_forward : (w : ℕ) (p q : AddressPrefix) (a : ℕ) → IsMasked w p → a + 1 ≡ behind w p → q ≡ block w a w → IsLeBy interest_cmp (first_of p) (last_of q)
-within_forward w p q a mp a_is q_is =
-    let last = last_covered w p a q mp a_is q_is in
-    order_from (first_of p) (last_of q) (omega arith) (covered_from w p q mp (subst (λ (x : AddressPrefix). IsMasked w x) (sym q_is) (block_masked w a w (omega arith))) last.0)
+pub within_forward : (w most : ℕ) (p q : AddressPrefix) (a : ℕ) → most ≤ w → p.length ≤ most → IsMasked w p → a + 2 ^ (w - most) ≡ behind w p → a % 2 ^ (w - most) ≡ 0 → q ≡ block w a most → IsLeBy interest_cmp (first_of p) (last_of q)
+within_forward w most p q a top few mp a_is rest q_is =
+    let last = last_covered w most p a q top few mp a_is rest q_is in
+    order_from (first_of p) (last_of q) (omega arith) (covered_from w p q mp (subst (λ (x : AddressPrefix). IsMasked w x) (sym q_is) (block_masked w a most top)) last.0)
 
 pub at_forward : (s : AddressPrefix) → IsLeBy interest_cmp (first_of s) (last_of s)
 at_forward s = order_from (first_of s) (last_of s) (omega arith) (inl refl)

@@ -1,6 +1,5 @@
 pub mod CoverLemmas
 pub mod OrderLemmas
-pub mod SharedLemmas
 pub mod DescentLemmas
 pub mod MapOrderLemmas
 pub mod SearchLemmas

@@ -1,14 +1,17 @@
 -- What a register keeps.
-use Rattle.std.proofs.Common.{◌≡◌, ℕ, ◌<◌, cond, List, [], ◌∷◌, sym, ap, ◌∙◌, subst, Option, Some, None}
-use Rattle.std.specs.FinMap.{FinMap, empty, get, insert, remove, get-insert, get-remove, get-empty}
+use Rattle.std.proofs.Common.{◌≡◌, ℕ, ◌<◌, ◌≤◌, arith, cond, List, [], ◌∷◌, sym, ap, ◌∙◌, subst, Option, Some, None}
+use Rattle.std.specs.FinMap.{FinMap, from_entries, empty, get, insert, remove, get-insert, get-remove, get-empty}
 use Rattle.addr4.specs.Prefixes.{AddressPrefix, prefix_cmp, IsMasked}
 use Rattle.link_change.specs.Rows.{Rows, with_row}
 use Rattle.link_change.proofs.RowLemmas.{rows_inserted, rows_removed}
 use Rattle.link_change.proofs.MapLemmas.{by_key}
 use Rattle.register_interest.specs.Width.{width}
 use Rattle.register_interest.specs.Covers.{longest, matched, IsCover, IsHit, Stands}
-use Rattle.register_interest.specs.declared.interests.Interest.{Interest}
-use Rattle.register_interest.specs.Interests.{Interests, interest_cmp, IsProper, AreReached, without}
+use Rattle.register_interest.specs.Interests.{Interest}
+use Rattle.register_interest.specs.Interests.{Interests, interest_cmp, IsProper, AreShortIn, AreReached, without}
+use Rattle.std.specs.BTreeMap.{BTreeMap}
+use Rattle.addr4.proofs.PrefixOrder.{by_prefix}
+use Rattle.register_interest.specs.Search.{rows_in, AreShort}
 use Rattle.register_interest.specs.Registers.{AllStand, KeepsAnswers, put_row}
 use Rattle.register_interest.proofs.CoverLemmas.{cover_stands, not_hit, still_stands}
 use Rattle.register_interest.proofs.InterestLemmas.{interests_total, exact_interests, without_listed}
@@ -58,3 +61,28 @@ module _ {R : Type 0} where
   changed_stands rows m p new out mp all is = λ k f e.
       let stood = all k f (without_some m out k f e) in
       (stood.0, subst (λ (r : Rows R). Stands width r k.subnet f) (sym (rows_put rows p new)) (still_stands width (get rows) p new k.subnet f mp stood.0.0 stood.1 (left_out p m out k f is e)))
+
+  -- ---- no row and no subnet has more bits than the family's addresses
+  pub none_short : (most : ℕ) (m : BTreeMap AddressPrefix R) → m.entries ≡ [] → AreShort most (get (rows_in m))
+  none_short most m none = λ p lt. ap (λ (es : List (AddressPrefix × R)). get (from_entries {R = prefix_cmp} es) p) none ∙ get-empty prefix_cmp p
+
+  pub changed_short : (most : ℕ) (rows : FinMap prefix_cmp R) (p : AddressPrefix) (new : Option R) → p.length ≤ most → AreShort most (get rows) → AreShort most (get (put_row rows p new))
+  changed_short most rows p new few short = λ q lt.
+      ap (λ (r : Rows R). r q) (rows_put rows p new)
+      ∙ by_prefix q p (λ b. cond b new (get rows q) ≡ None) (λ same. absurd (let l : q.length ≡ p.length = ap (λ (x : AddressPrefix). x.length) same in omega arith)) (λ _. short q lt)
+
+pub no_interest_short : (most : ℕ) → AreShortIn most empty
+no_interest_short most = λ k f is. absurd (let clash : None ≡ Some f = sym (get-empty interest_cmp k) ∙ is in cc)
+
+pub removed_short : (most : ℕ) (m : Interests) (k : Interest) → AreShortIn most m → AreShortIn most (remove m k)
+removed_short most m k short = λ q f e. short q f (removed_some m k q f e)
+
+pub left_short : (most : ℕ) (m : Interests) (out : List Interest) → AreShortIn most m → AreShortIn most (without m out)
+left_short most m out short = λ q f e. short q f (without_some m out q f e)
+
+pub added_short : (most : ℕ) (m : Interests) (k : Interest) (f : Option AddressPrefix) → k.subnet.length ≤ most → AreShortIn most m → AreShortIn most (insert m k f)
+added_short most m k f few short = λ q x e.
+    by_key interests_total exact_interests q k (λ b. cond b (Some f) (get m q) ≡ Some x → q.subnet.length ≤ most)
+    (λ same _. subst (λ (y : Interest). y.subnet.length ≤ most) (sym same) few)
+    (λ _ old. short q x old)
+    (sym (get-insert interests_total m k f q) ∙ e)

@@ -6,7 +6,7 @@ use Rattle.addr4.specs.Places.{IsNextRow}
 use Rattle.addr4.proofs.BlockLemmas.{size_pos, covers_length, covers_holds}
 use Rattle.link_change.specs.Rows.{Rows}
 use Rattle.register_interest.specs.Covers.{longest, IsLongest, matched, IsFree, IsSubnet}
-use Rattle.register_interest.specs.Search.{IsBeneath, IsNoneBelow, length_of}
+use Rattle.register_interest.specs.Search.{AreShort, IsBeneath, IsNoneBelow, length_of}
 use Rattle.register_interest.proofs.CoverLemmas.{block_masked, block_holds, block_is, one_of_length, nested, overlap_of_two, held_by_cover, longest_is}
 use Rattle.register_interest.proofs.OrderLemmas.{cases_before, not_itself, inside, between}
 
@@ -89,16 +89,18 @@ block_told_free w rows a n m s k c s_is found le beneath mk next is =
     told_free w rows a m (block w a n) k c found (block_masked w a n le) mk (block_holds w a n) beneath
     (subst (λ (x : AddressPrefix). IsNextRow rows (Some x) (Some k)) s_is next) (subst (λ (x : AddressPrefix). IsTrue c ↔ Covers w x k) s_is is)
 
--- a prefix of all bits is free
-free_whole : {V : Type 0} (w : ℕ) (rows : Rows V) (a : ℕ) (m : Option AddressPrefix) → m ≡ matched (longest w rows a) → IsBeneath m w → IsFree w rows m (block w a w)
-free_whole w rows a m found beneath =
-    let b : IsBeneath (matched (longest w rows a)) w = subst (λ x. IsBeneath x w) found beneath in
-    let ms = block_masked w a w (omega arith) in
-    subst (λ x. IsFree w rows x (block w a w)) (sym found) (free_if w rows a (longest w rows a) (block w a w) (longest_is w rows a) ms (block_holds w a w) b (λ q mq c after. absurd (
-    let le = covers_length w (block w a w) q ms c in
-    let short = mq.0 in
-    let e : w ≡ q.length = omega arith in
-    not_itself (block w a w) q after (one_of_length w q.address (block w a w) q ms mq (covers_holds w (block w a w) q c) (record { from = omega arith; to = omega (arith, size_pos w q.length) }) e))))
+-- a prefix of as many bits as any row has is free
+free_whole : {V : Type 0} (w most : ℕ) (rows : Rows V) (a : ℕ) (m : Option AddressPrefix) → most ≤ w → AreShort most rows → m ≡ matched (longest w rows a) → IsBeneath m most → IsFree w rows m (block w a most)
+free_whole w most rows a m top short found beneath =
+    let b : IsBeneath (matched (longest w rows a)) most = subst (λ x. IsBeneath x most) found beneath in
+    let ms = block_masked w a most top in
+    subst (λ x. IsFree w rows x (block w a most)) (sym found) (free_if w rows a (longest w rows a) (block w a most) (longest_is w rows a) ms (block_holds w a most) b (λ q mq c after. elim (cases_lt most q.length) [
+      | inl more ↦ short q more
+      | inr few ↦ absurd (
+          let le = covers_length w (block w a most) q ms c in
+          let e : most ≡ q.length = omega arith in
+          not_itself (block w a most) q after (one_of_length w q.address (block w a most) q ms mq (covers_holds w (block w a most) q c) (record { from = omega arith; to = omega (arith, size_pos w q.length) }) e))
+    ]))
 
 -- the first free prefix is the largest
 first_free : {V : Type 0} (w : ℕ) (rows : Rows V) (a n : ℕ) (m : Option AddressPrefix) → n ≤ w → IsNoneBelow w rows a m n → IsFree w rows m (block w a n) → IsSubnet w rows a m (block w a n)
@@ -118,9 +120,12 @@ none_below_match w rows a m mm = λ k lt free. let le = free_beneath w rows m (b
 
 -- ---- the search by halves
 
-masked_match : {V : Type 0} (w : ℕ) (rows : Rows V) (a : ℕ) (r : Option (AddressPrefix × V)) → IsLongest w rows a r → length_of (matched r) ≤ w
-masked_match w rows a None is = omega arith
-masked_match w rows a (Some r) is = is.0.0
+short_match : {V : Type 0} (w most : ℕ) (rows : Rows V) (a : ℕ) (r : Option (AddressPrefix × V)) → AreShort most rows → IsLongest w rows a r → length_of (matched r) ≤ most
+short_match w most rows a None short is = omega arith
+short_match w most rows a (Some r) short is = elim (cases_lt most r.0.length) [
+  | inl more ↦ absurd (let clash : None ≡ Some r.1 = sym (short r.0 more) ∙ is.2 in cc)
+  | inr few ↦ few
+]
 
 beneath_itself : (m : Option AddressPrefix) → IsBeneath m (length_of m)
 beneath_itself None = tt
@@ -159,21 +164,26 @@ pub record IsHalved {V : Type 0} (w : ℕ) (rows : Rows V) (a : ℕ) (m : Option
   pub none : IsNoneBelow w rows a m low
   pub free : IsFree w rows m (block w a high)
 
-pub halved_first : {V : Type 0} (w : ℕ) (rows : Rows V) (a : ℕ) (m : Option AddressPrefix) (low high : ℕ) → m ≡ matched (longest w rows a) → low ≡ length_of m → high ≡ w → IsHalved w rows a m low high
-halved_first w rows a m low high found low_is high_is =
+pub halved_first : {V : Type 0} (w most : ℕ) (rows : Rows V) (a : ℕ) (m : Option AddressPrefix) (low high : ℕ) → most ≤ w → AreShort most rows → m ≡ matched (longest w rows a) → low ≡ length_of m → high ≡ most → IsHalved w rows a m low high
+halved_first w most rows a m low high top short found low_is high_is =
     subst (λ x. IsHalved w rows a x low high) (sym found)
     (let is = longest_is w rows a in
     let r = longest w rows a in
     let l : low ≡ length_of (matched r) = low_is ∙ ap length_of found in
-    let le : low ≤ w = subst (λ (x : ℕ). x ≤ w) (sym l) (masked_match w rows a r is) in
+    let le : low ≤ most = subst (λ (x : ℕ). x ≤ most) (sym l) (short_match w most rows a r short is) in
     let b : IsBeneath (matched r) low = subst (λ (x : ℕ). IsBeneath (matched r) x) (sym l) (beneath_itself (matched r)) in
     record {
       ordered = omega arith;
       within = omega arith;
       beneath = b;
       none = subst (λ (x : ℕ). IsNoneBelow w rows a (matched r) x) (sym l) (none_below w rows a r is);
-      free = subst (λ (x : ℕ). IsFree w rows (matched r) (block w a x)) (sym high_is) (free_whole w rows a (matched r) refl (beneath_more (matched r) low w b le));
+      free = subst (λ (x : ℕ). IsFree w rows (matched r) (block w a x)) (sym high_is) (free_whole w most rows a (matched r) top short refl (beneath_more (matched r) low most b le));
     })
+
+-- the subnet of an answer is no longer than rows can be
+pub subnet_short : {V : Type 0} (w most : ℕ) (rows : Rows V) (a : ℕ) (m : Option AddressPrefix) (s : AddressPrefix) → most ≤ w → AreShort most rows → m ≡ matched (longest w rows a) → IsSubnet w rows a m s → s.length ≤ most
+subnet_short w most rows a m s top short found is =
+    is.largest (block w a most) (block_masked w a most top) (block_holds w a most) (halved_first w most rows a m (length_of m) most top short found refl refl).free
 
 pub halved_up : {V : Type 0} (w : ℕ) (rows : Rows V) (a : ℕ) (m : Option AddressPrefix) (low middle high : ℕ) → m ≡ matched (longest w rows a) → IsHalved w rows a m low high → low ≤ middle → middle < high → (IsFree w rows m (block w a middle) → ⊥) → IsHalved w rows a m (middle + 1) high
 halved_up w rows a m low middle high found is le lt out =

@@ -1,5 +1,5 @@
 -- Interests by subnet and client.
-use Rattle.std.specs.Prelude.{◌≡◌, ℕ, ◌<◌, ◌⊎◌, ◌++◌, List, [], ◌∷◌, Option, Some, refl}
+use Rattle.std.specs.Prelude.{◌≡◌, ℕ, ◌<◌, ◌≤◌, ◌⊎◌, ◌++◌, List, [], ◌∷◌, Option, Some, refl}
 use Rattle.std.specs.List.{Contains}
 use Rattle.std.specs.List.Sorted.{IsStrictlySortedBy}
 use Rattle.std.specs.Coded.{Coded, code_by, coded×, coded_ℕ}
@@ -9,7 +9,11 @@ use Rattle.std.specs.BTreeMap.Range.{IsLeBy}
 use Rattle.std.specs.FinMap as map
 use Rattle.addr4.specs.Prefixes.{AddressPrefix, prefix_cmp, address_prefix_code, IsMasked}
 use Rattle.register_interest.specs.Covers.{IsHit}
-use Rattle.register_interest.specs.declared.interests.Interest.{Interest}
+use Rattle.register_interest.specs.declared.interests.Interest as declared
+
+-- an interest, whatever the family of its subnet
+abbrev pub Interest : Type 0
+Interest = declared.Interest AddressPrefix
 
 -- by subnet, then client
 abbrev pub interest_cmp : Interest → Interest → Ordering
@@ -25,6 +29,10 @@ Interests = map.FinMap interest_cmp (Option AddressPrefix)
 -- the subnet is one of the family, and the client an octet
 abbrev pub IsProper : ℕ → Interest → Type 0
 IsProper width k = IsMasked width k.subnet × (k.client < 256)
+
+-- no subnet has more bits than this
+abbrev pub AreShortIn : ℕ → Interests → Type 0
+AreShortIn most interests = (k : Interest) (m : Option AddressPrefix) → map.get interests k ≡ Some m → k.subnet.length ≤ most
 
 abbrev pub AreProper : ℕ → Interests → Type 0
 AreProper width interests = (k : Interest) (m : Option AddressPrefix) → map.get interests k ≡ Some m → IsProper width k

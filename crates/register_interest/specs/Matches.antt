@@ -2,10 +2,10 @@
 use Rattle.std.specs.Prelude.{Option, Some, None}
 use Rattle.std.specs.Borrow.{Bor}
 use Rattle.addr4.specs.Prefixes.{AddressPrefix}
-use Rattle.register_interest.specs.declared.register.Match.{Match}
+use Rattle.register_interest.specs.declared.register.Match as declared
 
 module _ {R : Type 0} where
-  abbrev pub match_of : Option (Match R) → Option (AddressPrefix × R)
+  abbrev pub match_of : Option (declared.Match R AddressPrefix) → Option (AddressPrefix × R)
   match_of None = None
   match_of (Some m) = Some (m.prefix, m.row)
 

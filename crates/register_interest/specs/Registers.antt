@@ -5,7 +5,7 @@ use Rattle.std.specs.FinMap as map
 use Rattle.addr4.specs.Prefixes.{AddressPrefix, prefix_cmp, address_prefix_code, Holds}
 use Rattle.register_interest.specs.Width.{width}
 use Rattle.register_interest.specs.Covers.{longest, Stands}
-use Rattle.register_interest.specs.declared.interests.Interest.{Interest}
+use Rattle.register_interest.specs.Interests.{Interest}
 use Rattle.register_interest.specs.Interests.{Interests, interest_code, IsProper}
 
 pub record Registry (R : Type 0) : Type 0 where

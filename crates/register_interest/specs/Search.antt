@@ -16,15 +16,13 @@ abbrev pub IsLastTo : {V : Type 0} → Rows V → AddressPrefix → Option (Addr
 IsLastTo rows bound None = (q : AddressPrefix) → IsLeBy prefix_cmp q bound → rows q ≡ None
 IsLastTo rows bound (Some r) = IsLeBy prefix_cmp r.0 bound × (rows r.0 ≡ Some r.1) × ((q : AddressPrefix) → IsLeBy prefix_cmp q bound → ComesBefore r.0 q → rows q ≡ None)
 
--- the first n bits of two numbers are the same, and the next differs
-pub record Shared (width : ℕ) (a b n : ℕ) : Type 0 where
-  pub below : n < width
-  pub same : a / 2 ^ (width - n) ≡ b / 2 ^ (width - n)
-  pub differ : a / 2 ^ (width - 1 - n) ≢ b / 2 ^ (width - 1 - n)
-
 -- no row of more than n bits holds the address
 abbrev pub IsNoneAbove : {V : Type 0} → ℕ → Rows V → ℕ → ℕ → Type 0
 IsNoneAbove width rows a n = (q : AddressPrefix) → IsMasked width q → Holds width q a → n < q.length → rows q ≡ None
+
+-- no row has more bits than this
+abbrev pub AreShort : {V : Type 0} → ℕ → Rows V → Type 0
+AreShort most rows = (p : AddressPrefix) → most < p.length → rows p ≡ None
 
 -- how many bits the match has, or none
 abbrev pub length_of : Option AddressPrefix → ℕ

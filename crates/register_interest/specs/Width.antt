@@ -1,6 +1,5 @@
--- The family of a register's prefixes.
+-- How many bits the numbers have that addresses are, whatever their family.
 use Rattle.std.specs.Prelude.{ℕ}
 
--- how many bits an address has
 abbrev pub width : ℕ
-width = 32
+width = 128

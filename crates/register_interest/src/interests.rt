@@ -3,13 +3,13 @@
 ghost use Rattle.std.specs.Prelude.{◌≡◌, ◌+◌, ◌↔◌, IsTrue, OnOk, OnErr, IfOk};
 ghost use Rattle.std.specs.FinMap as map;
 ghost use Rattle.std.specs.BTreeMap.Range.{IsLeBy};
-ghost use Rattle.addr4.specs.Prefixes.{Covers, behind};
+ghost use Rattle.addr4.specs.Prefixes.{Covers};
 ghost use Rattle.register_interest.specs.Width.{width};
 ghost use Rattle.register_interest.specs.Covers.{IsHit};
-ghost use Rattle.register_interest.specs.Interests.{interest_cmp, IsBetween, AreProper, Appends, AreReached, Pushes, without};
+ghost use Rattle.register_interest.specs.Interests.{interest_cmp, IsBetween, AreProper, AreShortIn, Appends, AreReached, Pushes, without};
 
 use crate::search::block;
-use addr4::{Addr, Memory, Prefix};
+use addr4::{Family, Memory, Prefix, V4};
 use std::alloc::Global;
 use std::collections::BTreeMap;
 use std::marker::Model;
@@ -17,18 +17,18 @@ use std::ops::Bound;
 
 /// A client's interest in a subnet.
 #[derive(Clone, Copy, PartialEq, Eq, PartialOrd, Ord)]
-pub struct Interest {
-    pub subnet: Prefix,
+pub struct Interest<P = Prefix> {
+    pub subnet: P,
     pub client: u8,
 }
 
 // The interests, with the match of each, by subnet and then client.
 #[derive(Drop)]
-pub(crate) struct Interests {
-    kept: BTreeMap<Interest, Option<Prefix>>,
+pub(crate) struct Interests<F: Family = V4> {
+    kept: BTreeMap<Interest<Prefix<F>>, Option<Prefix<F>>>,
 }
 
-impl Model for Interests {
+impl<F: Family> Model for Interests<F> {
     ghost use Rattle.std.specs.FinMap as map;
     ghost use Rattle.std.specs.Coded.{coded_option};
     ghost use Rattle.addr4.specs.Prefixes.{address_prefix_code};
@@ -42,7 +42,7 @@ impl Model for Interests {
 }
 
 // Whether a change at a prefix reaches an interest in the subnet.
-fn is_hit(prefix: Prefix, subnet: Prefix, found: &Option<Prefix>) -> bool
+fn is_hit<F: Family>(prefix: Prefix<F>, subnet: Prefix<F>, found: &Option<Prefix<F>>) -> bool
     ensures { IsTrue result ↔ IsHit width prefix subnet found.now }
 {
     if !subnet.overlaps(prefix) {
@@ -55,11 +55,11 @@ fn is_hit(prefix: Prefix, subnet: Prefix, found: &Option<Prefix>) -> bool
 }
 
 // Appends the interest where the change reaches it.
-fn push_hit(
-    out: &mut Vec<Interest>,
-    prefix: Prefix,
-    interest: &Interest,
-    found: &Option<Prefix>,
+fn push_hit<F: Family>(
+    out: &mut Vec<Interest<Prefix<F>>>,
+    prefix: Prefix<F>,
+    interest: &Interest<Prefix<F>>,
+    found: &Option<Prefix<F>>,
 ) -> Result<(), Memory>
     ensures { OnOk result (Pushes width prefix (interest.now, found.now) out.old.items out.new.items) }
 {
@@ -72,17 +72,8 @@ fn push_hit(
     Ok(())
 }
 
-// The last address of a prefix.
-fn last_address(prefix: Prefix) -> Addr
-    ensures { result + 1 ≡ behind width prefix }
-{
-    prefix.known();
-    let size = 1u64 << (32 - prefix.length());
-    Addr::new((u64::from(prefix.address().number()) + (size - 1)) as u32)
-}
-
-impl Interests {
-    pub(crate) fn new(alloc: Global) -> Interests
+impl<F: Family> Interests<F> {
+    pub(crate) fn new(alloc: Global) -> Interests<F>
         ensures { result ≡ map.empty }
     {
         Interests {
@@ -90,7 +81,11 @@ impl Interests {
         }
     }
 
-    pub(crate) fn add(&mut self, interest: Interest, found: Option<Prefix>) -> Result<(), Memory>
+    pub(crate) fn add(
+        &mut self,
+        interest: Interest<Prefix<F>>,
+        found: Option<Prefix<F>>,
+    ) -> Result<(), Memory>
         ensures ok { OnOk result (self.new ≡ map.insert self.old interest found) }
         ensures err { OnErr result (self.new ≡ self.old) }
     {
@@ -98,13 +93,13 @@ impl Interests {
         Ok(())
     }
 
-    pub(crate) fn give_up(&mut self, interest: &Interest)
+    pub(crate) fn give_up(&mut self, interest: &Interest<Prefix<F>>)
         ensures { self.new ≡ map.remove self.old interest.now }
     {
         self.kept.remove(interest);
     }
 
-    pub(crate) fn give_up_all(&mut self, interests: &[Interest])
+    pub(crate) fn give_up_all(&mut self, interests: &[Interest<Prefix<F>>])
         ensures { self.new ≡ without self.old interests.now }
     {
         for interest in interests {
@@ -115,10 +110,10 @@ impl Interests {
     // Appends those from one to another that a change at a prefix reaches.
     fn push_between(
         &self,
-        out: &mut Vec<Interest>,
-        prefix: Prefix,
-        from: Interest,
-        to: Interest,
+        out: &mut Vec<Interest<Prefix<F>>>,
+        prefix: Prefix<F>,
+        from: Interest<Prefix<F>>,
+        to: Interest<Prefix<F>>,
     ) -> Result<(), Memory>
         requires { IsLeBy interest_cmp from to }
         ensures { OnOk result (Appends width prefix (map.get self.now) (IsBetween from to) out.old.items out.new.items) }
@@ -131,7 +126,12 @@ impl Interests {
     }
 
     // Appends those in one subnet that a change at a prefix reaches.
-    fn push_at(&self, out: &mut Vec<Interest>, prefix: Prefix, subnet: Prefix) -> Result<(), Memory>
+    fn push_at(
+        &self,
+        out: &mut Vec<Interest<Prefix<F>>>,
+        prefix: Prefix<F>,
+        subnet: Prefix<F>,
+    ) -> Result<(), Memory>
         requires { AreProper width self.now }
         ensures { OnOk result (Appends width prefix (map.get self.now) (λ k. k.subnet ≡ subnet) out.old.items out.new.items) }
     {
@@ -144,17 +144,24 @@ impl Interests {
     }
 
     // Appends those in subnets that the prefix covers.
-    fn push_within(&self, out: &mut Vec<Interest>, prefix: Prefix) -> Result<(), Memory>
-        requires { AreProper width self.now }
+    fn push_within(
+        &self,
+        out: &mut Vec<Interest<Prefix<F>>>,
+        prefix: Prefix<F>,
+    ) -> Result<(), Memory>
+        requires proper { AreProper width self.now }
+        requires short { AreShortIn F.WIDTH self.now }
         ensures { OnOk result (Appends width prefix (map.get self.now) (λ k. Covers width prefix k.subnet) out.old.items out.new.items) }
     {
         prefix.known();
+        let last = prefix.last();
+        last.known();
         let from = Interest {
             subnet: prefix,
             client: 0,
         };
         let to = Interest {
-            subnet: block(last_address(prefix), 32),
+            subnet: block(last, F::WIDTH),
             client: 255,
         };
         self.push_between(out, prefix, from, to)
@@ -162,8 +169,13 @@ impl Interests {
 
     // The interests that a change at a prefix reaches: some of those in the shorter prefixes of its address, and of those
     // in the prefixes that it covers.
-    pub(crate) fn reached(&self, alloc: Global, prefix: Prefix) -> Result<Vec<Interest>, Memory>
-        requires { AreProper width self.now }
+    pub(crate) fn reached(
+        &self,
+        alloc: Global,
+        prefix: Prefix<F>,
+    ) -> Result<Vec<Interest<Prefix<F>>>, Memory>
+        requires proper { AreProper width self.now }
+        requires short { AreShortIn F.WIDTH self.now }
         ensures { IfOk result (λ out. AreReached width prefix (map.get self.now) out.items) }
     {
         prefix.known();

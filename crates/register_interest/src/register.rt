@@ -11,15 +11,15 @@ ghost use Rattle.register_interest.specs.Search.{rows_in};
 
 use crate::interests::{Interest, Interests};
 use crate::search::{largest_subnet, longest_row};
-use addr4::{Addr, Memory, Prefix, Row};
+use addr4::{Addr, Family, Memory, Prefix, Row, V4};
 use std::alloc::Global;
 use std::collections::BTreeMap;
 use std::marker::Model;
 
 /// A row with its prefix.
 #[derive(PartialEq, Eq, Drop)]
-pub struct Match<R> {
-    pub prefix: Prefix,
+pub struct Match<R, P = Prefix> {
+    pub prefix: P,
     pub row: R,
 }
 
@@ -27,14 +27,16 @@ pub struct Match<R> {
 ///
 /// Contracts see the rows, a finite map, and the interests, a finite map from subnet and client to the prefix of the match.
 #[derive(Drop)]
-pub struct Register<R> {
-    rows: BTreeMap<Prefix, R>,
-    interests: Interests,
+pub struct Register<R, F: Family = V4> {
+    rows: BTreeMap<Prefix<F>, R>,
+    interests: Interests<F>,
 }
 
-impl<R> Model for Register<R> {
+impl<R, F: Family> Model for Register<R, F> {
+    ghost use Rattle.std.specs.FinMap as map;
     ghost use Rattle.register_interest.specs.Registers.{Registry, AllStand, registry_code};
-    ghost use Rattle.register_interest.specs.Search.{rows_in};
+    ghost use Rattle.register_interest.specs.Interests.{AreShortIn};
+    ghost use Rattle.register_interest.specs.Search.{rows_in, AreShort};
 
     ghost Value = { Registry R };
 
@@ -42,11 +44,11 @@ impl<R> Model for Register<R> {
 
     ghost view = { λ a. record { rows = rows_in a.rows; interests = a.interests } };
 
-    ghost invariant = { λ a. AllStand (record { rows = rows_in a.rows; interests = a.interests }) };
+    ghost invariant = { λ a. AllStand (record { rows = rows_in a.rows; interests = a.interests }) × AreShort F.WIDTH (map.get (rows_in a.rows)) × AreShortIn F.WIDTH a.interests };
 }
 
 // The prefix of a match.
-fn prefix_of<R>(found: &Option<(Prefix, &R)>) -> Option<Prefix>
+fn prefix_of<R, F: Family>(found: &Option<(Prefix<F>, &R)>) -> Option<Prefix<F>>
     ensures { result ≡ matched (lent_match found.now) }
 {
     match found {
@@ -56,7 +58,9 @@ fn prefix_of<R>(found: &Option<(Prefix, &R)>) -> Option<Prefix>
 }
 
 // A match with a copy of its row.
-fn copied<R: Row>(found: &Option<(Prefix, &R)>) -> Result<Option<Match<R>>, Memory>
+fn copied<R: Row, F: Family>(
+    found: &Option<(Prefix<F>, &R)>,
+) -> Result<Option<Match<R, Prefix<F>>>, Memory>
     ensures { IfOk result (λ copy. match_of copy ≡ lent_match found.now) }
 {
     match found {
@@ -69,9 +73,9 @@ fn copied<R: Row>(found: &Option<(Prefix, &R)>) -> Result<Option<Match<R>>, Memo
 }
 
 // Puts the row at a prefix, or takes it out.
-fn set_row<R: Drop>(
-    rows: &mut BTreeMap<Prefix, R>,
-    prefix: Prefix,
+fn set_row<R: Drop, F: Family>(
+    rows: &mut BTreeMap<Prefix<F>, R>,
+    prefix: Prefix<F>,
     new: Option<R>,
 ) -> Result<(), Memory>
     ensures ok { OnOk result (rows_in rows.new ≡ put_row (rows_in rows.old) prefix new) }
@@ -88,9 +92,9 @@ fn set_row<R: Drop>(
     Ok(())
 }
 
-impl<R: Row> Register<R> {
+impl<R: Row, F: Family> Register<R, F> {
     /// No rows and no interests. Takes no memory.
-    pub fn new(alloc: Global) -> Register<R>
+    pub fn new(alloc: Global) -> Register<R, F>
         ensures rows { result.rows ≡ map.empty }
         ensures interests { result.interests ≡ map.empty }
     {
@@ -108,7 +112,7 @@ impl<R: Row> Register<R> {
     }
 
     /// The longest row that holds the address, and the largest subnet with that answer.
-    pub fn peek(&self, address: Addr) -> (Option<(Prefix, &R)>, Prefix)
+    pub fn peek(&self, address: Addr<F>) -> (Option<(Prefix<F>, &R)>, Prefix<F>)
         ensures { IsCover width (map.get self.now.rows) address (lent_match result.0) result.1 }
     {
         let found = longest_row(&self.rows, address);
@@ -118,7 +122,11 @@ impl<R: Row> Register<R> {
 
     /// Answers as [`peek`](Register::peek) does, with a copy of the row, and keeps the client's interest in the subnet. For
     /// want of memory nothing changes.
-    pub fn query(&mut self, client: u8, address: Addr) -> Result<(Option<Match<R>>, Prefix), Memory>
+    pub fn query(
+        &mut self,
+        client: u8,
+        address: Addr<F>,
+    ) -> Result<(Option<Match<R, Prefix<F>>>, Prefix<F>), Memory>
         ensures cover { IfOk result (λ r. IsCover width (map.get self.old.rows) address (match_of r.0) r.1) }
         ensures rows { self.new.rows ≡ self.old.rows }
         ensures interests { IfOk result (λ r. self.new.interests ≡ map.insert self.old.interests (record { subnet = r.1; client = client }) (matched (match_of r.0))) }
@@ -128,12 +136,13 @@ impl<R: Row> Register<R> {
         let prefix = prefix_of(&found);
         let subnet = largest_subnet(&self.rows, address, &prefix);
         let copy = copied(&found)?;
+        subnet.known();
         self.interests.add(Interest { subnet, client }, prefix)?;
         Ok((copy, subnet))
     }
 
     /// Gives up the client's interest in the subnet.
-    pub fn forget(&mut self, client: u8, subnet: Prefix)
+    pub fn forget(&mut self, client: u8, subnet: Prefix<F>)
         ensures rows { self.new.rows ≡ self.old.rows }
         ensures interests { self.new.interests ≡ map.remove self.old.interests (record { subnet = subnet; client = client }) }
     {
@@ -146,9 +155,9 @@ impl<R: Row> Register<R> {
     pub fn changed(
         &mut self,
         alloc: Global,
-        prefix: Prefix,
+        prefix: Prefix<F>,
         new: Option<R>,
-    ) -> Result<Vec<Interest>, Memory>
+    ) -> Result<Vec<Interest<Prefix<F>>>, Memory>
         ensures rows { OnOk result (self.new.rows ≡ put_row self.old.rows prefix new) }
         ensures reached { IfOk result (λ out. AreReached width prefix (map.get self.old.interests) out.items) }
         ensures interests { IfOk result (λ out. self.new.interests ≡ without self.old.interests out.items) }

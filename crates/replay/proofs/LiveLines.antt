@@ -1,6 +1,6 @@
 -- What is live is what the lines' events make of nothing.
 use Rattle.std.proofs.Common.{ℕ, ◌+◌, List, [], ◌∷◌, ap, subst}
-use Rattle.journal_text.specs.declared.line.Line.{Line}
+use Rattle.journal_text.specs.Lines.{Line}
 use Rattle.live_state.specs.Lives.{LiveState, first_live}
 use Rattle.router_moments.specs.Lives.{live_state}
 use Rattle.router_moments.specs.Moments.{Moment, first_moment}

@@ -8,7 +8,7 @@ use Rattle.std.specs.List.{AllByRecursion, list_all, join_with_byte}
 use Rattle.std.specs.Str.Lines.{strip_carriage_return}
 use Rattle.std.specs.Fmt.{decimal}
 use Rattle.addr4.specs.Texts.{parts}
-use Rattle.journal_text.specs.declared.line.Line.{Line}
+use Rattle.journal_text.specs.Lines.{Line}
 use Rattle.journal_text.specs.declared.line.Line.TheVariants.{Ignored}
 use Rattle.journal_text.specs.Texts.{line_words, line_text, is_entry, shown, text_of, words_line, dot_number, link_text}
 use Rattle.journal_text.specs.declared.link.Link.TheVariants.{In, Adv}

@@ -1,8 +1,8 @@
 -- What peers have heard: the routes that each reaches by reading the octets of the lines `out J` of its session.
 use Rattle.std.specs.Prelude.{◌≡◌, ℕ, true, false, List, Some}
 use Rattle.std.specs.FinMap as tables
-use Rattle.bgp_attr.specs.declared.speaker.Speaker.{Speaker}
-use Rattle.journal_text.specs.declared.line.Line.{Line}
+use Rattle.bgp_attr.specs.Speakers.{Speaker}
+use Rattle.journal_text.specs.Lines.{Line}
 use Rattle.journal_text.specs.declared.link.Link.TheVariants.{Adv}
 use Rattle.journal_text.specs.Values.{attrs_rows}
 use Rattle.event_text.specs.declared.declared.DeclaredPeer.{DeclaredPeer}

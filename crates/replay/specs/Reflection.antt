@@ -2,9 +2,9 @@
 use Rattle.std.specs.Prelude.{◌≡◌, ℕ, true, List, Some}
 use Rattle.std.specs.FinMap as tables
 use Rattle.addr4.specs.Prefixes.{AddressPrefix}
-use Rattle.bgp_attr.specs.declared.attrs.Attrs.{Attrs}
-use Rattle.bgp_attr.specs.declared.speaker.Speaker.{Speaker}
-use Rattle.journal_text.specs.declared.line.Line.{Line}
+use Rattle.bgp_attr.specs.Attributes.{Attrs}
+use Rattle.bgp_attr.specs.Speakers.{Speaker}
+use Rattle.journal_text.specs.Lines.{Line}
 use Rattle.event_text.specs.declared.event.Event.TheVariants.{Idle}
 use Rattle.event_text.specs.declared.declared.DeclaredPeer.{DeclaredPeer}
 use Rattle.event_text.specs.Declarations.{peer_at}

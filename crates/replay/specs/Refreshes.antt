@@ -2,8 +2,8 @@
 use Rattle.std.specs.Prelude.{◌≡◌, ℕ, ◌+◌, not, false, List, Some}
 use Rattle.std.specs.FinMap as tables
 use Rattle.addr4.specs.Prefixes.{AddressPrefix}
-use Rattle.bgp_attr.specs.declared.attrs.Attrs.{Attrs}
-use Rattle.journal_text.specs.declared.line.Line.{Line}
+use Rattle.bgp_attr.specs.Attributes.{Attrs}
+use Rattle.journal_text.specs.Lines.{Line}
 use Rattle.journal_text.specs.declared.link.Task.TheVariants.{Ref}
 use Rattle.event_text.specs.declared.event.Event.TheVariants.{Idle}
 use Rattle.event_text.specs.declared.declared.DeclaredPeer.{DeclaredPeer}

@@ -2,7 +2,7 @@
 use Rattle.std.proofs.Common.{◌≡◌, ℕ, Option, sym, ap, ◌∙◌}
 use Rattle.addr4.specs.Prefixes.{AddressPrefix}
 use Rattle.link_change.specs.Changes.{IsChangeOf}
-use Rattle.link_change.specs.declared.change.Change.{Change}
+use Rattle.link_change.specs.Changes.{Change}
 use Rattle.link_change.proofs.ChangeLemmas.{computes_on}
 use Rattle.rib_merge.specs.declared.merge.Side.{Side}
 use Rattle.rib_merge.specs.Merging.{row_on, MergesOn}

@@ -4,11 +4,12 @@ ghost use Rattle.std.specs.Prelude.{◌≡◌, option_map};
 ghost use Rattle.rib_route.specs.Forwarding.{fib_row};
 ghost use Rattle.rib_merge.specs.Forwards.{ForwardsOn};
 
+use addr4::{Addr, Family, Prefix};
 use link_change::Change;
 use rib_route::{FibRow, Interior};
 
 /// What packets are forwarded by, if there is a route.
-pub fn forwarded(route: &Option<Interior>) -> Option<FibRow>
+pub fn forwarded<F: Family>(route: &Option<Interior<Addr<F>>>) -> Option<FibRow<Addr<F>>>
     ensures { result ≡ option_map fib_row route.now }
 {
     match route {
@@ -19,7 +20,9 @@ pub fn forwarded(route: &Option<Interior>) -> Option<FibRow>
 
 /// The change of the forwarding rows that follows one of interior rows. None exactly where they stay the same, as where the
 /// metric of a route changes alone. Takes no memory.
-pub fn forward(change: &Change<Interior>) -> Option<Change<FibRow>>
+pub fn forward<F: Family>(
+    change: &Change<Interior<Addr<F>>, Prefix<F>>,
+) -> Option<Change<FibRow<Addr<F>>, Prefix<F>>>
     ensures { ForwardsOn change.now result }
 {
     let before = forwarded(&change.before);

@@ -6,7 +6,7 @@ ghost use Rattle.link_change.specs.Rows.{IsNextCandidate, CoversRows, together};
 ghost use Rattle.rib_merge.specs.Merging.{row_of_both, row_on, merged, MergesOn};
 
 use crate::ranked::Ranked;
-use addr4::{Memory, Place, Prefix};
+use addr4::{Family, Memory, Place, Prefix};
 use link_change::{Change, Upstream, nearer};
 
 /// One of the two links above a merge.
@@ -44,7 +44,11 @@ fn beside<R: Ranked>(side: Side, own: Option<R>, other: Option<R>) -> Option<R>
 
 /// A change on one side, as it goes on below, where the other side has this row at its prefix. None comes exactly where the
 /// merged rows stay the same. Takes no memory.
-pub fn take_in<R: Ranked>(side: Side, change: Change<R>, other: Option<R>) -> Option<Change<R>>
+pub fn take_in<R: Ranked, F: Family>(
+    side: Side,
+    change: Change<R, Prefix<F>>,
+    other: Option<R>,
+) -> Option<Change<R, Prefix<F>>>
     ensures { MergesOn R.distance side change other result }
 {
     let before = beside(side, change.before, other);
@@ -53,10 +57,10 @@ pub fn take_in<R: Ranked>(side: Side, change: Change<R>, other: Option<R>) -> Op
 }
 
 /// The row on the link below.
-pub fn asked<R: Ranked, L: Upstream<Row = R>, U: Upstream<Row = R>>(
+pub fn asked<F: Family, R: Ranked, L: Upstream<F, Row = R>, U: Upstream<F, Row = R>>(
     left: &L,
     right: &U,
-    prefix: Prefix,
+    prefix: Prefix<F>,
 ) -> Result<Option<R>, Memory>
     ensures { IfOk result (λ row. row ≡ merged R.distance (L.rows left.now) (U.rows right.now) prefix) }
 {
@@ -66,11 +70,11 @@ pub fn asked<R: Ranked, L: Upstream<Row = R>, U: Upstream<Row = R>>(
 }
 
 /// The least candidate of the link below beyond a place: the nearer one of both sides. Every row below stands at one.
-pub fn next_candidate<R: Ranked, L: Upstream<Row = R>, U: Upstream<Row = R>>(
+pub fn next_candidate<F: Family, R: Ranked, L: Upstream<F, Row = R>, U: Upstream<F, Row = R>>(
     left: &L,
     right: &U,
-    after: Place,
-) -> Option<Prefix>
+    after: Place<Prefix<F>>,
+) -> Option<Prefix<F>>
     ensures next { IsNextCandidate (together (L.candidates left.now) (U.candidates right.now)) (key_of after) result }
     ensures covers { CoversRows (together (L.candidates left.now) (U.candidates right.now)) (merged R.distance (L.rows left.now) (U.rows right.now)) }
 {

@@ -2,7 +2,7 @@
 
 ghost use Rattle.std.specs.Prelude.{◌≡◌, ℕ};
 
-use addr4::Row;
+use addr4::{Addr, Family, Row};
 use rib_route::{External, FibRow, Interior};
 
 /// A row that is preferred to another at the same prefix by its administrative distance.
@@ -14,7 +14,7 @@ pub trait Ranked: Row + Copy {
         ensures { result ≡ distance self.now };
 }
 
-impl Ranked for Interior {
+impl<F: Family> Ranked for Interior<Addr<F>> {
     ghost use Rattle.rib_route.specs.Distances.{distance, fib_proto};
 
     ghost distance = { λ row. distance (fib_proto row.proto) };
@@ -24,7 +24,7 @@ impl Ranked for Interior {
     }
 }
 
-impl Ranked for External {
+impl<F: Family> Ranked for External<Addr<F>> {
     ghost use Rattle.rib_route.specs.Distances.{distance, external_proto};
 
     ghost distance = { λ row. distance (external_proto row) };
@@ -34,7 +34,7 @@ impl Ranked for External {
     }
 }
 
-impl Ranked for FibRow {
+impl<F: Family> Ranked for FibRow<Addr<F>> {
     ghost use Rattle.rib_route.specs.Distances.{distance};
 
     ghost distance = { λ row. distance row.proto };

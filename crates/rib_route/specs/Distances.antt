@@ -4,7 +4,7 @@ use Rattle.rib_route.specs.declared.Proto.{Proto}
 use Rattle.rib_route.specs.declared.Proto.TheVariants as interior
 use Rattle.rib_route.specs.declared.protocol.FibProto.{FibProto}
 use Rattle.rib_route.specs.declared.protocol.FibProto.TheVariants.{Connected, Static, Ospf, Rip, Ebgp, Ibgp}
-use Rattle.rib_route.specs.declared.rows.External.{External}
+use Rattle.rib_route.specs.Rows.{External}
 
 -- the administrative distance: the lesser is preferred
 abbrev pub distance : FibProto → ℕ

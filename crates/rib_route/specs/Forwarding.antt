@@ -1,6 +1,6 @@
 -- What packets are forwarded by.
-use Rattle.rib_route.specs.declared.rows.Interior.{Interior}
-use Rattle.rib_route.specs.declared.rows.FibRow.{FibRow}
+use Rattle.rib_route.specs.Rows.{Interior}
+use Rattle.rib_route.specs.Rows.{FibRow}
 use Rattle.rib_route.specs.Distances.{fib_proto}
 
 -- the row that an interior route is forwarded by: its metric doesn't count

@@ -1,3 +1,4 @@
+pub mod Rows
 pub mod Ifaces
 pub mod Distances
 pub mod Forwarding

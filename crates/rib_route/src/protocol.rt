@@ -5,6 +5,7 @@ ghost use Rattle.rib_route.specs.Distances.{fib_proto, distance, external_proto}
 
 use crate::Proto;
 use crate::rows::External;
+use addr4::{Addr, Family};
 
 /// Where a row of the forwarding side comes from: an interior protocol, or BGP with an external or an internal peer.
 #[derive(Clone, Copy, PartialEq, Eq)]
@@ -53,7 +54,7 @@ impl Proto {
     }
 }
 
-impl External {
+impl<F: Family> External<Addr<F>> {
     /// BGP with an internal or an external peer.
     pub fn fib_proto(&self) -> FibProto
         ensures { result ≡ external_proto self.now }

@@ -2,7 +2,7 @@
 use Rattle.router_moments.proofs.Common.{sym, subst, ◌∙◌, ap, ◌≡◌, ℕ, List, AddressPrefix, Route, Change, Entry, Value, Resolvers, PeerRows, ComesOn, AllCounted, Registry, Interior, RibExit}
 use Rattle.std.proofs.Common.{Option, Some, None}
 use Rattle.hop_side.specs.Steps.{res_entries, ReachesBelow}
-use Rattle.register_interest.specs.declared.interests.Interest.{Interest}
+use Rattle.register_interest.specs.Interests.{Interest}
 use Rattle.rib_exit.specs.Steps.{ReachesExit}
 use Rattle.forward_determinism.specs.Laws as forward
 use Rattle.hop_determinism.specs.Laws as hops

@@ -1,6 +1,6 @@
 -- What the parts of the router do leaves no choice: the laws of the crates below, on which those of turns and blocks stand.
-use Rattle.bgp_attr.specs.declared.route.Route.{Route}
-use Rattle.rib_route.specs.declared.rows.Interior.{Interior}
+use Rattle.bgp_attr.specs.Routes.{Route}
+use Rattle.rib_route.specs.Rows.{Interior}
 use Rattle.chain_determinism.specs.Laws as chains
 use Rattle.exit_determinism.specs.Laws as exits
 use Rattle.forward_determinism.specs.Laws as forward

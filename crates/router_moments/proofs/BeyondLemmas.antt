@@ -15,13 +15,13 @@ use Rattle.loss_chain.specs.Laws.{Lists}
 use Rattle.loss_chain.proofs.BeyondLemmas.{listed_within, listed_most, listed_further, listed_fewer, listed_counts, like, joined, table_listed, tables_listed, swept_beyond, welded_beyond}
 use Rattle.rib_route.specs.declared.Proto.{Proto}
 use Rattle.rib_route.specs.declared.Proto.TheVariants.{Connected, Static, Ospf, Rip}
-use Rattle.rib_route.specs.declared.rows.Interior.{Interior}
+use Rattle.rib_route.specs.Rows.{Interior}
 use Rattle.rib_merge.specs.Merging.{row_of_both, merged}
 use Rattle.rib_tree.specs.Branches.{Branch, org_rows}
 use Rattle.rib_tree.specs.Trees.{Treed, branch_of, put_branch, low_rows, dyn_rows, int_candidates, tree_count, interior_distance}
 use Rattle.rib_tree.specs.BranchSteps.{swept_branch, welded_branch}
 use Rattle.rib_tree.specs.Steps.{swept_tree, welded_tree}
-use Rattle.rib_exit.specs.declared.exit.RibExit.{RibExit}
+use Rattle.rib_exit.specs.RibExits.{RibExit}
 use Rattle.rib_exit.specs.Exits.{ext_candidates}
 use Rattle.router_moments.specs.Phases.{tree_beyond, external_beyond}
 

@@ -13,11 +13,11 @@ pub use Rattle.addr4.proofs.PrefixOrder.{itself}
 pub use Rattle.addr4.specs.Places.{key_of}
 pub use Rattle.addr4.specs.Prefixes.{AddressPrefix, prefix_cmp}
 pub use Rattle.bgp_attr.specs.Hosts.{is_host_prefix}
-pub use Rattle.bgp_attr.specs.declared.attrs.Attrs.{Attrs}
-pub use Rattle.bgp_attr.specs.declared.route.Route.{Route}
+pub use Rattle.bgp_attr.specs.Attributes.{Attrs}
+pub use Rattle.bgp_attr.specs.Routes.{Route}
 pub use Rattle.bgp_attr.specs.declared.speaker.Neighbour.{Neighbour}
 pub use Rattle.bgp_attr.specs.declared.speaker.Profile.{Profile}
-pub use Rattle.bgp_attr.specs.declared.speaker.Speaker.{Speaker}
+pub use Rattle.bgp_attr.specs.Speakers.{Speaker}
 pub use Rattle.bgp_wire.specs.Readable.{AreOctets}
 pub use Rattle.bgp_wire.specs.declared.message.Message.{Message}
 pub use Rattle.bgp_wire.specs.declared.message.Update.{Update}
@@ -56,18 +56,18 @@ pub use Rattle.journal_text.specs.Names.{IsNameNumber}
 pub use Rattle.journal_text.specs.Texts.{entries_of}
 pub use Rattle.journal_text.specs.Values.{route_value, route_rows, fib_value, interior_value, sent_entries, external_value}
 pub use Rattle.journal_text.specs.Walk.{Leads, Links, HasRow, with_link}
-pub use Rattle.journal_text.specs.declared.entry.Entry.{Entry}
-pub use Rattle.journal_text.specs.declared.line.Line.{Line}
+pub use Rattle.journal_text.specs.Lines.{Entry}
+pub use Rattle.journal_text.specs.Lines.{Line}
 pub use Rattle.journal_text.specs.declared.link.Link.{Link}
 pub use Rattle.journal_text.specs.declared.link.Link.TheVariants.{Best, Fib, Adv, Res, Read, Outf, Org}
 pub use Rattle.journal_text.specs.declared.link.Task.{Task}
-pub use Rattle.journal_text.specs.declared.value.Value.{Value}
+pub use Rattle.journal_text.specs.Lines.{Value}
 pub use Rattle.link_change.proofs.MapLemmas.{sum_replaced}
 pub use Rattle.link_change.specs.Changes.{IsSent}
 pub use Rattle.link_change.specs.InOrder.{rows_before}
 pub use Rattle.link_change.specs.Rows.{Rows, Candidates, IsNextCandidate, is_empty_map, no_rows, CoversRows, with_row}
-pub use Rattle.link_change.specs.declared.change.Change.{Change}
-pub use Rattle.link_change.specs.declared.turn.Turn.{Turn}
+pub use Rattle.link_change.specs.Changes.{Change}
+pub use Rattle.link_change.specs.Turns.{Turn}
 pub use Rattle.link_region.specs.Regions.{joined, with_side, Sides, LeadsIn, region_of}
 pub use Rattle.link_region.specs.declared.regions.Region.{Region}
 pub use Rattle.link_region.specs.declared.regions.Region.TheVariants.{Decided, Inward, Redistributed, Resolved, Outward, InteriorRoutes, Forward}
@@ -79,7 +79,7 @@ pub use Rattle.loss_chain.proofs.ListLemmas.{all_both}
 pub use Rattle.loss_chain.proofs.TableLemmas.{no_table, same_by}
 pub use Rattle.loss_chain.specs.Steps.{table_of, swept_one}
 pub use Rattle.nexthop_known.specs.Hops.{is_stale_at, stale_count}
-pub use Rattle.nexthop_known.specs.declared.answer.Hop.{Hop}
+pub use Rattle.nexthop_known.specs.Hops.{Hop}
 pub use Rattle.nexthop_resolver.proofs.MoveLemmas.{same_some}
 pub use Rattle.nexthop_resolver.specs.Kept.{route_hop, with_metric, metric_of, way_of, over, external_hop}
 pub use Rattle.nexthop_resolver.specs.Registered.{answer_of}
@@ -93,7 +93,7 @@ pub use Rattle.peer_out.specs.Changes.{IsSender, MayBeHeard}
 pub use Rattle.peer_side.proofs.PutLemmas.{put_each}
 pub use Rattle.peer_side.proofs.WeldLemmas.{adds_both}
 pub use Rattle.peer_side.specs.Peers.{chain_at, Chains, filt_at, filt_by, put_chain, rows_in, peer_links, lost_in, overdue_at, has_turn_in, routes_of, rules_of}
-pub use Rattle.policy_rules.specs.declared.rule.Rule.{Rule}
+pub use Rattle.policy_rules.specs.Rules.{Rule}
 pub use Rattle.register_interest.specs.Width.{width}
 pub use Rattle.redist.specs.Local.{redistributed}
 pub use Rattle.redist.specs.Protocols.{has}
@@ -102,12 +102,12 @@ pub use Rattle.register_interest.specs.Registers.{Registry}
 pub use Rattle.rib_exit.proofs.LawLemmas.{ext_is_of_best}
 pub use Rattle.rib_exit.specs.Exits.{StandsOver, ext_rows, fib_over, AgreesWith}
 pub use Rattle.rib_exit.specs.Steps.{FallsOn}
-pub use Rattle.rib_exit.specs.declared.exit.RibExit.{RibExit}
+pub use Rattle.rib_exit.specs.RibExits.{RibExit}
 pub use Rattle.rib_merge.specs.Merging.{row_of_both}
 pub use Rattle.rib_route.specs.declared.Proto.{Proto}
 pub use Rattle.rib_route.specs.declared.Proto.TheVariants.{Connected, Static, Ospf, Rip}
-pub use Rattle.rib_route.specs.declared.rows.FibRow.{FibRow}
-pub use Rattle.rib_route.specs.declared.rows.Interior.{Interior}
+pub use Rattle.rib_route.specs.Rows.{FibRow}
+pub use Rattle.rib_route.specs.Rows.{Interior}
 pub use Rattle.rib_split.specs.Splitting.{Parted, on_link}
 pub use Rattle.rib_split.specs.Tables.{kept_rows}
 pub use Rattle.rib_split.specs.declared.split.BgpLink.{BgpLink}

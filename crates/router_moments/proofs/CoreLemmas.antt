@@ -30,7 +30,7 @@ use Rattle.router_moments.proofs.PrintedBlocks.{event_printed}
 use Rattle.journal_laws.proofs.PrintedRows.{none_printable}
 use Rattle.exit_side.proofs.LawLemmas.{stands_at_first as exits_at_first}
 use Rattle.exit_laws.proofs.PrintLemmas.{printing_stays}
-use Rattle.nexthop_resolver.specs.declared.rows.Way.{Way}
+use Rattle.nexthop_resolver.specs.Ways.{Way}
 use Rattle.rib_exit.proofs.LawLemmas.{stands_at_first as external_at_first}
 use Rattle.router_moments.proofs.TurnLaws.{turn_works, phase_works}
 use Rattle.router_moments.proofs.ServedTurns.{turn_comes}

@@ -2,7 +2,7 @@
 use Rattle.router_moments.proofs.Common.{◌∙◌, ap, ◌≡◌, ℕ, refl, true, not, AddressPrefix, Route, Neighbour, Speaker, fib_distance, Rows, way_of, over, redistributed, has, Protos, ext_is_of_best, StandsOver, ext_rows, RibExit, row_of_both, FibRow, Interior, on_link, kept_rows}
 use Rattle.std.proofs.Common.{Option, Some, None}
 use Rattle.std.specs.Prelude.{option_map}
-use Rattle.rib_route.specs.declared.rows.External.{External}
+use Rattle.rib_route.specs.Rows.{External}
 use Rattle.rib_route.specs.Distances.{external_proto}
 use Rattle.nexthop_resolver.specs.Kept.{first_router as way_router}
 use Rattle.rib_split.specs.declared.split.BgpLink.TheVariants as sides

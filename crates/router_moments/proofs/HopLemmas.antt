@@ -2,7 +2,7 @@
 use Rattle.router_moments.proofs.Common.{sym, subst, ◌∙◌, ap, ◌≡◌, ℕ, refl, List, true, false, ◌++◌, suc, zero, nat_eq, ◌≢◌, AddressPrefix, Route, Speaker, best_rows, Exited, resolver_at, Resolvers, PeerRows, hop_links, IsHops, res_at, AllAgree, AllCounted, ComesOn, LeadsRes, HasNoInterest, entries_of_entries, with_entries_append, leads_append, leads_nowhere, Journaled, Adds, with_entries, entries_of, Leads, Links, Entry, Link, Res, Value, IsSent, Rows, Change, joined, with_side, Sides, LeadsIn, Region, Decided, Inward, Resolved, Outward, Resolving, Metric, chain_at, Chains, filt_at, peer_links, Registry, Interior, all_at, best_at, best_links, best_entries, Queues, resolved_at, Moment, best_of, router_links, own_of, with_exits, with_chains, parts, with_hops, Stands, HopsStand, journal_lines, Decides, SettlesPeer}
 use Rattle.std.proofs.Common.{[], Option, Some, None, is_some, IsSome}
 use Rattle.std.specs.FinMap as tables
-use Rattle.register_interest.specs.declared.interests.Interest.{Interest}
+use Rattle.register_interest.specs.Interests.{Interest}
 use Rattle.register_interest.specs.Covers.{matched}
 use Rattle.register_interest.specs.Interests.{without}
 use Rattle.register_interest.specs.Registers.{KeepsAnswers, AllStand as MatchesStand}

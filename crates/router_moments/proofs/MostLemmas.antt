@@ -19,7 +19,7 @@ use Rattle.nexthop_resolver.specs.Left.{is_needed, differing_count, walk_turns, 
 use Rattle.router_moments.specs.Phases.{beyond_by, external_most, refresh_most, sent_in, stale_of, stale_in, nh_sends_of, place_candidates, next_candidates, fin_sends_of, walk_candidates, waiting_candidates}
 use Rattle.link_change.proofs.MapLemmas.{sum_within, sums_within, values_length}
 use Rattle.link_region.proofs.RegionLemmas.{by_bool}
-use Rattle.rib_route.specs.declared.rows.External.{External}
+use Rattle.rib_route.specs.Rows.{External}
 use Rattle.rib_split.specs.declared.split.BgpLink.TheVariants.{Ebgp, Ibgp}
 use Rattle.rib_split.specs.Splitting.{external_row}
 use Rattle.rib_exit.specs.Exits.{known_in as external_known}

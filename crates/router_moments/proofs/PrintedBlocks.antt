@@ -4,7 +4,7 @@ use Rattle.std.proofs.Common.{◌^◌, ◌==◌, [], ◌∷◌, map, Option, Som
 use Rattle.std.specs.Prelude.{filter, length}
 use Rattle.std.proofs.lemmas.List.Elements.{All-nil}
 use Rattle.bgp_wire.specs.Grammar.{Reads, without, is_served}
-use Rattle.bgp_wire.specs.Readable.{IsAddressPrefix}
+use Rattle.addr4.specs.Families.{IsIpv4Prefix, IsIpv4}
 use Rattle.bgp_wire.specs.declared.message.Message.TheVariants as messages
 use Rattle.bgp_wire.proofs.ReadableLaws.{Every, all_every, every_filter}
 use Rattle.bgp_wire.proofs.ReadableMessages.{read_is_readable}
@@ -12,6 +12,8 @@ use Rattle.event_text.specs.declared.event.Event.TheVariants.{Nothing, Local, Pe
 use Rattle.event_text.specs.Declarations.{refusal}
 use Rattle.register_interest.specs.Covers.{matched, longest, IsLongest}
 use Rattle.register_interest.proofs.CoverLemmas.{longest_is}
+use Rattle.register_interest.specs.Search.{AreShort}
+use Rattle.register_interest.proofs.SearchLemmas.{subnet_short}
 use Rattle.journal_text.specs.Names.{IsNamed, IsNamedTask}
 use Rattle.journal_text.specs.declared.entry.Entry.TheVariants as entries
 use Rattle.journal_text.specs.declared.line.Line.TheVariants as lines
@@ -19,7 +21,7 @@ use Rattle.journal_text.specs.declared.link.Task.TheVariants as tasks
 use Rattle.journal_text.specs.declared.link.Link.TheVariants as links
 use Rattle.journal_check.specs.Laws.{IsMatch, IsNamedIfAny}
 use Rattle.journal_laws.specs.Standing.{WasHeard}
-use Rattle.journal_laws.proofs.PrintedRows.{none_printable, fed_fit, lost_printable, edited_printable}
+use Rattle.journal_laws.proofs.PrintedRows.{none_printable, fed_fit, lost_printable, edited_printable, int_prints}
 use Rattle.journal_laws.proofs.PrintedWays.{Heard, route_way}
 use Rattle.journal_laws.proofs.PrintedLines.{plain_printed, note_printed, answer_printed, rows_printed}
 use Rattle.loss_chain.proofs.TableLemmas.{equal_by}
@@ -105,18 +107,26 @@ module _ (m : Moment) (stands : Stands m) (printable : IsPrintableMoment m) wher
   absent : IsPrinted (neighbours m.declared) lines.Absent
   absent = plain_printed (neighbours m.declared) lines.Absent refl refl tt
 
-  covered : (addr : ℕ) (said : List Line) → addr < 2 ^ 32 → CoversAddress addr m said → Printed said
-  covered addr said fits covers =
+  covered : (addr : ℕ) (said : List Line) → IsIpv4 addr → CoversAddress addr m said → Printed said
+  covered addr said ipv4 covers =
       let sub = covers.cover.subnet in
       let low = sub.holds.from in
-      subst Printed (sym covers.line) (plain_printed (neighbours m.declared) _ refl refl (fits, by_match covers.found covers.cover.longest_is, (sub.masked, omega (arith, low, fits))), tt)
+      let few = subnet_short width 32 (int_rows m.tree) addr (matched covers.found) covers.subnet (omega arith) short (ap matched covers.cover.longest_is) sub in
+      subst Printed (sym covers.line)
+      (plain_printed (neighbours m.declared) _ refl refl (ipv4, by_match covers.found covers.cover.longest_is, record { masked = sub.masked; fits = omega (arith, low, ipv4.0); short = few }), tt)
     where
+      short : AreShort 32 (int_rows m.tree)
+      short p longer = by_row (int_rows m.tree p) refl
+        where
+          by_row : (o : Option Interior) → int_rows m.tree p ≡ o → o ≡ None
+          by_row None at = refl
+          by_row (Some row) at = absurd (let is = int_prints (neighbours m.declared) m.tree printable.interior p row at in omega (arith, is.0.short, longer))
+
       by_match : (found : Option (AddressPrefix × Interior)) → found ≡ longest width (int_rows m.tree) addr → IsMatch (matched found)
       by_match None is = tt
       by_match (Some r) is =
           let is_longest : IsLongest width (int_rows m.tree) addr (Some r) = subst (IsLongest width (int_rows m.tree) addr) (sym is) (longest_is width (int_rows m.tree) addr) in
-          let low = is_longest.1.from in
-          (is_longest.0, omega (arith, low, fits))
+          (int_prints (neighbours m.declared) m.tree printable.interior r.0 r.1 is_longest.2).0
 
   -- ---- names of tasks that have work
   has_chain : (k : ℕ) → IsSome (chain_at k m.chains) → IsNameNumber k
@@ -210,26 +220,23 @@ module _ (m : Moment) (stands : Stands m) (printable : IsPrintableMoment m) wher
         })
 
     -- ---- messages
-    address_prefix_is_prefix : (n : AddressPrefix) → IsAddressPrefix n → IsPrefix n
-    address_prefix_is_prefix n is = (is.masked, is.fits)
-
     changes_said : (w : Neighbour) (octets : List ℕ) (u : Update) → AreOctets octets → Reads m.declared.profile (not w.internal) octets (messages.Update u) → AllByRecursion (IsSaid m.declared.profile w) (changes_of u)
     changes_said w octets u are reads =
         let readable = read_is_readable m.declared.profile (not w.internal) octets u are reads in
-        all_both (IsSaid m.declared.profile w) (map withdrawn_from (without u.announced u.withdrawn)) _ (withdrawn _ (every_filter IsAddressPrefix _ u.withdrawn (all_every IsAddressPrefix u.withdrawn readable.withdrawn)))
-        (announced u.attrs refl (filter is_host_prefix u.announced) (every_filter IsAddressPrefix is_host_prefix u.announced (all_every IsAddressPrefix u.announced readable.announced)))
+        all_both (IsSaid m.declared.profile w) (map withdrawn_from (without u.announced u.withdrawn)) _ (withdrawn _ (every_filter IsIpv4Prefix _ u.withdrawn (all_every IsIpv4Prefix u.withdrawn readable.withdrawn)))
+        (announced u.attrs refl (filter is_host_prefix u.announced) (every_filter IsIpv4Prefix is_host_prefix u.announced (all_every IsIpv4Prefix u.announced readable.announced)))
       where
-        withdrawn : (ns : List AddressPrefix) → Every IsAddressPrefix ns → AllByRecursion (IsSaid m.declared.profile w) (map withdrawn_from ns)
+        withdrawn : (ns : List AddressPrefix) → Every IsIpv4Prefix ns → AllByRecursion (IsSaid m.declared.profile w) (map withdrawn_from ns)
         withdrawn [] each = tt
-        withdrawn (n ∷ ns) each = ((address_prefix_is_prefix n each.0, tt), withdrawn ns each.1)
+        withdrawn (n ∷ ns) each = ((each.0, tt), withdrawn ns each.1)
 
         attrs_said : (o : Option Attrs) → u.attrs ≡ o → IfSome o (WasHeard m.declared.profile (not w.internal))
         attrs_said None at = tt
         attrs_said (Some a) at = (octets, u, are, reads, at)
 
-        announced : (o : Option Attrs) → u.attrs ≡ o → (ns : List AddressPrefix) → Every IsAddressPrefix ns → AllByRecursion (IsSaid m.declared.profile w) (map (announced_with o) ns)
+        announced : (o : Option Attrs) → u.attrs ≡ o → (ns : List AddressPrefix) → Every IsIpv4Prefix ns → AllByRecursion (IsSaid m.declared.profile w) (map (announced_with o) ns)
         announced o at [] each = tt
-        announced o at (n ∷ ns) each = ((address_prefix_is_prefix n each.0, attrs_said o at), announced o at ns each.1)
+        announced o at (n ∷ ns) each = ((each.0, attrs_said o at), announced o at ns each.1)
 
     heard : (k : ℕ) (p : DeclaredPeer) (octets : List ℕ) (message : Message) (said : List Line) (m' : Moment) → peer_at k m.declared.peers ≡ Some p → p.up ≡ true → AreOctets octets → Says m.declared.profile p octets message → Hears k p m message said m'
         → Leaves m.declared.profile (neighbours m.declared) m' said
@@ -368,14 +375,14 @@ module _ (m : Moment) (stands : Stands m) (printable : IsPrintableMoment m) wher
     event_printed (FilterIn k rules) said turns m' admitted formed is = refiltered k rules said turns m' formed.1 is
     event_printed (FilterOut k rules) said turns m' admitted formed is = redirected k rules said turns m' is
     event_printed (RouteAdd p row) said turns m' admitted formed is =
-        let prefix : IsPrefix p = (formed.0.masked, formed.0.fits) in
+        let prefix : IsPrefix p = formed.0 in
         let own = formed.1 in
         fed row.proto p (Some row) said m' (speaker_since m.declared (RouteAdd p row) (λ e. cc) admitted) prefix (record { prefix = prefix; printed = λ all. record { well_told = record { ranges = (own.name, own.metric); told = own.gateway }; short = tt } }) is.1
-    event_printed (RouteDel proto p) said turns m' admitted formed is = dropped_if _ proto p said turns m' (speaker_since m.declared (RouteDel proto p) (λ e. cc) admitted) (formed.masked, formed.fits) is
+    event_printed (RouteDel proto p) said turns m' admitted formed is = dropped_if _ proto p said turns m' (speaker_since m.declared (RouteDel proto p) (λ e. cc) admitted) formed is
     event_printed (Lose proto) said turns m' admitted formed is = protocol_lost proto said m' is.1
     event_printed (Redist proto on) said turns m' admitted formed is = just [] _ said turns m' is (record { chains = printable.chains; interior = printable.interior; hops = printable.hops; ways = printable.ways; exits = printable.exits; printed = tt })
     event_printed (Cover addr) said turns m' admitted formed is = stays said m' is.1 (covered addr said formed is.2)
-    event_printed (Settled p) said turns m' admitted formed is = stays said m' is.1 (settled p said (formed.masked, formed.fits) is.2)
+    event_printed (Settled p) said turns m' admitted formed is = stays said m' is.1 (settled p said formed is.2)
     event_printed Idle said turns m' admitted formed is =
         let within = is.within in
         let fits = is.fits in
@@ -387,5 +394,5 @@ module _ (m : Moment) (stands : Stands m) (printable : IsPrintableMoment m) wher
         let most = is.most in
         let low = formed.1 in
         leaves said m' is.inner (turns_go turns task m is.inner m' stands is.taken) (λ inner. subst Printed (sym is.lines) (all_both (IsPrinted (neighbours m.declared)) is.inner (lines.Work turns ∷ []) inner (plain_printed (neighbours m.declared) (lines.Work turns) refl refl (omega (arith, most, low)), tt)))
-    event_printed (Ask link p) said turns m' admitted formed is = just _ m said turns m' is (stays _ m refl (asked link p formed.0 (formed.1.masked, formed.1.fits) (router_links m link) refl))
+    event_printed (Ask link p) said turns m' admitted formed is = just _ m said turns m' is (stays _ m refl (asked link p formed.0 formed.1 (router_links m link) refl))
     event_printed (Show link) said turns m' admitted formed is = stays said m' is.1 (listed link formed (router_links m link) refl said is.2)

@@ -1,19 +1,19 @@
 -- This speaker's own routes, the external rows, and what packets are forwarded by can be printed, and so can what goes on to `fib`.
 use Rattle.router_moments.proofs.Common.{sym, subst, ◌∙◌, ◌≡◌, ℕ, refl, List, true, arith, false, Bool, ◌≤◌, cond, ◌<◌, inr, inl, ◌⊎◌, option_or, AddressPrefix, Route, Neighbour, Profile, Speaker, AreBestRows, fib_distance, IsPrefix, Prints, IsPrinted, HaveWays, IsWay, route_value, fib_value, interior_value, sent_entries, external_value, Entry, Fib, Value, IsSent, Rows, Change, all_both, over, external_hop, Resolving, in_force_by, fresh_by, walk_to, goes_on, Passed, function_at, IsSender, redistributed, Protos, Registry, ext_is_of_best, StandsOver, ext_rows, fib_over, FallsOn, RibExit, FibRow, Interior, Parted, on_link, BgpLink, own_rows, MaySend}
 use Rattle.std.proofs.Common.{◌^◌, Option, Some, None}
+use Rattle.addr4.specs.Families.{IsIpv4}
 use Rattle.bgp_wire.specs.Lengths.{attributes_length}
 use Rattle.rib_route.specs.Distances.{external_proto}
-use Rattle.rib_route.specs.declared.rows.External.{External}
+use Rattle.rib_route.specs.Rows.{External}
 use Rattle.rib_merge.specs.Forwards.{forwarded}
 use Rattle.pass_core.specs.Passed.{function_of}
 use Rattle.redist.specs.Local.{local_attrs, local_route}
 use Rattle.redist.proofs.LawLemmas.{only_own_routes}
-use Rattle.nexthop_resolver.specs.declared.rows.Outlet.{Outlet}
-use Rattle.nexthop_resolver.specs.declared.rows.Way.{Way}
+use Rattle.nexthop_resolver.specs.Ways.{Outlet, Way}
 use Rattle.nexthop_resolver.specs.Kept.{first_router, over_outlet}
 use Rattle.nexthop_resolver.specs.Resolving.{Answers, made_by}
 use Rattle.rib_split.specs.declared.split.BgpLink.TheVariants as sides
-use Rattle.rib_split.specs.declared.split.Split.{Split}
+use Rattle.rib_split.specs.Splits.{Split}
 use Rattle.rib_split.specs.declared.split.Split.TheVariants.{Neither, One, Moved}
 use Rattle.rib_split.specs.Splitting.{external_of, external_row, is_of, other, split_rows, first_on, Splits}
 use Rattle.rib_split.specs.Laws.{merged_links}
@@ -36,7 +36,7 @@ own_short : (addr : ℕ) → attributes_length false (local_attrs addr) ≤ 4096
 unfolding attributes_length
 own_short addr = let is : attributes_length false (local_attrs addr) ≡ 14 = refl in omega (arith, is)
 
-first_fits : (gateway : Option ℕ) (hop : ℕ) → IsAddressIfAny gateway → hop < 2 ^ 32 → first_router gateway hop < 2 ^ 32
+first_fits : (gateway : Option ℕ) (hop : ℕ) → IsAddressIfAny gateway → IsIpv4 hop → IsIpv4 (first_router gateway hop)
 first_fits None hop own fits = fits
 first_fits (Some gateway) hop own fits = own
 
@@ -50,7 +50,7 @@ module _ (profile : Profile) (peers : ℕ → Option Neighbour) where
   own_printed nobody me sender = record {
     well_told = record {
       ranges = record { attrs = record { path = tt; med = tt; local_pref = tt; aggregator = tt; unrecognized = tt }; pref = omega arith; med = tt; prepend = omega arith; igp = omega arith; from = omega arith };
-      told = (record { next_hop = sender.addr.fits; aggregator = tt; originator = tt; clusters = tt }, sym nobody);
+      told = (record { next_hop = sender.addr.ipv4; aggregator = tt; originator = tt; clusters = tt }, sym nobody);
     };
     short = (false, own_short me.addr);
   }

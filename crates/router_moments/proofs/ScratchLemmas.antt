@@ -3,6 +3,7 @@ use Rattle.router_moments.proofs.Common.{sym, subst, ◌∙◌, ap, ◌≡◌, �
 use Rattle.std.proofs.Common.{◌==◌, [], Option, Some, None, is_some}
 use Rattle.std.specs.Prelude.{option_map, IsSome}
 use Rattle.std.specs.FinMap as tables
+use Rattle.addr4.specs.Blocks.{width}
 use Rattle.link_change.specs.InOrder.{changed_in}
 use Rattle.link_change.proofs.InOrderLemmas.{unchanged_stays}
 use Rattle.loss_chain.specs.Tables.{rows_above}
@@ -17,7 +18,7 @@ use Rattle.journal_text.specs.declared.link.Link.TheVariants.{In, Peer, Filt, Re
 use Rattle.journal_text.specs.declared.link.Task.TheVariants.{Del, Fin, Nh, ReadRib as Reading, Out, Rdel, Red as Own, Ext as External}
 use Rattle.journal_text.specs.Values.{valued, attrs_value, attrs_rows, interior_rows}
 use Rattle.in_chain.specs.Incomings.{in_rows}
-use Rattle.rib_route.specs.declared.rows.External.{External as ExternalRow}
+use Rattle.rib_route.specs.Rows.{External as ExternalRow}
 use Rattle.rib_route.specs.Forwarding.{fib_row}
 use Rattle.rib_tree.specs.Steps.{tree_lags}
 use Rattle.rib_tree.specs.Laws.{OrgWhereNoneIsLost}
@@ -78,7 +79,7 @@ module _ (org_exact : OrgWhereNoneIsLost) (hops_exact : hops.ExactUnlessHeldUp) 
 
   match_rests : (p : AddressPrefix) (k a : ℕ) → Rests Int p → k < 65 → next_hop_at m k p ≡ Some a → longest_match (int_rows m.tree) a ≡ longest_match scratch_int a
   unfolding peer_numbers
-  match_rests p k a rest less at = match_at org_exact m.tree tree a 32 (λ proto n.
+  match_rests p k a rest less at = match_at org_exact m.tree tree a width (λ proto n.
       sym (ap (is_over m.tree (Rdel proto n)) at)
       ∙ none_below (λ j. is_over m.tree (Rdel proto n) (next_hop_at m j p)) 0 65 k (second_false (tree_lags m.tree (Rdel proto n) p) (is_over_hop (Rdel proto n) m p) (protocols p rest proto (Rdel proto n) (directly (Org proto) refl))) less k (omega arith))
 
@@ -143,8 +144,8 @@ module _ (org_exact : OrgWhereNoneIsLost) (hops_exact : hops.ExactUnlessHeldUp) 
   hop_row : (p : AddressPrefix) (k : ℕ) → Rests Int p → k < 65 → (o : Option Route) → filt_at m.chains k p ≡ o → goes_on route_hop with_metric (λ (a : ℕ). Some (answer_of metric_of m.registry a)) o ≡ resolved_row scratch_int o
   hop_row p k none less None at = refl
   hop_row p k none less (Some r) at =
-      ap (λ (rows : Rows Interior). with_metric r (metric_of (longest 32 rows (route_hop r)))) stands.registered
-      ∙ by_match r (longest 32 (int_rows m.tree) (route_hop r))
+      ap (λ (rows : Rows Interior). with_metric r (metric_of (longest width rows (route_hop r)))) stands.registered
+      ∙ by_match r (longest width (int_rows m.tree) (route_hop r))
       ∙ ap (with_metric_of r) (match_is (int_rows m.tree) (route_hop r) ∙ match_rests p k (route_hop r) none less (ap (option_map route_hop) at))
 
   res_rests : (p : AddressPrefix) (k : ℕ) → Rests (Res k) p → k < 65 → (s : Resolving Metric) → resolver_at k m.hops ≡ Some s → metric_rows s (filt_at m.chains k) p ≡ resolved_row scratch_int (filt_at m.chains k p)
@@ -269,12 +270,12 @@ module _ (org_exact : OrgWhereNoneIsLost) (hops_exact : hops.ExactUnlessHeldUp) 
       by_branch r best hop (suc k) less at =
           (suc k, less, same_next_hop (resolver_at (suc k) m.hops) (filt_at m.chains (suc k)) p r at ∙ ap (λ (a : ℕ). Some a) hop)
 
-  reached_is : (p : AddressPrefix) → Rests Int p → (o : Option ExternalRow) → external_row (λ w. true) (best_of m p) ≡ o → reached (longest 32 (tables.get m.registry.rows)) o ≡ reached_row scratch_int o
+  reached_is : (p : AddressPrefix) → Rests Int p → (o : Option ExternalRow) → external_row (λ w. true) (best_of m p) ≡ o → reached (longest width (tables.get m.registry.rows)) o ≡ reached_row scratch_int o
   reached_is p rest None at = refl
   reached_is p rest (Some x) at =
       let from = best_hop p x at in
-      ap (λ (rows : Rows Interior). over x (way_of (longest 32 rows x.next_hop))) stands.registered
-      ∙ over_is x (longest 32 (int_rows m.tree) x.next_hop)
+      ap (λ (rows : Rows Interior). over x (way_of (longest width rows x.next_hop))) stands.registered
+      ∙ over_is x (longest width (int_rows m.tree) x.next_hop)
       ∙ ap (over_interior x) (match_is (int_rows m.tree) x.next_hop ∙ match_rests p from.0 x.next_hop rest from.1 from.2)
 
   fib_exact : (p : AddressPrefix) → Rests Fib p → IsExactIn m Fib p
@@ -290,7 +291,7 @@ module _ (org_exact : OrgWhereNoneIsLost) (hops_exact : hops.ExactUnlessHeldUp) 
       same me local =
           let row : ext_rows m.rib p ≡ external_row (λ w. true) (best_of m p) = ext_row_is p ∙ ap (external_row (λ w. true)) (read_now p reads me local) in
           external_exact m.rib (read_of m) (int_rows m.tree) m.registry p stands.external.sound stands.exits.external stands.external.agree (rest External (directly Fib tt))
-          ∙ ap (row_of_both fib_distance (option_map fib_row (int_rows m.tree p))) (ap (reached (longest 32 (tables.get m.registry.rows))) row ∙ reached_is p interior (external_row (λ w. true) (best_of m p)) refl)
+          ∙ ap (row_of_both fib_distance (option_map fib_row (int_rows m.tree p))) (ap (reached (longest width (tables.get m.registry.rows))) row ∙ reached_is p interior (external_row (λ w. true) (best_of m p)) refl)
           ∙ ap (λ (o : Option Route). row_of_both fib_distance (option_map fib_row (int_rows m.tree p)) (reached_row scratch_int (external_row (λ w. true) o))) (best_is p (above Best ReadRib p tt reads))
           ∙ ap (λ (o : Option Interior). row_of_both fib_distance (option_map fib_row o) (reached_row scratch_int (external_row (λ w. true) (picked p)))) (int_is p interior)
           ∙ lesser_is (option_map fib_row (scratch_int p)) (reached_row scratch_int (external_row (λ w. true) (picked p)))

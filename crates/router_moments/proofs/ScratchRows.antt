@@ -3,10 +3,11 @@ use Rattle.router_moments.proofs.Common.{sym, ◌∙◌, ap, ◌≡◌, ℕ, ref
 use Rattle.std.proofs.Common.{[], Option, Some, None, ◌∷◌}
 use Rattle.std.specs.Prelude.{option_map}
 use Rattle.addr4.specs.Prefixes.{block}
+use Rattle.addr4.specs.Blocks.{width}
 use Rattle.loss_chain.specs.Held.{has_row, has_within}
 use Rattle.journal_text.specs.declared.link.Task.TheVariants.{Rdel}
 use Rattle.journal_text.specs.Values.{valued}
-use Rattle.rib_route.specs.declared.rows.External.{External as ExternalRow}
+use Rattle.rib_route.specs.Rows.{External as ExternalRow}
 use Rattle.rib_merge.specs.Merging.{merged}
 use Rattle.rib_tree.specs.Trees.{interior_distance}
 use Rattle.rib_tree.specs.Steps.{tree_lags}
@@ -46,10 +47,10 @@ module _ (org_exact : OrgWhereNoneIsLost) (t : Treed) (tree : IsTree t) where
   -- where none has a prefix of an address, the longest match is that of the live routes
   pub match_at : (a n : ℕ) → ((proto : Proto) (k : ℕ) → has_within (table_of k (branch_of proto t).tables.deletions) a n ≡ false)
       → longest_within (int_rows t) a n ≡ longest_within (least_rows live_in (Connected ∷ Static ∷ Ospf ∷ Rip ∷ [])) a n
-  match_at a zero none = int_at (block 32 a 0) none
+  match_at a zero none = int_at (block width a 0) none
   match_at a (suc n) none = λ i. or_else
-      (int_at (block 32 a (suc n)) (λ proto k. first_false (has_row (table_of k (branch_of proto t).tables.deletions) (block 32 a (suc n))) (has_within (table_of k (branch_of proto t).tables.deletions) a n) (none proto k)) i)
-      (match_at a n (λ proto k. second_false (has_row (table_of k (branch_of proto t).tables.deletions) (block 32 a (suc n))) (has_within (table_of k (branch_of proto t).tables.deletions) a n) (none proto k)) i)
+      (int_at (block width a (suc n)) (λ proto k. first_false (has_row (table_of k (branch_of proto t).tables.deletions) (block width a (suc n))) (has_within (table_of k (branch_of proto t).tables.deletions) a n) (none proto k)) i)
+      (match_at a n (λ proto k. second_false (has_row (table_of k (branch_of proto t).tables.deletions) (block width a (suc n))) (has_within (table_of k (branch_of proto t).tables.deletions) a n) (none proto k)) i)
 
 -- no peer, nothing to judge
 pub unjudged : (s : Option Speaker) (rules : List Rule) (routes : Routes) → judged_rows s None rules routes ≡ None

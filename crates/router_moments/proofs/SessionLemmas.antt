@@ -356,7 +356,7 @@ outgoing_edited m v k rules copied policies e view stands same set edits =
 -- ---- `local`
 -- this speaker's words can be said
 pub may_send : (profile : Profile) (words : Speaker) → IsSpeaker profile.as4 words → IsSender profile words
-may_send profile words is = record { asn = by_width profile.as4 is.asn_most; addr = record { fits = is.addr_fits; first = no_host (words.addr / 16777216) is.host } }
+may_send profile words is = record { asn = by_width profile.as4 is.asn_most; addr = record { ipv4 = is.addr_fits; first = no_host (words.addr / 2 ^ 120) is.host } }
   where
     by_width : (as4 : Bool) → words.asn < asn_bound as4 → words.asn < 256 ^ width_of as4
     by_width true most = most

@@ -1,21 +1,21 @@
 -- What the decision makes of the rows of `red` and of all `res.K` (RFC 4271, sections 9.1.2 and 9.4).
 use Rattle.std.specs.Prelude.{◌≡◌, ℕ, zero, suc, nat_lt, cond, false, List, Option, Some, None}
 use Rattle.addr4.specs.Prefixes.{AddressPrefix}
-use Rattle.bgp_attr.specs.declared.route.Route.{Route}
-use Rattle.bgp_attr.specs.declared.speaker.Speaker.{Speaker}
+use Rattle.bgp_attr.specs.Routes.{Route}
+use Rattle.bgp_attr.specs.Speakers.{Speaker}
 use Rattle.link_change.specs.Rows.{Rows, Candidates, no_rows}
 use Rattle.link_change.specs.Changes.{IsSent}
-use Rattle.link_change.specs.declared.change.Change.{Change}
+use Rattle.link_change.specs.Changes.{Change}
 use Rattle.journal_text.specs.declared.link.Link.TheVariants.{Best, Red}
-use Rattle.journal_text.specs.declared.entry.Entry.{Entry}
-use Rattle.journal_text.specs.declared.value.Value.{Value}
+use Rattle.journal_text.specs.Lines.{Entry}
+use Rattle.journal_text.specs.Lines.{Value}
 use Rattle.journal_text.specs.Values.{route_value, route_rows, sent_entries}
 use Rattle.journal_text.specs.Walk.{Links}
 use Rattle.decision.specs.Branches.{AllRows, best_rows}
 use Rattle.in_chain.specs.Chains.{Chained, filt_candidates}
 use Rattle.hop_side.specs.Resolvers.{Resolvers, PeerRows, resolver_at, rows_by, res_at}
 use Rattle.hop_side.specs.Steps.{ComesOn}
-use Rattle.rib_route.specs.declared.rows.Interior.{Interior}
+use Rattle.rib_route.specs.Rows.{Interior}
 use Rattle.pass_core.specs.Passed.{Passed}
 use Rattle.pass_core.specs.Turns.{passed_rows}
 use Rattle.redist.specs.declared.protos.Protos.{Protos}

@@ -3,7 +3,7 @@ use Rattle.std.specs.Prelude.{◌≡◌, ℕ, ◌+◌, ◌≤◌, ◌<◌, ◌^�
 use Rattle.std.specs.List.{AllByRecursion}
 use Rattle.std.specs.List.Sorted.{IsStrictlySortedBy}
 use Rattle.addr4.specs.Prefixes.{AddressPrefix, prefix_cmp}
-use Rattle.bgp_attr.specs.declared.speaker.Speaker.{Speaker}
+use Rattle.bgp_attr.specs.Speakers.{Speaker}
 use Rattle.link_change.specs.Rows.{Rows}
 use Rattle.bgp_wire.specs.declared.message.Message.{Message}
 use Rattle.bgp_wire.specs.declared.message.RouteRefresh.{RouteRefresh}
@@ -13,22 +13,22 @@ use Rattle.bgp_wire.specs.Spelling.{notification_octets}
 use Rattle.journal_text.specs.declared.link.Link.{Link}
 use Rattle.journal_text.specs.declared.link.Link.TheVariants.{In, Filt, Res, Org, Low, Dyn, Int, Red, Best, ReadRib}
 use Rattle.journal_text.specs.declared.link.Task.{Task}
-use Rattle.journal_text.specs.declared.value.Value.{Value}
-use Rattle.journal_text.specs.declared.entry.Entry.{Entry}
+use Rattle.journal_text.specs.Lines.{Value}
+use Rattle.journal_text.specs.Lines.{Entry}
 use Rattle.journal_text.specs.declared.entry.Entry.TheVariants as entries
-use Rattle.journal_text.specs.declared.line.Line.{Line}
+use Rattle.journal_text.specs.Lines.{Line}
 use Rattle.journal_text.specs.declared.line.Line.TheVariants as lines
 use Rattle.journal_text.specs.Walk.{Leads}
 use Rattle.journal_text.specs.Texts.{entries_of}
 use Rattle.event_text.specs.declared.event.Event.{Event}
 use Rattle.event_text.specs.declared.event.Event.TheVariants.{Nothing, As4, Revised, Reflect, Local, Peer, Up, Down, Bgp, FilterIn, FilterOut, RouteAdd, RouteDel, Lose, Redist, Cover, Settled, Idle, Work, Ask, Show}
 use Rattle.event_text.specs.declared.declared.DeclaredPeer.{DeclaredPeer}
-use Rattle.policy_rules.specs.declared.rule.Rule.{Rule}
+use Rattle.policy_rules.specs.Rules.{Rule}
 use Rattle.event_text.specs.Declarations.{peer_at, words_of, with_four_octets, with_revised, with_reflection, with_speaker, with_peer, with_session, without_session}
 use Rattle.std.specs.FinMap as tables
 use Rattle.rib_route.specs.declared.Proto.{Proto}
 use Rattle.rib_route.specs.declared.Proto.TheVariants.{Connected, Static, Ospf, Rip}
-use Rattle.rib_route.specs.declared.rows.Interior.{Interior}
+use Rattle.rib_route.specs.Rows.{Interior}
 use Rattle.register_interest.specs.Width.{width}
 use Rattle.register_interest.specs.Covers.{matched, IsCover}
 use Rattle.rib_tree.specs.Trees.{branch_of, int_rows}

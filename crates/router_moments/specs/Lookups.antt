@@ -3,8 +3,8 @@ use Rattle.std.specs.Prelude.{◌≡◌, ℕ, length, List, [], ◌∷◌, map, 
 use Rattle.addr4.specs.Prefixes.{AddressPrefix}
 use Rattle.link_change.specs.Rows.{Rows, Candidates, IsNextCandidate, CoversRows}
 use Rattle.journal_text.specs.declared.link.Link.{Link}
-use Rattle.journal_text.specs.declared.value.Value.{Value}
-use Rattle.journal_text.specs.declared.line.Line.{Line}
+use Rattle.journal_text.specs.Lines.{Value}
+use Rattle.journal_text.specs.Lines.{Line}
 use Rattle.journal_text.specs.declared.line.Line.TheVariants as lines
 use Rattle.journal_text.specs.Walk.{Links, HasRow}
 use Rattle.journal_text.specs.Journals.{Journaled, with_lines}

@@ -2,11 +2,11 @@
 use Rattle.std.specs.Prelude.{◌≡◌, ℕ, ◌+◌, ◌*◌, length, Bool, nat_lt, if◌then◌else◌, List, [], ◌∷◌, Option, Some, None, refl}
 use Rattle.std.specs.FinMap as tables
 use Rattle.std.specs.Coded.{Coded, code_by, coded×, coded_ℕ, coded_bool}
-use Rattle.bgp_attr.specs.declared.speaker.Speaker.{Speaker}
-use Rattle.rib_route.specs.declared.rows.Interior.{Interior}
+use Rattle.bgp_attr.specs.Speakers.{Speaker}
+use Rattle.rib_route.specs.Rows.{Interior}
 use Rattle.register_interest.specs.Registers.{Registry}
-use Rattle.journal_text.specs.declared.value.Value.{Value}
-use Rattle.journal_text.specs.declared.line.Line.{Line}
+use Rattle.journal_text.specs.Lines.{Value}
+use Rattle.journal_text.specs.Lines.{Line}
 use Rattle.journal_text.specs.Walk.{Links}
 use Rattle.journal_text.specs.Journals.{Journaled, with_lines, flushed}
 use Rattle.event_text.specs.Declarations.{Declaration, no_declaration, plain, with_profile}
@@ -15,7 +15,7 @@ use Rattle.rib_tree.specs.Steps.{new_tree}
 use Rattle.pass_core.specs.Passed.{Passed}
 use Rattle.redist.specs.declared.protos.Protos.{Protos}
 use Rattle.redist.specs.Protocols.{no_protos}
-use Rattle.rib_exit.specs.declared.exit.RibExit.{RibExit}
+use Rattle.rib_exit.specs.RibExits.{RibExit}
 use Rattle.rib_exit.specs.Exits.{nothing_yet, exit_links as external_links, known_in as external_known}
 use Rattle.link_region.specs.declared.regions.Region.TheVariants.{Inward, Resolved, Decided, InteriorRoutes, Redistributed, Forward, External, Outward}
 use Rattle.link_region.specs.Regions.{Sides, joined}
@@ -25,11 +25,11 @@ use Rattle.decision.specs.Branches.{best_candidates}
 use Rattle.router_moments.specs.Bests.{own_rows, own_links, best_at, best_links, lent_candidates}
 use Rattle.std.specs.FinMap.{FinMap}
 use Rattle.std.specs.Ordering.{nat_cmp}
-use Rattle.bgp_attr.specs.declared.route.Route.{Route}
+use Rattle.bgp_attr.specs.Routes.{Route}
 use Rattle.bgp_attr.specs.declared.speaker.Profile.{Profile}
 use Rattle.link_change.specs.Rows.{Rows, Candidates, no_rows}
-use Rattle.link_change.specs.declared.change.Change.{Change}
-use Rattle.policy_rules.specs.declared.rule.Rule.{Rule}
+use Rattle.link_change.specs.Changes.{Change}
+use Rattle.policy_rules.specs.Rules.{Rule}
 use Rattle.journal_text.specs.declared.link.Link.TheVariants.{ReadRib}
 use Rattle.journal_text.specs.Values.{route_rows}
 use Rattle.fanout_queue.specs.Queues.{Queued}

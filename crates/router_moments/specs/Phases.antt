@@ -1,10 +1,10 @@
 -- How many turns are left, phase by phase, and how many an idle takes from a phase on.
 use Rattle.std.specs.Prelude.{ℕ, length, Option, None, Some, is_some, Bool, true, false, ◌+◌, ◌*◌, List, [], ◌∷◌}
-use Rattle.bgp_attr.specs.declared.attrs.Attrs.{Attrs}
-use Rattle.policy_rules.specs.declared.rule.Rule.{Rule}
+use Rattle.bgp_attr.specs.Attributes.{Attrs}
+use Rattle.policy_rules.specs.Rules.{Rule}
 use Rattle.pass_core.specs.Passed.{Walked}
 use Rattle.pass_core.specs.Left.{turns_left as own_left}
-use Rattle.rib_exit.specs.declared.exit.RibExit.{RibExit}
+use Rattle.rib_exit.specs.RibExits.{RibExit}
 use Rattle.rib_exit.specs.Exits.{left_in as external_left}
 use Rattle.redist.specs.declared.protos.Protos.{Protos}
 use Rattle.loss_chain.specs.Tables.{Tables, lost_count, tables_count, table_beyond, tables_beyond}
@@ -22,8 +22,8 @@ use Rattle.router_moments.specs.declared.tasks.Phase.{Phase}
 use Rattle.router_moments.specs.declared.tasks.Phase.TheVariants.{Rdel, Red, Del, Fin, Nh, ReadRib, Out, Ext, Ref}
 use Rattle.router_moments.specs.Moments.{Moment, most_unread}
 use Rattle.std.specs.List.{sum_by}
-use Rattle.bgp_attr.specs.declared.route.Route.{Route}
-use Rattle.link_change.specs.declared.change.Change.{Change}
+use Rattle.bgp_attr.specs.Routes.{Route}
+use Rattle.link_change.specs.Changes.{Change}
 use Rattle.fanout_queue.specs.Queues.{Queued}
 use Rattle.fanout_queue.specs.Readers.{unread_by}
 use Rattle.exit_side.specs.Exits.{Exited, left_in as exits_left_in, refreshes_left}

@@ -8,7 +8,7 @@ use Rattle.nexthop_resolver.specs.declared.rows.Metric.{Metric}
 use Rattle.nexthop_resolver.specs.Resolving.{Resolving}
 use Rattle.hop_side.specs.Resolvers.{resolver_at}
 use Rattle.event_text.specs.Declarations.{Declaration, IsDeclaration}
-use Rattle.journal_text.specs.declared.line.Line.{Line}
+use Rattle.journal_text.specs.Lines.{Line}
 use Rattle.journal_laws.specs.Peers.{neighbours}
 use Rattle.journal_laws.specs.Printed.{IsPrinted}
 use Rattle.journal_laws.specs.Standing.{AreTablesOf, IsInteriorRow, IsPrintableChain, HaveMetrics, HaveWays}

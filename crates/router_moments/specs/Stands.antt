@@ -2,7 +2,7 @@
 use Rattle.std.specs.Prelude.{◌≡◌, ◌≢◌, ℕ, ◌+◌, ◌≤◌, length, Bool, true, false, is_some, IsSome, if◌then◌else◌, List, Option, Some, None}
 use Rattle.std.specs.FinMap as tables
 use Rattle.bgp_attr.specs.declared.speaker.Profile.{Profile}
-use Rattle.bgp_attr.specs.declared.speaker.Speaker.{Speaker}
+use Rattle.bgp_attr.specs.Speakers.{Speaker}
 use Rattle.event_text.specs.declared.declared.DeclaredPeer.{DeclaredPeer}
 use Rattle.event_text.specs.Declarations.{peer_at}
 use Rattle.in_chain.specs.Chains.{Chained}
@@ -13,20 +13,20 @@ use Rattle.rib_route.specs.declared.Proto.{Proto}
 use Rattle.rib_tree.specs.Trees.{Treed, branch_of, int_rows, IsTree, IsFull, AreNumbered}
 use Rattle.rib_tree.specs.Steps.{new_tree}
 use Rattle.pass_core.specs.Passed.{Passed, present}
-use Rattle.policy_rules.specs.declared.rule.Rule.{Rule}
+use Rattle.policy_rules.specs.Rules.{Rule}
 use Rattle.loss_chain.specs.Rows.{AllRows}
 use Rattle.fanout_queue.specs.Queues.{AllLead}
 use Rattle.peer_out.specs.Changes.{MayBeHeard, IsSender}
 use Rattle.out_chain.specs.Chains.{OutChained}
 use Rattle.exit_side.specs.Exits.{Exited, IsExits, AllStand, chain_at as exit_at}
-use Rattle.rib_exit.specs.declared.exit.RibExit.{RibExit}
+use Rattle.rib_exit.specs.RibExits.{RibExit}
 use Rattle.rib_exit.specs.Exits.{nothing_yet, IsExit, AgreesWith, StandsOver}
 use Rattle.redist.specs.declared.protos.Protos.{Protos}
 use Rattle.redist.specs.Protocols.{no_protos}
 use Rattle.register_interest.specs.Registers.{Registry, AllStand as MatchesStand}
 use Rattle.router_moments.specs.Moments.{Moment, Cored, Policies, rules_to, best_of, read_of}
 use Rattle.router_moments.specs.Printable.{IsPrintableMoment}
-use Rattle.rib_route.specs.declared.rows.Interior.{Interior}
+use Rattle.rib_route.specs.Rows.{Interior}
 
 -- the first session that no loss of the peer can name yet: the present one where the peer is up, else the next
 abbrev pub open_session : DeclaredPeer → ℕ

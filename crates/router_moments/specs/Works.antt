@@ -2,10 +2,10 @@
 use Rattle.std.specs.List.{AllByRecursion}
 use Rattle.std.specs.Prelude.{◌≡◌, ℕ, ◌+◌, ◌≤◌, ◌⊎◌, true, false, is_some, List, ◌++◌, Option, Some, None, IsSome}
 use Rattle.addr4.specs.Prefixes.{AddressPrefix}
-use Rattle.bgp_attr.specs.declared.attrs.Attrs.{Attrs}
-use Rattle.link_change.specs.declared.change.Change.{Change}
+use Rattle.bgp_attr.specs.Attributes.{Attrs}
+use Rattle.link_change.specs.Changes.{Change}
 use Rattle.journal_text.specs.declared.link.Task.{Task}
-use Rattle.journal_text.specs.declared.line.Line.{Line}
+use Rattle.journal_text.specs.Lines.{Line}
 use Rattle.journal_text.specs.Walk.{Leads}
 use Rattle.journal_text.specs.Texts.{entries_of}
 use Rattle.journal_text.specs.Journals.{Journaled, with_lines, with_entries, flushed}
@@ -16,20 +16,20 @@ use Rattle.nexthop_known.specs.Hops.{is_stale_at}
 use Rattle.hop_side.specs.Resolvers.{resolver_at, known_in, IsHops, AllAgree}
 use Rattle.rib_exit.specs.Exits.{known_in as external_known, stale_in as external_stale, IsExit}
 use Rattle.peer_side.specs.Steps.{LosesInward, WeldsInward}
-use Rattle.bgp_attr.specs.declared.route.Route.{Route}
-use Rattle.journal_text.specs.declared.entry.Entry.{Entry}
-use Rattle.journal_text.specs.declared.value.Value.{Value}
+use Rattle.bgp_attr.specs.Routes.{Route}
+use Rattle.journal_text.specs.Lines.{Entry}
+use Rattle.journal_text.specs.Lines.{Value}
 use Rattle.journal_text.specs.Values.{route_value, sent_entries}
-use Rattle.rib_route.specs.declared.rows.FibRow.{FibRow}
+use Rattle.rib_route.specs.Rows.{FibRow}
 use Rattle.rib_exit.specs.Steps.{TakesExternal}
 use Rattle.router_moments.specs.declared.tasks.Done.{Done}
 use Rattle.router_moments.specs.declared.tasks.Done.TheVariants.{Nothing, Taken}
 use Rattle.rib_route.specs.declared.Proto.{Proto}
-use Rattle.rib_route.specs.declared.rows.Interior.{Interior}
+use Rattle.rib_route.specs.Rows.{Interior}
 use Rattle.rib_tree.specs.Trees.{int_rows, tree_count}
 use Rattle.rib_tree.specs.Steps.{lost_tree, welded_tree, tree_overdue, tree_loss_entries, tree_weld_entries, fed_tree}
 use Rattle.std.specs.FinMap as tables
-use Rattle.bgp_attr.specs.declared.speaker.Speaker.{Speaker}
+use Rattle.bgp_attr.specs.Speakers.{Speaker}
 use Rattle.bgp_attr.specs.declared.speaker.Profile.{Profile}
 use Rattle.peer_out.specs.Changes.{IsSender, MayBeHeard}
 use Rattle.journal_text.specs.declared.link.Link.TheVariants.{Best, ReadRib}

@@ -8,7 +8,7 @@ use Rattle.std.specs.FinMap.{FinMap, find, get-entries, get-insert, get-remove, 
 use Rattle.slab.specs.Slab.{Slab, get, Updates}
 use Rattle.addr4.specs.Places.{key_of, IsBeyond, IsNextRow}
 use Rattle.addr4.specs.Prefixes.{ComesBefore, AddressPrefix, prefix_cmp}
-use Rattle.addr4.specs.declared.place.Place.{Place}
+use Rattle.addr4.specs.Places.{Place}
 use Rattle.addr4.specs.declared.place.Place.TheVariants.{Before, At}
 use Rattle.addr4.proofs.PrefixOrder.{prefixes_total, exact_prefixes, itself, one_prefix}
 use Rattle.addr4.proofs.RankLemmas.{another, before_is, further, one_first}

@@ -9,7 +9,7 @@ use Rattle.std.proofs.lemmas.List.Sums.{sum_by-cons, sum_by-set}
 use Rattle.slab.proofs.SlabLemmas.{ContainsKey-within}
 use Rattle.slab.specs.Slab.{Slab, get, slab_len, with_value, Updates, entries_from}
 use Rattle.addr4.specs.Prefixes.{AddressPrefix, prefix_cmp}
-use Rattle.addr4.specs.declared.place.Place.{Place}
+use Rattle.addr4.specs.Places.{Place}
 use Rattle.addr4.specs.declared.place.Place.TheVariants.{Before, At}
 use Rattle.safe_table.specs.Fields.{stands_at, standing, iterators_of}
 

@@ -5,7 +5,7 @@ use Rattle.std.specs.FinMap as map
 use Rattle.std.specs.FinMap.{FinMap}
 use Rattle.slab.specs.Slab.{entries_from}
 use Rattle.addr4.specs.Prefixes.{AddressPrefix, prefix_cmp}
-use Rattle.addr4.specs.declared.place.Place.{Place}
+use Rattle.addr4.specs.Places.{Place}
 use Rattle.addr4.specs.declared.place.Place.TheVariants.{Before, At}
 use Rattle.safe_table.specs.Slots.{Slot}
 

@@ -6,7 +6,8 @@ use Rattle.addr4.specs.Prefixes.{AddressPrefix}
 use Rattle.safe_table.specs.declared.slot.Slot.{Slot}
 use Rattle.safe_table.specs.declared.slot.Kept.{Kept}
 use Rattle.safe_table.specs.declared.slot.Kept.TheVariants.{Row, Removed}
-use Rattle.safe_table.specs.declared.table.Table.{Table}
+use Rattle.safe_table.specs.Tables.{Rows}
+use Rattle.addr4.specs.declared.family.Family.{Ghosts}
 use Rattle.safe_table.specs.contracts.slot.Slot as slot
 use Rattle.safe_table.specs.contracts.slot.Kept as kept
 use Rattle.safe_table.specs.contracts.table.Table as table
@@ -24,5 +25,5 @@ abbrev pub lends_slot : (V : RattleType) → MutBor (Slot V.Denot) → MutBor V.
 lends_slot V s r = Lends (slot.the_row V) V s r (λ v. record s.now { value = Some v })
 
 -- once the borrow r ends, the last value written through r stands at the prefix, and at `None` the table stays as it is
-abbrev pub lends_get : (V : RattleType) → MutBor (Table V.Denot) → AddressPrefix → Option (MutBor V.Denot) → Fml
-lends_get V s p r = LendsIf (table.the_row V) V s r (λ v. record s.now { rows = map.insert s.now.rows p v }) s.now
+abbrev pub lends_get : (V F : RattleType) → Ghosts F.Denot → MutBor (Rows V.Denot) → AddressPrefix → Option (MutBor V.Denot) → Fml
+lends_get V F g s p r = LendsIf (table.the_row V F g) V s r (λ v. record s.now { rows = map.insert s.now.rows p v }) s.now

@@ -7,9 +7,9 @@ use Rattle.std.specs.FinMap.{FinMap}
 use Rattle.slab.specs.Slab.{Slab}
 use Rattle.addr4.specs.Places.{key_of, IsNextRow}
 use Rattle.addr4.specs.Prefixes.{AddressPrefix, prefix_cmp, address_prefix_code}
-use Rattle.addr4.specs.declared.place.Place.{Place}
+use Rattle.addr4.specs.Places.{Place}
 use Rattle.addr4.specs.declared.place.Place.TheVariants.{Before, At}
-use Rattle.nibble_trie.specs.declared.node.Node.{Node}
+use Rattle.nibble_trie.specs.Leaves.{Node}
 use Rattle.nibble_trie.specs.Nodes.{HasNode}
 
 -- its rows, and where its live iterators stand

@@ -4,7 +4,7 @@ ghost use Rattle.std.specs.Prelude.{◌≡◌, Some, true};
 ghost use Rattle.slab.specs.Slab.{get};
 ghost use Rattle.safe_table.specs.Fields.{stands_at, standing};
 
-use addr4::{Place, Prefix};
+use addr4::{Family, Place, Prefix};
 use slab::Slab;
 use std::marker::Model;
 
@@ -27,7 +27,7 @@ impl Model for Iter {
 }
 
 // Whether a place is at a prefix.
-fn is_at(place: Place, prefix: Prefix) -> bool
+fn is_at<F: Family>(place: Place<Prefix<F>>, prefix: Prefix<F>) -> bool
     ensures { result ≡ stands_at prefix (Some place) }
 {
     let other = match place {
@@ -37,14 +37,14 @@ fn is_at(place: Place, prefix: Prefix) -> bool
     if other.length() != prefix.length() {
         return false;
     }
-    if other.address().number() != prefix.address().number() {
+    if other.address() != prefix.address() {
         return false;
     }
     true
 }
 
 // Whether the iterator of a number stands at a prefix.
-fn stands(places: &Slab<Place>, id: usize, prefix: Prefix) -> bool
+fn stands<F: Family>(places: &Slab<Place<Prefix<F>>>, id: usize, prefix: Prefix<F>) -> bool
     ensures { result ≡ stands_at prefix (get places.now id) }
 {
     match places.get(id) {
@@ -55,7 +55,7 @@ fn stands(places: &Slab<Place>, id: usize, prefix: Prefix) -> bool
 
 // Whether it is clear at a glance that no iterator stands at a prefix. Where there may be more than four, only if there is
 // none at all.
-pub(crate) fn nobody_at(places: &Slab<Place>, prefix: Prefix) -> bool
+pub(crate) fn nobody_at<F: Family>(places: &Slab<Place<Prefix<F>>>, prefix: Prefix<F>) -> bool
     ensures { result ≡ true → standing prefix places.now.slots ≡ 0 }
 {
     if places.is_empty() {

@@ -8,11 +8,11 @@ ghost use Rattle.safe_table.specs.Fields.{live_rows, live_value, readers_of, Lea
 ghost use Rattle.safe_table.specs.Slots.{Slot};
 
 use crate::slot::Slot;
-use addr4::{Memory, Place, Prefix};
+use addr4::{Family, Memory, Place, Prefix};
 use nibble_trie::Trie;
 
 // One more iterator stands at a prefix, whose leaf may lie at a key.
-pub(crate) fn enter<V>(trie: &mut Trie<Slot<V>>, near: usize, prefix: Prefix)
+pub(crate) fn enter<V, F: Family>(trie: &mut Trie<Slot<V>, F>, near: usize, prefix: Prefix<F>)
     requires has { HasKey trie.old.rows prefix }
     requires fits { (s : Slot V) → map.get trie.old.rows prefix ≡ Some s → s.readers + 1 < 2 ^ 32 }
     ensures { (s : Slot V) → map.get trie.old.rows prefix ≡ Some s → trie.new.rows ≡ map.insert trie.old.rows prefix (record s { readers = s.readers + 1 }) }
@@ -22,7 +22,7 @@ pub(crate) fn enter<V>(trie: &mut Trie<Slot<V>>, near: usize, prefix: Prefix)
 }
 
 // One iterator less stands at a prefix, whose leaf may lie at a key. The last one takes what was removed along.
-pub(crate) fn leave<V: Drop>(trie: &mut Trie<Slot<V>>, near: usize, prefix: Prefix)
+pub(crate) fn leave<V: Drop, F: Family>(trie: &mut Trie<Slot<V>, F>, near: usize, prefix: Prefix<F>)
     requires has { HasKey trie.old.rows prefix }
     requires stands { (s : Slot V) → map.get trie.old.rows prefix ≡ Some s → 0 < s.readers }
     ensures { (s : Slot V) → map.get trie.old.rows prefix ≡ Some s → Leaves trie.old.rows trie.new.rows prefix s }
@@ -34,7 +34,11 @@ pub(crate) fn leave<V: Drop>(trie: &mut Trie<Slot<V>>, near: usize, prefix: Pref
     }
 }
 
-pub(crate) fn leave_place<V: Drop>(trie: &mut Trie<Slot<V>>, near: usize, place: Place)
+pub(crate) fn leave_place<V: Drop, F: Family>(
+    trie: &mut Trie<Slot<V>, F>,
+    near: usize,
+    place: Place<Prefix<F>>,
+)
     requires { MatchPlace place (Unit {0}) (λ p. HasKey trie.old.rows p × ((s : Slot V) → map.get trie.old.rows p ≡ Some s → 0 < s.readers)) }
     ensures { MatchPlace place (trie.new.rows ≡ trie.old.rows) (λ p. (s : Slot V) → map.get trie.old.rows p ≡ Some s → Leaves trie.old.rows trie.new.rows p s) }
 {
@@ -45,11 +49,11 @@ pub(crate) fn leave_place<V: Drop>(trie: &mut Trie<Slot<V>>, near: usize, place:
 }
 
 // The first prefix beyond a place that has a row, and the key of its leaf. The leaf of the place may lie at a key.
-pub(crate) fn first_live<V>(
-    trie: &Trie<Slot<V>>,
+pub(crate) fn first_live<V, F: Family>(
+    trie: &Trie<Slot<V>, F>,
     near: usize,
-    after: Place,
-) -> Option<(Prefix, usize)>
+    after: Place<Prefix<F>>,
+) -> Option<(Prefix<F>, usize)>
     ensures { IsNextRow (map.get (live_rows trie.now.rows)) (key_of after) (option_map (λ row. row.0) result) }
 {
     let mut row = match next_slot(trie, near, after) {
@@ -67,7 +71,11 @@ pub(crate) fn first_live<V>(
 }
 
 // The first prefix beyond a place where something stands, whether it has a row, and the key of its leaf.
-fn next_slot<V>(trie: &Trie<Slot<V>>, near: usize, after: Place) -> Option<(Prefix, bool, usize)>
+fn next_slot<V, F: Family>(
+    trie: &Trie<Slot<V>, F>,
+    near: usize,
+    after: Place<Prefix<F>>,
+) -> Option<(Prefix<F>, bool, usize)>
     ensures prefix { IsNextRow (map.get trie.now.rows) (key_of after) (option_map (λ row. row.0) result) }
     ensures live { IfSome result (λ row. IsTrue row.1 ↔ HasKey (live_rows trie.now.rows) row.0) }
 {
@@ -78,7 +86,7 @@ fn next_slot<V>(trie: &Trie<Slot<V>>, near: usize, after: Place) -> Option<(Pref
 }
 
 // Whether there is a row at a prefix.
-pub(crate) fn has_row<V>(trie: &Trie<Slot<V>>, prefix: Prefix) -> bool
+pub(crate) fn has_row<V, F: Family>(trie: &Trie<Slot<V>, F>, prefix: Prefix<F>) -> bool
     ensures { result ≡ is_some (live_value (map.get trie.now.rows prefix)) }
 {
     match trie.get(prefix) {
@@ -88,7 +96,7 @@ pub(crate) fn has_row<V>(trie: &Trie<Slot<V>>, prefix: Prefix) -> bool
 }
 
 // The key of the leaf at a prefix, if that has a row.
-pub(crate) fn row_leaf<V>(trie: &Trie<Slot<V>>, prefix: Prefix) -> Option<usize>
+pub(crate) fn row_leaf<V, F: Family>(trie: &Trie<Slot<V>, F>, prefix: Prefix<F>) -> Option<usize>
     ensures { is_some result ≡ is_some (live_value (map.get trie.now.rows prefix)) }
 {
     match trie.find(prefix) {
@@ -104,7 +112,7 @@ pub(crate) fn row_leaf<V>(trie: &Trie<Slot<V>>, prefix: Prefix) -> Option<usize>
 }
 
 // Whether one row more can be counted, if the prefix has none yet.
-pub(crate) fn fits<V>(trie: &Trie<Slot<V>>, count: usize, prefix: Prefix) -> bool
+pub(crate) fn fits<V, F: Family>(trie: &Trie<Slot<V>, F>, count: usize, prefix: Prefix<F>) -> bool
     ensures fits { result ≡ true → live_value (map.get trie.now.rows prefix) ≡ None → count + 1 < 2 ^ 64 }
     ensures none { result ≡ false → live_value (map.get trie.now.rows prefix) ≡ None }
 {
@@ -115,7 +123,11 @@ pub(crate) fn fits<V>(trie: &Trie<Slot<V>>, count: usize, prefix: Prefix) -> boo
 }
 
 // A row was put in the place of a slot: that slot's iterators stay, and its row is answered.
-fn keep_readers<V: Drop>(trie: &mut Trie<Slot<V>>, prefix: Prefix, before: Slot<V>) -> Option<V>
+fn keep_readers<V: Drop, F: Family>(
+    trie: &mut Trie<Slot<V>, F>,
+    prefix: Prefix<F>,
+    before: Slot<V>,
+) -> Option<V>
     requires { HasKey trie.old.rows prefix }
     ensures before { result ≡ before.value }
     ensures stays { (s : Slot V) → map.get trie.old.rows prefix ≡ Some s → s.readers ≡ 0 → trie.new.rows ≡ map.insert trie.old.rows prefix (record s { readers = before.readers }) }
@@ -129,9 +141,9 @@ fn keep_readers<V: Drop>(trie: &mut Trie<Slot<V>>, prefix: Prefix, before: Slot<
 }
 
 // Puts a slot without iterators where one stands, whose iterators stay: that takes no memory.
-fn put_in_place<V: Drop>(
-    trie: &mut Trie<Slot<V>>,
-    prefix: Prefix,
+fn put_in_place<V: Drop, F: Family>(
+    trie: &mut Trie<Slot<V>, F>,
+    prefix: Prefix<F>,
     slot: Slot<V>,
 ) -> Result<Option<V>, Memory>
     ensures ok { OnOk result (trie.new.rows ≡ map.insert trie.old.rows prefix (record slot { readers = readers_of (map.get trie.old.rows prefix) })) }
@@ -146,9 +158,9 @@ fn put_in_place<V: Drop>(
 }
 
 // Puts a row at a prefix, where iterators stay.
-pub(crate) fn put<V: Drop>(
-    trie: &mut Trie<Slot<V>>,
-    prefix: Prefix,
+pub(crate) fn put<V: Drop, F: Family>(
+    trie: &mut Trie<Slot<V>, F>,
+    prefix: Prefix<F>,
     value: V,
 ) -> Result<Option<V>, Memory>
     ensures ok { OnOk result (trie.new.rows ≡ map.insert trie.old.rows prefix (record { value = Some value; readers = readers_of (map.get trie.old.rows prefix) })) }
@@ -164,7 +176,7 @@ pub(crate) fn put<V: Drop>(
 }
 
 // Takes the slot at a prefix, at which no iterator stands.
-fn take_slot<V>(trie: &mut Trie<Slot<V>>, prefix: Prefix) -> Option<V>
+fn take_slot<V, F: Family>(trie: &mut Trie<Slot<V>, F>, prefix: Prefix<F>) -> Option<V>
     ensures before { result ≡ live_value (map.get trie.old.rows prefix) }
     ensures rows { trie.new.rows ≡ map.remove trie.old.rows prefix }
 {
@@ -175,7 +187,11 @@ fn take_slot<V>(trie: &mut Trie<Slot<V>>, prefix: Prefix) -> Option<V>
 }
 
 // Takes the row at a prefix, where iterators stay. Where it is known that none stands there, one descent is enough.
-pub(crate) fn take<V: Drop>(trie: &mut Trie<Slot<V>>, prefix: Prefix, alone: bool) -> Option<V>
+pub(crate) fn take<V: Drop, F: Family>(
+    trie: &mut Trie<Slot<V>, F>,
+    prefix: Prefix<F>,
+    alone: bool,
+) -> Option<V>
     requires { alone ≡ true → (s : Slot V) → map.get trie.old.rows prefix ≡ Some s → s.readers ≡ 0 }
     ensures before { result ≡ live_value (map.get trie.old.rows prefix) }
     ensures absent { map.get trie.old.rows prefix ≡ None → trie.new.rows ≡ trie.old.rows }

@@ -13,7 +13,7 @@ ghost use Rattle.safe_table.specs.Tables.{Moves, HasPlaces};
 use crate::iter::{self, Iter};
 use crate::slot::Slot;
 use crate::slots;
-use addr4::{Memory, Place, Prefix};
+use addr4::{Family, Memory, Place, Prefix, V4};
 use nibble_trie::{Node, Trie};
 use slab::Slab;
 use std::alloc::Global;
@@ -23,16 +23,16 @@ use std::marker::Model;
 ///
 /// Contracts see two finite maps: the rows, and the places of the live iterators by their numbers.
 #[derive(Drop)]
-pub struct Table<V> {
+pub struct Table<V, F: Family = V4> {
     // At each prefix that has a row or an iterator, a slot.
-    trie: Trie<Slot<V>>,
+    trie: Trie<Slot<V>, F>,
     // Where each live iterator stands.
-    places: Slab<Place>,
+    places: Slab<Place<Prefix<F>>>,
     // How many rows there are.
     count: usize,
 }
 
-impl<V> Model for Table<V> {
+impl<V, F: Family> Model for Table<V, F> {
     ghost use Rattle.safe_table.specs.Fields.{live_rows, iterators_of, IsSound};
     ghost use Rattle.safe_table.specs.Tables.{Rows, rows_code};
 
@@ -64,7 +64,7 @@ fn without_row(known: bool, count: usize) -> usize
     if known { count - 1 } else { count }
 }
 
-impl<V: Drop> Table<V> {
+impl<V: Drop, F: Family> Table<V, F> {
     ghost use Rattle.safe_table.specs.Lent.{lends_get};
 
     /// An empty table without iterators. Takes no memory.
@@ -94,7 +94,7 @@ impl<V: Drop> Table<V> {
     }
 
     /// The row at a prefix.
-    pub fn get(&self, prefix: Prefix) -> Option<&V>
+    pub fn get(&self, prefix: Prefix<F>) -> Option<&V>
         ensures { option_copied result ≡ map.get self.now.rows prefix }
     {
         match self.trie.get(prefix) {
@@ -104,8 +104,8 @@ impl<V: Drop> Table<V> {
     }
 
     /// Lends the row at a prefix, to be changed in place.
-    pub fn get_mut(&mut self, prefix: Prefix) -> Option<&mut V>
-        ensures* writes_back { sem 𝓛 (lends_get V.row self.entry prefix result) }
+    pub fn get_mut(&mut self, prefix: Prefix<F>) -> Option<&mut V>
+        ensures* writes_back { sem 𝓛 (lends_get V.row F.row F.Family self.entry prefix result) }
         ensures value { option_copied_mut result ≡ map.get self.old.rows prefix }
     {
         let leaf = match slots::row_leaf(&self.trie, prefix) {
@@ -116,7 +116,7 @@ impl<V: Drop> Table<V> {
     }
 
     /// The first prefix beyond a place that has a row, by address and then length.
-    pub fn next_after(&self, after: Place) -> Option<Prefix>
+    pub fn next_after(&self, after: Place<Prefix<F>>) -> Option<Prefix<F>>
         ensures { IsNextRow (map.get self.now.rows) (key_of after) result }
     {
         match slots::first_live(&self.trie, 0, after) {
@@ -126,7 +126,7 @@ impl<V: Drop> Table<V> {
     }
 
     /// The leaves of the trie: one for each row, and one for each prefix at which an iterator stands.
-    pub fn nodes(&self) -> &Slab<Node<Slot<V>>>
+    pub fn nodes(&self) -> &Slab<Node<Slot<V>, Prefix<F>>>
         ensures rows { HasNodes result.now self.now.rows }
         ensures places { HasPlaces result.now self.now.iterators }
     {
@@ -135,7 +135,7 @@ impl<V: Drop> Table<V> {
 
     /// Puts a row at a prefix, and answers the one before. Succeeds where there is a row; for want of memory the
     /// table stays.
-    pub fn insert(&mut self, prefix: Prefix, row: V) -> Result<Option<V>, Memory>
+    pub fn insert(&mut self, prefix: Prefix<F>, row: V) -> Result<Option<V>, Memory>
         ensures before { IfOk result (λ before. before ≡ map.get self.old.rows prefix) }
         ensures ok { OnOk result (self.new.rows ≡ map.insert self.old.rows prefix row) }
         ensures err { OnErr result (self.new.rows ≡ self.old.rows) }
@@ -151,7 +151,7 @@ impl<V: Drop> Table<V> {
     }
 
     /// Takes out the row at a prefix. Iterators that stand there keep their place.
-    pub fn remove(&mut self, prefix: Prefix) -> Option<V>
+    pub fn remove(&mut self, prefix: Prefix<F>) -> Option<V>
         ensures before { result ≡ map.get self.old.rows prefix }
         ensures rows { self.new.rows ≡ map.remove self.old.rows prefix }
         ensures iterators { self.new.iterators ≡ self.old.iterators }
@@ -163,7 +163,7 @@ impl<V: Drop> Table<V> {
     }
 
     /// Takes out the first row, by address and then length.
-    pub fn pop_first(&mut self) -> Option<(Prefix, V)>
+    pub fn pop_first(&mut self) -> Option<(Prefix<F>, V)>
         ensures first { IsNextRow (map.get self.old.rows) None (option_map (λ row. row.0) result) }
         ensures row { IfSome result (λ row. map.get self.old.rows row.0 ≡ Some row.1) }
         ensures rows { MatchOption result (self.new.rows ≡ self.old.rows) (λ row. self.new.rows ≡ map.remove self.old.rows row.0) }
@@ -197,7 +197,7 @@ impl<V: Drop> Table<V> {
 
     /// The first row beyond the place of the iterator that is there now, which it takes for its place. At none the
     /// iterator stays, and may find one later.
-    pub fn iter_next(&mut self, it: &mut Iter) -> Option<Prefix>
+    pub fn iter_next(&mut self, it: &mut Iter) -> Option<Prefix<F>>
         requires { IsSome (map.get self.old.iterators it.old) }
         ensures rows { self.new.rows ≡ self.old.rows }
         ensures same { it.new ≡ it.old }

@@ -5,7 +5,7 @@ use Rattle.addr4.proofs.PrefixOrder.{by_prefix}
 use Rattle.addr4.proofs.RankLemmas.{one_first}
 use Rattle.link_change.specs.Rows.{Rows, Candidates, IsNextCandidate, no_rows, with_row, computed_rows}
 use Rattle.link_change.specs.Changes.{IsSent}
-use Rattle.link_change.specs.declared.change.Change.{Change}
+use Rattle.link_change.specs.Changes.{Change}
 use Rattle.link_change.proofs.RowLemmas.{with_row_here}
 use Rattle.link_change.proofs.InOrderLemmas.{with_row_elsewhere}
 use Rattle.pass_core.specs.Passed.{Passed, Walked}

@@ -3,7 +3,7 @@ use Rattle.std.specs.Prelude.{◌≡◌, ◌≢◌, Option}
 use Rattle.addr4.specs.Prefixes.{AddressPrefix}
 use Rattle.link_change.specs.Rows.{Rows, Candidates, IsNextCandidate}
 use Rattle.link_change.specs.Changes.{IsSent, IsChangeOf, ComputesOn}
-use Rattle.link_change.specs.declared.change.Change.{Change}
+use Rattle.link_change.specs.Changes.{Change}
 use Rattle.pass_core.specs.Passed.{Passed}
 use Rattle.pass_core.specs.Turns.{IsPassedOn, Walks}
 

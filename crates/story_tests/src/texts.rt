@@ -1,6 +1,6 @@
 //! Messages in words.
 
-use addr4::{Addr, Memory, Prefix, push_addr, push_number, push_prefix};
+use addr4::{Memory, Prefix, RouterId, push_addr, push_id, push_number, push_prefix};
 use bgp_attr::{Aggregator, AsPath, Attrs, Origin, Reflection, Segment, SegmentKind, Unrecognized};
 use bgp_wire::{Message, Notice, RouteRefresh, Update};
 
@@ -86,16 +86,16 @@ fn push_aggregator(out: &mut Vec<u8>, aggregator: Option<Aggregator>) -> Result<
     if let Some(aggregator) = aggregator {
         push_option(out, ",g", Some(aggregator.asn))?;
         push_text(out, "/")?;
-        push_addr(out, aggregator.addr)?;
+        push_id(out, aggregator.addr)?;
         push_text(out, if aggregator.partial { "!" } else { "" })?;
     }
     Ok(())
 }
 
-fn push_clusters(out: &mut Vec<u8>, clusters: &[Addr]) -> Result<(), Memory> {
+fn push_clusters(out: &mut Vec<u8>, clusters: &[RouterId]) -> Result<(), Memory> {
     for (i, cluster) in clusters.iter().enumerate() {
         push_text(out, if i > 0 { "/" } else { ",c" })?;
-        push_addr(out, *cluster)?;
+        push_id(out, *cluster)?;
     }
     Ok(())
 }
@@ -104,7 +104,7 @@ fn push_clusters(out: &mut Vec<u8>, clusters: &[Addr]) -> Result<(), Memory> {
 fn push_reflection(out: &mut Vec<u8>, reflection: &Reflection) -> Result<(), Memory> {
     if let Some(originator) = reflection.originator() {
         push_text(out, ",r")?;
-        push_addr(out, originator)?;
+        push_id(out, originator)?;
     }
     push_clusters(out, reflection.clusters())
 }

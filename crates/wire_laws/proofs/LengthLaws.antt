@@ -1,5 +1,5 @@
 -- What is written of what a peer said isn't longer than what it said.
-use Rattle.std.proofs.Common.{◌≡◌, ℕ, zero, suc, ◌+◌, ◌*◌, ◌/◌, ◌%◌, ◌≤◌, ◌<◌, Bool, true, false, cond, eqb, ltb, not, ◌||◌, map, get_or, List, [], ◌∷◌, ◌++◌, length, drop, Option, Some, None, refl, sym, ap, subst, ◌∙◌, inl, inr, arith}
+use Rattle.std.proofs.Common.{◌≡◌, ℕ, zero, suc, ◌+◌, ◌*◌, ◌/◌, ◌%◌, ◌≤◌, ◌<◌, Bool, true, false, cond, eqb, ltb, not, ◌||◌, map, get_or, List, [], ◌∷◌, ◌++◌, length, drop, Option, Some, None, refl, sym, ap, subst, ◌∙◌, ◌^◌, inl, inr, arith}
 use Rattle.std.specs.Prelude.{filter, is_some}
 use Rattle.std.specs.List.{flat_map}
 use Rattle.std.specs.Option.{option_map_or}
@@ -7,8 +7,9 @@ use Rattle.std.proofs.lemmas.Bool.{le-ltb, eqb-true}
 use Rattle.std.proofs.lemmas.List.{length-append}
 use Rattle.byteorder.specs.Endian.{big_number, big_bytes}
 use Rattle.byteorder.specs.Numbers.{length-bytes_high_first}
+use Rattle.addr4.specs.Families.{in_front}
 use Rattle.bgp_attr.specs.declared.attrs.Aggregator.{Aggregator}
-use Rattle.bgp_attr.specs.declared.attrs.Attrs.{Attrs}
+use Rattle.bgp_attr.specs.Attributes.{Attrs}
 use Rattle.bgp_attr.specs.declared.path.Segment.{Segment}
 use Rattle.bgp_attr.specs.declared.speaker.Profile.{Profile}
 use Rattle.bgp_attr.specs.declared.unrecognized.Unrecognized.{Unrecognized}
@@ -223,8 +224,10 @@ sent_no_longer p external bytes steps runs attrs are octets is readable =
         let a = some_in (kept_of 2 (kept_by steps runs).0) (λ a. IsPath (width_of p.as4) a.value attrs.path) is.path in
         by_value (kept_by steps runs).0 64 2 (path_octets (width_of p.as4) attrs.path) a.0 a.1 (length-path p.as4 a.0.value attrs.path a.2)
 
-    next_hop : IsNoLonger (kept_by steps runs).0 (spelled 64 3 (big_bytes 4 attrs.next_hop))
-    next_hop = four 3 64 attrs.next_hop false true refl is.next_hop
+    next_hop : IsNoLonger (kept_by steps runs).0 (spelled 64 3 (big_bytes 4 (attrs.next_hop / 2 ^ 96)))
+    next_hop =
+        let a = found_from (λ (a : Attribute). in_front (big_number 4 a.value)) (kept_of 3 (kept_by steps runs).0) attrs.next_hop is.next_hop in
+        by_value (kept_by steps runs).0 64 3 (big_bytes 4 (attrs.next_hop / 2 ^ 96)) a.0 a.1 (sized 3 4 false true refl a.0 a.1)
 
     local_pref : (b : Bool) (o : Option ℕ) (n : ℕ) → cond b None o ≡ Some n → o ≡ Some n
     local_pref true o n e = absurd (cc)

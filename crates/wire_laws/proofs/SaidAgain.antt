@@ -1,10 +1,10 @@
 -- What a peer said in an UPDATE of one prefix is said again in the one spelling, and is read as it was.
-use Rattle.std.proofs.Common.{◌≡◌, ℕ, ◌+◌, ◌≤◌, ◌<◌, Bool, true, false, not, ◌&&◌, List, [], ◌∷◌, length, Option, Some, None, refl, sym, ap, subst, arith}
+use Rattle.std.proofs.Common.{◌≡◌, ℕ, ◌+◌, ◌≤◌, ◌<◌, Bool, true, false, not, ◌&&◌, List, [], ◌∷◌, ◌/◌, ◌^◌, length, Option, Some, None, refl, sym, ap, subst, arith}
 use Rattle.std.specs.Prelude.{All}
 use Rattle.std.proofs.lemmas.List.{length-append, length-take}
 use Rattle.byteorder.specs.Endian.{big_bytes}
 use Rattle.addr4.specs.Prefixes.{AddressPrefix}
-use Rattle.bgp_attr.specs.declared.attrs.Attrs.{Attrs}
+use Rattle.bgp_attr.specs.Attributes.{Attrs}
 use Rattle.bgp_attr.specs.declared.speaker.Profile.{Profile}
 use Rattle.bgp_wire.specs.declared.message.Update.{Update}
 use Rattle.bgp_wire.specs.declared.message.Message.TheVariants as messages
@@ -13,7 +13,8 @@ use Rattle.bgp_wire.specs.Routes.{AreAttrs}
 use Rattle.bgp_wire.specs.Updates.{Reading}
 use Rattle.bgp_wire.specs.Grammar.{IsReading, AreAttrsFor, IsUpdateBy, Reads}
 use Rattle.bgp_wire.specs.Spelling.{update_octets}
-use Rattle.bgp_wire.specs.Readable.{IsAddressPrefix, IsReadable, IsReadableUpdate, AreOctets, HasOnePrefix, announcement}
+use Rattle.addr4.specs.Families.{IsIpv4Prefix}
+use Rattle.bgp_wire.specs.Readable.{IsReadable, IsReadableUpdate, AreOctets, HasOnePrefix, announcement}
 use Rattle.bgp_wire.specs.Lengths.{attributes_length, announcement_length}
 use Rattle.bgp_wire.proofs.SpelledLengths.{length-announcement}
 use Rattle.wire_laws.proofs.SpelledMessages.{withdrawal_is_read, announcement_is_read}
@@ -23,12 +24,12 @@ use Rattle.bgp_wire.proofs.ReadableMessages.{field_octets, read_is_readable}
 
 -- an announcement's octets, by the attributes'
 pub announced_length : (as4 : Bool) (n : AddressPrefix) (a : Attrs) → n.length ≤ 32 → announcement_length as4 n a ≡ 24 + attributes_length as4 a + octets_for n.length
-announced_length as4 n a short = omega (arith, length-announcement as4 n a, length-take (octets_for n.length) (big_bytes 4 n.address))
+announced_length as4 n a short = omega (arith, length-announcement as4 n a, length-take (octets_for n.length) (big_bytes 4 (n.address / 2 ^ 96)))
 
 one_announced : (bytes : List ℕ) (n : AddressPrefix) → ArePrefixes bytes (n ∷ []) → (length bytes ≡ 1 + octets_for n.length) × (n.length ≤ 32)
 one_announced bytes n are = (omega (arith, ap length are.2, length-append are.0 are.1, ap length are.3.spelled, are.3.fewest, ap length are.4), are.3.short)
 
-announced_again : (p : Profile) (external : Bool) (bytes : List ℕ) (r : Reading) (is : IsReading p external bytes r) → Octets bytes → (n : AddressPrefix) (a : Attrs) → IsAddressPrefix n → IsReadable p external a → ArePrefixes is.announced (n ∷ []) → AreAttrs p external r.kept a
+announced_again : (p : Profile) (external : Bool) (bytes : List ℕ) (r : Reading) (is : IsReading p external bytes r) → Octets bytes → (n : AddressPrefix) (a : Attrs) → IsIpv4Prefix n → IsReadable p external a → ArePrefixes is.announced (n ∷ []) → AreAttrs p external r.kept a
     → Reads p external (update_octets p.as4 (announcement n a)) (messages.Update (announcement n a))
 announced_again p external bytes r is octets n a network readable prefix are =
     let f = field_octets p external bytes r is octets in
@@ -38,7 +39,7 @@ announced_again p external bytes r is octets n a network readable prefix are =
     (omega (arith, announced_length p.as4 n a one.1, shorter, one.0, f.whole, is.frame.top))
 
 -- by the lists of prefixes
-withdrawn_again : (p : Profile) (external : Bool) (ws ns : List AddressPrefix) (attrs : Option Attrs) → ns ≡ [] → attrs ≡ None → All IsAddressPrefix ws → length ws + length ns ≡ 1
+withdrawn_again : (p : Profile) (external : Bool) (ws ns : List AddressPrefix) (attrs : Option Attrs) → ns ≡ [] → attrs ≡ None → All IsIpv4Prefix ws → length ws + length ns ≡ 1
     → Reads p external (update_octets p.as4 (record { withdrawn = ws; announced = ns; attrs = attrs })) (messages.Update (record { withdrawn = ws; announced = ns; attrs = attrs }))
 withdrawn_again p external [] [] attrs none nothing networks one = absurd (omega arith)
 withdrawn_again p external ws (n ∷ ns) attrs none nothing networks one = absurd (omega (arith, ap length none))

@@ -4,10 +4,12 @@ use Rattle.std.specs.Prelude.{All, filter}
 use Rattle.std.specs.List.{list_any, flat_map}
 use Rattle.std.proofs.lemmas.List.{length-append}
 use Rattle.std.proofs.lemmas.Bool.{ltb-true, eqb-true, eqb-false, eq-eqb}
+use Rattle.std.proofs.lemmas.Nat.{shr-shr}
 use Rattle.byteorder.specs.Endian.{big_bytes}
 use Rattle.byteorder.specs.Numbers.{length-bytes_high_first}
+use Rattle.addr4.proofs.FrontLemmas.{front_below}
 use Rattle.bgp_attr.specs.declared.attrs.Aggregator.{Aggregator}
-use Rattle.bgp_attr.specs.declared.attrs.Attrs.{Attrs}
+use Rattle.bgp_attr.specs.Attributes.{Attrs}
 use Rattle.bgp_attr.specs.declared.attrs.Origin.{Origin}
 use Rattle.bgp_attr.specs.declared.attrs.Origin.TheVariants.{Igp, Egp, Incomplete}
 use Rattle.bgp_attr.specs.declared.path.Segment.{Segment}
@@ -106,14 +108,14 @@ sound_path p external path all fits =
 first_octet : (n : ℕ) → n < 2 ^ 32 → n / 16777216 % 256 ≡ n / 2 ^ 24
 first_octet n lt = omega arith
 
-sound_next_hop : (p : Profile) (external : Bool) (n : ℕ) → IsHost n → IsSound p external (spelled 64 3 (big_bytes 4 n))
+sound_next_hop : (p : Profile) (external : Bool) (n : ℕ) → IsHost n → IsSound p external (spelled 64 3 (big_bytes 4 (n / 2 ^ 96)))
 unfolding rule_of value_fault
 sound_next_hop p external n host = record {
-  is = spelled_is 64 3 (big_bytes 4 n) refl refl (omega arith);
-  kept = good_is_kept p external (spelled 64 3 (big_bytes 4 n)) (record { optional = false; transitive = true; size = fixed 4 }) refl (not_five p.revised external false refl) (record {
+  is = spelled_is 64 3 (big_bytes 4 (n / 2 ^ 96)) refl refl (omega arith);
+  kept = good_is_kept p external (spelled 64 3 (big_bytes 4 (n / 2 ^ 96))) (record { optional = false; transitive = true; size = fixed 4 }) refl (not_five p.revised external false refl) (record {
     flags = refl;
     size = refl;
-    value = ap (λ b. cond b (Some (notice 3 8 (spelled_octets false 64 3 (big_bytes 4 n)))) None) (ap is_no_host (first_octet n host.fits) ∙ host.first);
+    value = ap (λ b. cond b (Some (notice 3 8 (spelled_octets false 64 3 (big_bytes 4 (n / 2 ^ 96))))) None) (ap is_no_host (first_octet (n / 2 ^ 96) (front_below n host.ipv4.0) ∙ shr-shr n 96 24) ∙ host.first);
   });
 }
 

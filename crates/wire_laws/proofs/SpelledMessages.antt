@@ -1,11 +1,11 @@
 -- What is written of an UPDATE is read as it was.
-use Rattle.std.proofs.Common.{◌≡◌, ℕ, zero, suc, ◌+◌, ◌*◌, ◌/◌, ◌%◌, ◌≤◌, ◌<◌, Bool, true, false, cond, eqb, ◌||◌, map, List, [], ◌∷◌, ◌++◌, length, Ok, refl, sym, ap, subst, ◌∙◌, arith}
+use Rattle.std.proofs.Common.{◌≡◌, ℕ, zero, suc, ◌+◌, ◌*◌, ◌/◌, ◌%◌, ◌≤◌, ◌<◌, Bool, true, false, cond, eqb, ◌||◌, map, List, [], ◌∷◌, ◌++◌, length, Ok, refl, sym, ap, subst, ◌∙◌, ◌^◌, arith}
 use Rattle.std.specs.Prelude.{All}
 use Rattle.std.specs.List.{flat_map}
 use Rattle.std.proofs.lemmas.List.{length-append}
 use Rattle.byteorder.specs.Endian.{big_bytes}
 use Rattle.addr4.specs.Prefixes.{AddressPrefix}
-use Rattle.bgp_attr.specs.declared.attrs.Attrs.{Attrs}
+use Rattle.bgp_attr.specs.Attributes.{Attrs}
 use Rattle.bgp_attr.specs.declared.speaker.Profile.{Profile}
 use Rattle.bgp_attr.specs.declared.unrecognized.Unrecognized.{Unrecognized}
 use Rattle.bgp_wire.specs.declared.message.Message.TheVariants as messages
@@ -16,7 +16,8 @@ use Rattle.bgp_wire.specs.Updates.{has_kind, missing, lack}
 use Rattle.bgp_wire.specs.Grammar.{IsFrame, IsReading, Reads}
 use Rattle.bgp_wire.specs.Spelling.{path_octets, spelled, is_long, spelled_octets, optional, unrecognized_attribute, mandatory_attributes, clusters_attributes, sent_attributes, octets_of, prefixes_octets, fields_octets, framed, update_octets}
 use Rattle.bgp_wire.specs.Lengths.{announcement_length}
-use Rattle.bgp_wire.specs.Readable.{IsAddressPrefix, IsReadable, withdrawal, announcement}
+use Rattle.addr4.specs.Families.{IsIpv4Prefix}
+use Rattle.bgp_wire.specs.Readable.{IsReadable, withdrawal, announcement}
 use Rattle.bgp_wire.proofs.SpelledLengths.{length-framed, fields_parts, length-fields, length-octets-append, length-spelled, length-first, length-sent}
 use Rattle.bgp_wire.proofs.SpellingLemmas.{alone}
 use Rattle.wire_laws.proofs.SpelledNumbers.{all_cons, spelled_prefixes}
@@ -40,7 +41,7 @@ fields_frame w a n top = subst (IsFrame (framed 2 (fields_octets w a n)) 2) (fie
 withdrawn_length : (n : AddressPrefix) → length (update_octets false (withdrawal n)) ≤ 4096
 withdrawn_length n = omega (arith, length-fields (prefixes_octets (n ∷ [])) [] [], alone n, length-framed 2 (fields_octets (prefixes_octets (n ∷ [])) [] []))
 
-pub withdrawal_is_read : (p : Profile) (external : Bool) (n : AddressPrefix) → IsAddressPrefix n → Reads p external (update_octets p.as4 (withdrawal n)) (messages.Update (withdrawal n))
+pub withdrawal_is_read : (p : Profile) (external : Bool) (n : AddressPrefix) → IsIpv4Prefix n → Reads p external (update_octets p.as4 (withdrawal n)) (messages.Update (withdrawal n))
 withdrawal_is_read p external n is =
     let w = prefixes_octets (n ∷ []) in
     let size : length w < 65536 = omega (arith, alone n) in
@@ -89,7 +90,7 @@ pub path_within : (as4 : Bool) (a : Attrs) → length (path_octets (width_of as4
 path_within as4 a =
     let o = spelled 64 1 (code_of_origin a.origin ∷ []) in
     let s = spelled 64 2 (path_octets (width_of as4) a.path) in
-    let h = spelled 64 3 (big_bytes 4 a.next_hop) in
+    let h = spelled 64 3 (big_bytes 4 (a.next_hop / 2 ^ 96)) in
     omega (arith, length-append o.octets (octets_of (s ∷ h ∷ [])), length-append s.octets (octets_of (h ∷ [])), value_shorter 64 2 (path_octets (width_of as4) a.path))
 
 fit_lengths : (as4 : Bool) (a : Attrs) → length (octets_of (sent_attributes as4 a)) < 65536 → FitLengths as4 a
@@ -107,7 +108,7 @@ fit_lengths as4 a fits =
 nothing_lacks : (p : Profile) (kept : List Attribute) → has_kind 1 kept ≡ true → has_kind 2 kept ≡ true → has_kind 3 kept ≡ true → lack p (missing kept) ≡ Ok false
 nothing_lacks p kept a b c = rw (a, b, c) refl
 
-pub announcement_is_read : (p : Profile) (external : Bool) (n : AddressPrefix) (a : Attrs) → IsAddressPrefix n → IsReadable p external a → announcement_length p.as4 n a ≤ 4096
+pub announcement_is_read : (p : Profile) (external : Bool) (n : AddressPrefix) (a : Attrs) → IsIpv4Prefix n → IsReadable p external a → announcement_length p.as4 n a ≤ 4096
     → Reads p external (update_octets p.as4 (announcement n a)) (messages.Update (announcement n a))
 unfolding announcement_length
 announcement_is_read p external n a is readable top =

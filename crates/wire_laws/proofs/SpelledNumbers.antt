@@ -5,15 +5,17 @@ use Rattle.std.specs.List.{flat_map}
 use Rattle.std.proofs.lemmas.List.{length-take, drop_at}
 use Rattle.byteorder.specs.Endian.{big_number, big_bytes}
 use Rattle.byteorder.specs.Numbers.{big_number-reads_back, length-bytes_high_first}
-use Rattle.addr4.specs.Blocks.{size_of_length, masked_to}
-use Rattle.addr4.specs.Prefixes.{AddressPrefix, IsMasked}
+use Rattle.addr4.specs.Blocks.{width, size_of_length, masked_to}
+use Rattle.addr4.specs.Prefixes.{AddressPrefix}
+use Rattle.addr4.proofs.FrontLemmas.{front_again, front_below, front_prefix, front_behind}
 use Rattle.addr4.proofs.BlockLemmas.{finer, size_splits, size_pos}
 use Rattle.bgp_attr.specs.declared.path.Segment.{Segment}
 use Rattle.bgp_wire.specs.Prefixes.{octets_for, IsPrefix, ArePrefixes}
 use Rattle.bgp_wire.specs.Paths.{width_of, numbers_at, IsSegment, IsPath}
 use Rattle.bgp_wire.specs.Spelling.{prefix_octets, prefixes_octets, segment_octets, path_octets}
 use Rattle.bgp_wire.proofs.SpelledLengths.{length-numbers}
-use Rattle.bgp_wire.specs.Readable.{IsAddressPrefix, IsReadableSegment}
+use Rattle.addr4.specs.Families.{in_front, IsIpv4Prefix}
+use Rattle.bgp_wire.specs.Readable.{IsReadableSegment}
 
 pub all_first : {A : Type 0} (P : A → Type 0) (x : A) (xs : List A) → All P (x ∷ xs) → P x
 all_first P x xs all = all 0 x (omega arith)
@@ -27,11 +29,11 @@ all_cons P x xs first later (suc k) d lt = later k d (omega arith)
 
 -- ---- prefixes
 
--- the low octets of a masked prefix are zero
-low_zeros : (p : AddressPrefix) (k : ℕ) → IsMasked 32 p → p.length ≤ 8 * k → k ≤ 4 → p.address % size_of_length 32 (8 * k) ≡ 0
-low_zeros p k is le top =
-    finer (2 ^ (8 * k - p.length)) (size_of_length 32 (8 * k)) p.address (size_pos 32 (8 * k))
-    (subst (λ s. p.address % s ≡ 0) (size_splits 32 p.length (8 * k) le (omega arith)) is.1)
+-- the low octets of a masked number are zero
+low_zeros : (n length k : ℕ) → n % size_of_length 32 length ≡ 0 → length ≤ 8 * k → k ≤ 4 → n % size_of_length 32 (8 * k) ≡ 0
+low_zeros n length k is le top =
+    finer (2 ^ (8 * k - length)) (size_of_length 32 (8 * k)) n (size_pos 32 (8 * k))
+    (subst (λ s. n % s ≡ 0) (size_splits 32 length (8 * k) le (omega arith)) is)
 
 back_0 : (n : ℕ) → n < 2 ^ 32 → n % 2 ^ 32 ≡ 0 → big_number 4 [] ≡ n
 back_0 n fits e = omega arith
@@ -57,22 +59,25 @@ back n (suc (suc (suc zero))) fits le e = back_3 n fits e
 back n (suc (suc (suc (suc zero)))) fits le e = back_4 n fits
 back n (suc (suc (suc (suc (suc k))))) fits le e = absurd (omega arith)
 
-pub spelled_prefix : (p : AddressPrefix) → IsAddressPrefix p → IsPrefix (prefix_octets p) p
+pub spelled_prefix : (p : AddressPrefix) → IsIpv4Prefix p → IsPrefix (prefix_octets p) p
 spelled_prefix p is =
     let k = octets_for p.length in
-    let top : k ≤ 4 = omega (arith, is.masked.0) in
+    let n = p.address / 2 ^ 96 in
+    let top : k ≤ 4 = omega (arith, is.short) in
     let le : p.length ≤ 8 * k = omega arith in
-    let whole : big_number 4 (take k (big_bytes 4 p.address)) ≡ p.address = back p.address k is.fits top (low_zeros p k is.masked le top) in
-    let value : p.address ≡ masked_to 32 p.address p.length = omega (arith, is.masked.1) in
+    let front : in_front n ≡ p.address = front_again p.address (front_prefix p is).1 in
+    let zeros : n % size_of_length 32 p.length ≡ 0 = front_behind n p.length is.short (ap (λ a. a % size_of_length width p.length) front ∙ is.masked.1) in
+    let whole : big_number 4 (take k (big_bytes 4 n)) ≡ n = back n k (front_below p.address is.fits) top (low_zeros n p.length k zeros le top) in
+    let value : p.address ≡ masked_to width p.address p.length = omega (arith, is.masked.1) in
     record {
-      bits = take k (big_bytes 4 p.address);
+      bits = take k (big_bytes 4 n);
       spelled = refl;
-      short = is.masked.0;
-      fewest = omega (arith, length-take k (big_bytes 4 p.address));
-      value = λ i. record { address = (value ∙ ap (λ n. masked_to 32 n p.length) (sym whole)) i; length = p.length };
+      short = is.short;
+      fewest = omega (arith, length-take k (big_bytes 4 n));
+      value = λ i. record { address = (value ∙ ap (λ a. masked_to width a p.length) (sym (ap in_front whole ∙ front))) i; length = p.length };
     }
 
-pub spelled_prefixes : (p : AddressPrefix) → IsAddressPrefix p → ArePrefixes (prefixes_octets (p ∷ [])) (p ∷ [])
+pub spelled_prefixes : (p : AddressPrefix) → IsIpv4Prefix p → ArePrefixes (prefixes_octets (p ∷ [])) (p ∷ [])
 spelled_prefixes p is = (prefix_octets p, [], refl, spelled_prefix p is, refl)
 
 -- ---- paths

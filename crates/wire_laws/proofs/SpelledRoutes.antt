@@ -7,8 +7,10 @@ use Rattle.std.proofs.lemmas.Bool.{eqb-true}
 use Rattle.std.proofs.lemmas.List.{drop_at}
 use Rattle.byteorder.specs.Endian.{big_number, big_bytes}
 use Rattle.byteorder.specs.Numbers.{big_number-reads_back, length-bytes_high_first}
+use Rattle.addr4.specs.Families.{in_front}
+use Rattle.addr4.proofs.FrontLemmas.{front_below, front_again}
 use Rattle.bgp_attr.specs.declared.attrs.Aggregator.{Aggregator}
-use Rattle.bgp_attr.specs.declared.attrs.Attrs.{Attrs}
+use Rattle.bgp_attr.specs.Attributes.{Attrs}
 use Rattle.bgp_attr.specs.declared.speaker.Profile.{Profile}
 use Rattle.bgp_attr.specs.declared.unrecognized.Unrecognized.{Unrecognized}
 use Rattle.bgp_attr.specs.Reflections.{Reflected}
@@ -364,7 +366,7 @@ attrs_are p external a is =
     let sent = sent_attributes p.as4 a in
     let at_1 : kept_of 1 sent ≡ Some (spelled 64 1 (code_of_origin a.origin ∷ [])) = recognized_at p 1 a is.types refl refl refl in
     let at_2 : kept_of 2 sent ≡ Some (spelled 64 2 (path_octets (width_of p.as4) a.path)) = recognized_at p 2 a is.types refl refl refl in
-    let at_3 : kept_of 3 sent ≡ Some (spelled 64 3 (big_bytes 4 a.next_hop)) = recognized_at p 3 a is.types refl refl refl in
+    let at_3 : kept_of 3 sent ≡ Some (spelled 64 3 (big_bytes 4 (a.next_hop / 2 ^ 96))) = recognized_at p 3 a is.types refl refl refl in
     let at_4 : kept_of 4 sent ≡ option_map med_of a.med = recognized_at p 4 a is.types refl refl refl ∙ further_4 p.as4 a in
     let at_5 : kept_of 5 sent ≡ option_map local_pref_of a.local_pref = recognized_at p 5 a is.types refl refl refl ∙ further_5 p.as4 a in
     let at_6 : is_some (kept_of 6 sent) ≡ a.atomic = ap is_some (recognized_at p 6 a is.types refl refl refl) ∙ further_6 p.as4 a in
@@ -372,7 +374,9 @@ attrs_are p external a is =
     record {
       origin = ap (option_map (λ (a : Attribute). get_or a.value 0 0)) at_1;
       path = some_and (kept_of 2 sent) (spelled 64 2 (path_octets (width_of p.as4) a.path)) (λ x. IsPath (width_of p.as4) x.value a.path) at_2 (spelled_path p.as4 a.path is.path);
-      next_hop = ap (option_map (λ (a : Attribute). big_number 4 a.value)) at_3 ∙ ap (λ n. Some n) (four_back a.next_hop is.next_hop.fits);
+      next_hop =
+          let ipv4 = is.next_hop.ipv4 in
+          ap (option_map (λ (a : Attribute). in_front (big_number 4 a.value))) at_3 ∙ ap (λ n. Some n) (ap in_front (four_back (a.next_hop / 2 ^ 96) (front_below a.next_hop ipv4.0)) ∙ front_again a.next_hop ipv4.1);
       med = number_back a.med med_of (λ n. refl) is.med ∙ ap (option_map (λ (a : Attribute). big_number 4 a.value)) (sym at_4);
       local_pref = local_pref_back external a.local_pref is.local_pref ∙ ap (λ o. cond external None (option_map (λ (a : Attribute). big_number 4 a.value) o)) (sym at_5);
       atomic = sym at_6;

@@ -8,7 +8,7 @@
 
 ghost use Rattle.std.specs.Prelude.{◌≡◌, ◌+◌, ◌<◌, ◌≤◌, ◌^◌, All, Bool, false, List, ℕ};
 ghost use Rattle.addr4.specs.Prefixes.{AddressPrefix};
-ghost use Rattle.bgp_attr.specs.declared.attrs.Attrs.{Attrs};
+ghost use Rattle.bgp_attr.specs.Attributes.{Attrs};
 ghost use Rattle.bgp_attr.specs.declared.speaker.Profile.{Profile};
 ghost use Rattle.bgp_wire.specs.declared.message.Update.{Update};
 ghost use Rattle.bgp_wire.specs.declared.message.Message.TheVariants as messages;
@@ -19,7 +19,8 @@ ghost use Rattle.bgp_wire.specs.Paths.{width_of};
 ghost use Rattle.bgp_wire.specs.Spelling.{FitsAttrs, update_octets};
 ghost use Rattle.bgp_wire.specs.Prefixes.{octets_for};
 ghost use Rattle.bgp_wire.specs.Lengths.{attributes_length, announcement_length};
-ghost use Rattle.bgp_wire.specs.Readable.{IsAddressPrefix, IsReadableSegment, IsReadable, IsReadableUpdate, AreOctets, HasOnePrefix, withdrawal, announcement};
+ghost use Rattle.addr4.specs.Families.{IsIpv4Prefix};
+ghost use Rattle.bgp_wire.specs.Readable.{IsReadableSegment, IsReadable, IsReadableUpdate, AreOctets, HasOnePrefix, withdrawal, announcement};
 
 /// What a peer said in an UPDATE of one prefix, a peer that is as external reads in its one spelling as it was said: the
 /// spelling has at most 4,096 octets too.
@@ -34,12 +35,12 @@ pub fn what_was_read_is_readable()
 
 /// Each withdrawal of one prefix is read as it is written.
 pub fn withdrawals_are_read()
-    ensures { (p : Profile) (external : Bool) (n : AddressPrefix) → IsAddressPrefix n → Reads p external (update_octets p.as4 (withdrawal n)) (messages.Update (withdrawal n)) }
+    ensures { (p : Profile) (external : Bool) (n : AddressPrefix) → IsIpv4Prefix n → Reads p external (update_octets p.as4 (withdrawal n)) (messages.Update (withdrawal n)) }
 {}
 
 /// Each announcement of one prefix that isn't too long is read as it is written.
 pub fn announcements_are_read()
-    ensures { (p : Profile) (external : Bool) (n : AddressPrefix) (a : Attrs) → IsAddressPrefix n → IsReadable p external a → announcement_length p.as4 n a ≤ 4096 → Reads p external (update_octets p.as4 (announcement n a)) (messages.Update (announcement n a)) }
+    ensures { (p : Profile) (external : Bool) (n : AddressPrefix) (a : Attrs) → IsIpv4Prefix n → IsReadable p external a → announcement_length p.as4 n a ≤ 4096 → Reads p external (update_octets p.as4 (announcement n a)) (messages.Update (announcement n a)) }
 {}
 
 /// An announcement of one prefix has 24 octets, those of the prefix and those of the attributes.

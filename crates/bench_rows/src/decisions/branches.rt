@@ -7,7 +7,7 @@ ghost use Rattle.std.specs.Prelude.{◌≡◌, ◌<◌, length, IfOk, OnOk};
 ghost use Rattle.std.specs.Option.{option_copied};
 ghost use Rattle.bench_rows.specs.Tables.{table_at, rows_in, Sets};
 
-use addr4::{Memory, Prefix, Row};
+use addr4::{Memory, Prefix, Row, V4};
 use bgp_attr::Route;
 use decision::Branches;
 use safe_table::Table;
@@ -54,7 +54,7 @@ impl TableBranches {
     }
 }
 
-impl Branches for TableBranches {
+impl Branches<V4> for TableBranches {
     ghost use Rattle.bench_rows.specs.Tables.{rows_in, candidates_in};
 
     ghost rows = { λ s. rows_in s.tables.items };

@@ -5,7 +5,7 @@ ghost use Rattle.peer_out.specs.Changes.{IsSender, MayBeHeard};
 
 use crate::exits::prefix_at;
 use crate::measured::Measured;
-use addr4::{Addr, Memory};
+use addr4::{Addr, Memory, RouterId};
 use bgp_attr::{
     AsPath, Attrs, Origin, Profile, Reflection, Route, SharedAttrs, Speaker, UnrecognizedAttrs,
 };
@@ -25,7 +25,7 @@ fn speaker() -> Speaker
 {
     Speaker {
         asn: 65000,
-        id: Addr::new(0xc000_02fe),
+        id: RouterId::new(0xc000_02fe),
         addr: Addr::new(0xc000_02fe),
     }
 }

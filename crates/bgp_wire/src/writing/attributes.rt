@@ -18,7 +18,7 @@ use crate::numbers::width;
 use crate::path::{AS_SEQUENCE, AS_SET};
 use crate::writing::lengths::{clusters_size, path_length};
 use crate::writing::numbers::{push_asn, push_u16, push_u32};
-use addr4::{Addr, Memory};
+use addr4::{Memory, RouterId};
 use bgp_attr::{
     Aggregator, LentAttrs, LentPath, LentReflection, LentSegment, Origin, SegmentKind, Unrecognized,
 };
@@ -251,7 +251,7 @@ fn push_cluster_ids(out: &mut Vec<u8>, reflection: &LentReflection<'_>) -> Resul
 }
 
 /// The cluster in front, if one stands there.
-fn push_front(out: &mut Vec<u8>, front: Option<Addr>) -> Result<(), Memory>
+fn push_front(out: &mut Vec<u8>, front: Option<RouterId>) -> Result<(), Memory>
     ensures { OnOk result (out.new.items ≡ out.old.items ++ flat_map (big_bytes 4) (clusters_behind front [])) }
 {
     match front {
@@ -260,7 +260,7 @@ fn push_front(out: &mut Vec<u8>, front: Option<Addr>) -> Result<(), Memory>
     }
 }
 
-fn push_ids(out: &mut Vec<u8>, ids: &[Addr]) -> Result<(), Memory>
+fn push_ids(out: &mut Vec<u8>, ids: &[RouterId]) -> Result<(), Memory>
     ensures { OnOk result (out.new.items ≡ out.old.items ++ flat_map (big_bytes 4) ids.now) }
 {
     for id in ids {

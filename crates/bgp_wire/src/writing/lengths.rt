@@ -2,7 +2,7 @@
 
 ghost use Rattle.std.specs.Prelude.{◌≡◌, ◌+◌, ◌*◌, ◌<◌, ◌≤◌, ◌^◌, length, map, nat_le, Bool, ℕ, if◌then◌else◌, [], ◌∷◌};
 ghost use Rattle.byteorder.specs.Endian.{big_bytes};
-ghost use Rattle.bgp_attr.specs.declared.attrs.Attrs.{Attrs as Route};
+ghost use Rattle.bgp_attr.specs.Attributes.{Attrs as Route};
 ghost use Rattle.bgp_wire.specs.Paths.{width_of};
 ghost use Rattle.bgp_wire.specs.Lengths.{spelled_length, attributes_length, announcement_length};
 ghost use Rattle.bgp_wire.specs.Spelling.{segment_octets, path_octets, prefix_octets, prefixes_octets, spelled, optional, aggregator_value, aggregator_flags, unrecognized_attribute, mandatory_attributes, further_attributes, clusters_attributes, reflection_attributes, octets_of};
@@ -10,7 +10,7 @@ ghost use Rattle.bgp_wire.specs.Spelling.{segment_octets, path_octets, prefix_oc
 use crate::header::LONGEST;
 use crate::numbers::width;
 use crate::prefixes::octets_for;
-use addr4::{Addr, Prefix};
+use addr4::{Prefix, RouterId};
 use bgp_attr::{
     Aggregator, LentAttrs, LentPath, LentReflection, LentSegment, Profile, Unrecognized,
 };
@@ -70,7 +70,7 @@ fn aggregator_length(as4: bool, aggregator: Option<Aggregator>) -> u128
     }
 }
 
-fn originator_length(originator: Option<Addr>) -> u128
+fn originator_length(originator: Option<RouterId>) -> u128
     ensures value { result ≡ length (octets_of (optional (λ n. spelled 128 9 (big_bytes 4 n)) originator)) }
     ensures small { result ≤ 7 }
 {

@@ -1,11 +1,11 @@
 use Rattle.std.proofs.Common.{◌≡◌, ◌∙◌, true, false, Some, sym, ap}
-use Rattle.bgp_attr.specs.declared.attrs.Attrs.{Attrs}
+use Rattle.bgp_attr.specs.Attributes.{Attrs}
 use Rattle.filter_bank.specs.Filtered.{is_own, first_route}
 use Rattle.filter_bank.proofs.LawLemmas.{filtered_hop_is}
 use Rattle.filter_bank.proofs.filtering.filtered_hop.Goals as goal
 
 pub returns-then-accepts : goal.returns-then-accepts
-returns-then-accepts c =
+returns-then-accepts g c =
     let same : c.attrs-attrs.result.now ≡ c.args.row.now = c.attrs-attrs.ensures in
     ap (λ (a : Attrs). Some a.next_hop) same
     ∙ filtered_hop_is c.args.me.now c.args.peer.now c.args.rules.now c.args.prefix c.args.row.now false true

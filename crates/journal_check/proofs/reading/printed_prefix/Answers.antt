@@ -1,5 +1,6 @@
-use Rattle.std.proofs.Common.{rules, ◌≡◌, [], ◌∷◌, Some, ◌<◌, ◌^◌}
-use Rattle.addr4.specs.Blocks.{masked_to}
+use Rattle.std.proofs.Common.{rules, ◌≡◌, [], ◌∷◌, Some}
+use Rattle.addr4.specs.Blocks.{width, masked_to}
+use Rattle.addr4.specs.Families.{IsIpv4}
 use Rattle.addr4.specs.Texts.{parts, addr_of, number_below}
 use Rattle.journal_check.proofs.PrefixPrinted.{printed_where_masked, not_printed}
 use Rattle.journal_check.proofs.reading.printed_prefix.Goals as goal
@@ -12,7 +13,7 @@ returns-then-eq c =
     let parted : parts 47 word ≡ c.first_part.result.0.now ∷ c.first_part-2.result.0.now ∷ [] = search rules in
     let is_address : addr_of c.first_part.result.0.now ≡ Some a = search rules in
     let is_length : number_below 33 c.first_part-2.result.0.now ≡ Some n = search rules in
-    let same : masked_to 32 a n ≡ a = search rules in
+    let same : masked_to width a n ≡ a = search rules in
     let is = printed_where_masked word a n (record { address = _; length = _; parted = parted; is_address = is_address; is_length = is_length }) same in
     search (rules, is)
 
@@ -24,7 +25,7 @@ returns-else-eq c =
     let parted : parts 47 word ≡ c.first_part.result.0.now ∷ c.first_part-2.result.0.now ∷ [] = search rules in
     let is_address : addr_of c.first_part.result.0.now ≡ Some a = search rules in
     let is_length : number_below 33 c.first_part-2.result.0.now ≡ Some n = search rules in
-    let small : a < 2 ^ 32 = search rules in
-    let other : masked_to 32 a n ≡ a → ⊥ = search rules in
-    let is = not_printed word a n small (record { address = _; length = _; parted = parted; is_address = is_address; is_length = is_length }) other in
+    let ipv4 : IsIpv4 a = (c.known.ensures.fits, c.known.ensures.rest) in
+    let other : masked_to width a n ≡ a → ⊥ = search rules in
+    let is = not_printed word a n ipv4 (record { address = _; length = _; parted = parted; is_address = is_address; is_length = is_length }) other in
     search (rules, is)

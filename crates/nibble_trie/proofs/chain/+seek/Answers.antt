@@ -15,7 +15,7 @@ seek-requires g t c κs within =
     let link : longer_in leaves key ≡ c.key.result = longer_found leaves key n c.index-node.ensures ∙ sym c.key.ensures.value in
     let falls = rest_falls (prefix_in leaves) (longer_in leaves) key n.prefix c.key.result c.requires.chained found (omega (arith, c.length.ensures.valid.0)) link in (
       subst (λ m. rest_behind (prefix_in leaves) c.key.result < m) c.decreases (link_rest (prefix_in leaves) c.args.link key n.prefix (rest_behind (prefix_in leaves) c.key.result) c.in-Some.is found falls),
-      (within, (c.requires.chained, behind_next (prefix_in leaves) (longer_in leaves) key c.args.length n.prefix c.key.result c.requires.chained found link (omega (arith, c.length.ensures.value, c.if-length.false)))),
+      (within.0, (within.1, (c.requires.chained, behind_next (prefix_in leaves) (longer_in leaves) key c.args.length n.prefix c.key.result c.requires.chained found link (omega (arith, c.length.ensures.value, c.if-length.false))))),
     )
 
 pub returns : goal.returns

@@ -3,14 +3,14 @@ use Rattle.nibble_trie.specs.Links.{leads}
 use Rattle.nibble_trie.specs.Keys.{prefix_in}
 use Rattle.nibble_trie.specs.Next.{CanStart, Starts}
 use Rattle.nibble_trie.proofs.Firsts.{in_none}
-use Rattle.nibble_trie.proofs.Searches.{leaf_starts, inner_deep, left_first, can_start_digit, left_found, left_next}
+use Rattle.nibble_trie.proofs.Searches.{IsLeft, leaf_starts, inner_deep, left_first, can_start_digit, left_found, left_next}
 use Rattle.nibble_trie.proofs.reading.+next.Goals as goal
 
 pub first_at-first_in-requires : goal.first_at-first_in-requires
 first_at-first_in-requires g t c κs within =
     let target = sym c.target.ensures ∙ c.in-Inner.is in (
       subst (λ m. c.args.level * 2 < m) c.decreases (omega arith),
-      (within, (c.requires.chained, subst (λ x. CanStart (prefix_in c.args.leaves.now) c.args.index.now x c.args.level c.args.from c.args.least) target c.requires.start)),
+      (within.0, (within.1, (c.requires.chained, subst (λ x. CanStart (prefix_in c.args.leaves.now) c.args.index.now x c.args.level c.args.from c.args.least) target c.requires.start))),
     )
 
 pub first_at-returns-in-Leaf : goal.first_at-returns-in-Leaf
@@ -25,14 +25,14 @@ first_in-digits-init g t c = left_first (prefix_in c.args.leaves.now) c.args.ind
 pub first_in-first_at-found-requires : goal.first_in-first_at-found-requires
 first_in-first_at-found-requires g t c κs within = (
   subst (λ m. (c.args.level - 1) * 2 + 1 < m) c.decreases (omega (arith, inner_deep (prefix_in c.args.leaves.now) c.args.index.now c.args.branch c.args.level c.args.from c.args.least c.requires.start)),
-  (within, (c.requires.chained, can_start_digit (prefix_in c.args.leaves.now) c.args.index.now c.args.branch c.args.level c.args.from c.args.least c.digits.digit c.digits.from c.digits.least (omega (arith, c.digits-test.true)) c.index-links.result.now c.link.result c.index-links.ensures c.link.ensures c.digits.invariant c.requires.start)),
+  (within.0, (within.1, (c.requires.chained, can_start_digit (prefix_in c.args.leaves.now) c.args.index.now c.args.branch c.args.level c.args.from c.args.least c.digits.digit c.digits.from c.digits.least (omega (arith, c.digits-test.true)) c.index-links.result.now c.link.result c.index-links.ensures c.link.ensures c.digits.invariant c.requires.start))),
 )
 
 pub first_in-returns-then-is_some : goal.first_in-returns-then-is_some
 first_in-returns-then-is_some g t c = left_found (prefix_in c.args.leaves.now) c.args.index.now c.args.branch c.args.level c.args.from c.args.least c.digits.digit c.digits.from c.digits.least (omega (arith, c.digits-test.true)) c.index-links.result.now c.link.result c.index-links.ensures c.link.ensures c.digits.invariant c.first_at-found.result c.first_at-found.ensures (sym c.is_some.ensures ∙ c.if-is_some.true)
 
 pub first_in-digits-preserved : goal.first_in-digits-preserved
-first_in-digits-preserved g t c = left_next (prefix_in c.args.leaves.now) c.args.index.now c.args.branch c.args.level c.args.from c.args.least c.digits.digit c.digits.from c.digits.least (omega (arith, c.digits-test.true)) c.index-links.result.now c.link.result c.index-links.ensures c.link.ensures c.digits.invariant c.first_at-found.result c.first_at-found.ensures (sym c.is_some.ensures ∙ c.if-is_some.false)
+first_in-digits-preserved g t c = subst (λ f. IsLeft (prefix_in c.args.leaves.now) c.args.index.now c.args.branch c.args.level c.args.from c.args.least (c.digits.digit + 1) f 0) (sym c.unspecified-from.ensures) (left_next (prefix_in c.args.leaves.now) c.args.index.now c.args.branch c.args.level c.args.from c.args.least c.digits.digit c.digits.from c.digits.least (omega (arith, c.digits-test.true)) c.index-links.result.now c.link.result c.index-links.ensures c.link.ensures c.digits.invariant c.first_at-found.result c.first_at-found.ensures (sym c.is_some.ensures ∙ c.if-is_some.false))
 
 pub first_in-returns : goal.first_in-returns
 first_in-returns g t c = λ heads layout at s.

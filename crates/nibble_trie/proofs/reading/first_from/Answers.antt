@@ -9,5 +9,5 @@ returns g c =
     let keys = prefix_in c.args.leaves.now in
     let w = c.requires in
     let layout = w.indexes.layout in
-    let starts = top_starts keys index w.heads layout c.args.from c.args.least w.indexes.holds w.shortest (omega arith) in
+    let starts = top_starts keys index w.heads layout c.args.from c.args.least w.indexes.holds w.shortest c.known.ensures.fits in
     top_first keys layout c.args.from c.args.least c.first_at.result w.small (c.first_at.ensures w.heads layout None starts)

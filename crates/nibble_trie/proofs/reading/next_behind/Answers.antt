@@ -12,4 +12,4 @@ returns-then-is_some g c =
 pub returns : goal.returns
 returns g c =
     let p = c.args.prefix in
-    from_beyond (prefix_in c.args.leaves.now) p c.number.result (c.length.result + 1) c.first_from.result (c.number.ensures ∙ c.address.ensures) (ap (λ n. n + 1) c.length.ensures.value) c.first_from.ensures
+    from_beyond (prefix_in c.args.leaves.now) p c.address.result (c.length.result + 1) c.first_from.result c.address.ensures (ap (λ n. n + 1) c.length.ensures.value) c.first_from.ensures

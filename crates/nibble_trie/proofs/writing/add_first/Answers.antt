@@ -1,5 +1,5 @@
 use Rattle.std.proofs.Common.{◌≡◌, Some, subst, ◌∙◌}
-use Rattle.nibble_trie.specs.declared.node.Node.{Node}
+use Rattle.nibble_trie.specs.Leaves.{Node}
 use Rattle.nibble_trie.specs.Keys.{prefix_in, longer_in, IsHeadOf}
 use Rattle.nibble_trie.specs.Index.{Indexes, with_head}
 use Rattle.nibble_trie.proofs.Chains.{one_next}
@@ -19,7 +19,7 @@ put-requires-clause-way g c =
       layout = w.indexes.layout;
       holds = w.indexes.holds;
       names = names_added leaves c.insert_reserved-key.new.self w.heads c.insert_reserved-key.result c.args.prefix adds (names_of leaves index w);
-      way = spot_way index w.indexes.layout c.args.end c.args.prefix.address c.number-address.result c.spot.result (c.number-address.ensures ∙ c.address.ensures) c.spot.ensures (c.requires.way w.heads w.indexes.layout w.indexes.holds);
+      way = spot_way index w.indexes.layout c.args.end c.args.prefix.address c.address-address.result c.spot.result (c.address-address.ensures) c.spot.ensures (c.requires.way w.heads w.indexes.layout w.indexes.holds);
     }
 
 pub returns-clause-whole : goal.returns-clause-whole
@@ -34,8 +34,8 @@ returns-clause-whole g c =
     let n : Node _ = record { prefix = p; longer = c.to.result; value = c.args.value } in
     let adds = adds_of leaves mid key n e.was_vacant e.updates c.requires.absent in
     let same = one_next (prefix_in leaves) (longer_in leaves) p.address 0 c.args.head (w.heads p.address) w.chained c.requires.head.0 (w.shortest p.address) in
-    let is : c.number-address.result ≡ p.address = c.number-address.ensures ∙ c.address.ensures in
-    let way = spot_way index w.indexes.layout c.args.end p.address c.number-address.result c.spot.result is c.spot.ensures (c.requires.way w.heads w.indexes.layout w.indexes.holds) in
+    let is : c.address-address.result ≡ p.address = c.address-address.ensures in
+    let way = spot_way index w.indexes.layout c.args.end p.address c.address-address.result c.spot.result is c.spot.ensures (c.requires.way w.heads w.indexes.layout w.indexes.holds) in
     let indexes = subst (λ a. Indexes c.put.new.self (with_head w.heads a (Some key))) is (c.put.ensures w.heads w.indexes.layout w.indexes.holds (names_added leaves mid w.heads key p adds (names_of leaves index w)) way) in
     first_added leaves mid index c.put.new.self key n w (subst (IsHeadOf (prefix_in leaves) p) same c.requires.head) e.was_vacant c.requires.absent e.updates (c.to.ensures ∙ same) indexes (c.known.ensures.fits, c.known.ensures.masked.0)
 

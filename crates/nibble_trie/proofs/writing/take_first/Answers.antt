@@ -16,11 +16,11 @@ drop_head-requires-clause-way g c =
     let w = c.requires.whole in
     let layout = w.indexes.layout in
     let p = c.args.prefix in
-    let is = c.number-address.ensures ∙ c.address.ensures in
-    let way = spot_way index layout c.args.end p.address c.number-address.result c.spot.result is c.spot.ensures (c.requires.way w.heads layout w.indexes.holds) in
+    let is = c.address-address.ensures in
+    let way = spot_way index layout c.args.end p.address c.address-address.result c.spot.result is c.spot.ensures (c.requires.way w.heads layout w.indexes.holds) in
     let has = one_next (prefix_in leaves) (longer_in leaves) p.address 0 (w.heads p.address) (Some c.args.first) w.chained (w.shortest p.address) c.requires.head in
     let cell = subst (λ (s : Spot). IsCell s.target) (sym c.spot.ensures) c.requires.cell in
-    let alone = alone_head index w.heads layout c.number-address.result c.spot.result c.args.first w.indexes.holds way cell (ap w.heads is ∙ has) in
+    let alone = alone_head index w.heads layout c.address-address.result c.spot.result c.args.first w.indexes.holds way cell (ap w.heads is ∙ has) in
     record { heads = w.heads; layout = layout; holds = w.indexes.holds; way = way; alone = alone }
 
 pub returns-clause-whole : goal.returns-clause-whole
@@ -30,11 +30,11 @@ returns-clause-whole g c =
     let w = c.requires.whole in
     let layout = w.indexes.layout in
     let p = c.args.prefix in
-    let is = c.number-address.ensures ∙ c.address.ensures in
-    let way = spot_way index layout c.args.end p.address c.number-address.result c.spot.result is c.spot.ensures (c.requires.way w.heads layout w.indexes.holds) in
+    let is = c.address-address.ensures in
+    let way = spot_way index layout c.args.end p.address c.address-address.result c.spot.result is c.spot.ensures (c.requires.way w.heads layout w.indexes.holds) in
     let has = one_next (prefix_in leaves) (longer_in leaves) p.address 0 (w.heads p.address) (Some c.args.first) w.chained (w.shortest p.address) c.requires.head in
     let cell = subst (λ (s : Spot). IsCell s.target) (sym c.spot.ensures) c.requires.cell in
-    let alone = alone_head index w.heads layout c.number-address.result c.spot.result c.args.first w.indexes.holds way cell (ap w.heads is ∙ has) in
+    let alone = alone_head index w.heads layout c.address-address.result c.spot.result c.args.first w.indexes.holds way cell (ap w.heads is ∙ has) in
     let indexes = c.drop_head.ensures w.heads layout w.indexes.holds way alone in
     first_taken leaves c.take.new.leaves index c.drop_head.new.index c.args.first p w c.requires.found has c.take.ensures.updates (subst (λ a. Indexes c.drop_head.new.index (with_head w.heads a (longer_in leaves c.args.first))) is indexes)
 

@@ -5,4 +5,4 @@ use Rattle.in_chain.specs.Chains.{row_count}
 use Rattle.peer_side.proofs.tasks.count_rows.Given as goal
 
 abbrev pub invariant-loop-chain : goal.invariant-loop-chain
-invariant-loop-chain l = l.rows + sum_by row_count l.chain-iterator ≡ sum_by row_count (values l.chains)
+invariant-loop-chain g l = l.rows + sum_by row_count l.chain-iterator ≡ sum_by row_count (values l.chains)

@@ -4,4 +4,4 @@ use Rattle.peer_side.specs.Peers.{first_walk}
 use Rattle.peer_side.proofs.tasks.first_busy.Given as goal
 
 abbrev pub invariant-loop-chain : goal.invariant-loop-chain
-invariant-loop-chain l = first_walk l.chain-iterator ≡ first_walk (values l.chains)
+invariant-loop-chain g l = first_walk l.chain-iterator ≡ first_walk (values l.chains)

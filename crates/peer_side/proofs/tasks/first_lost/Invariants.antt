@@ -5,7 +5,7 @@ use Rattle.peer_side.proofs.HeldLemmas.{AllFew}
 use Rattle.peer_side.proofs.tasks.first_lost.Given as goal
 
 abbrev pub invariant-loop-chain : goal.invariant-loop-chain
-invariant-loop-chain l = record {
+invariant-loop-chain g l = record {
   first : first_lost l.p (values_of l.chain-iterator) ≡ first_lost l.p (values_of l.chains.entries);
   few : AllFew l.chain-iterator;
 }

@@ -6,4 +6,4 @@ use Rattle.peer_side.specs.Peers.{chain_tasks}
 use Rattle.peer_side.proofs.tasks.first_oldest.Given as goal
 
 abbrev pub invariant-loop-chain : goal.invariant-loop-chain
-invariant-loop-chain l = first_task (flat_map chain_tasks l.chain-iterator) ≡ first_task (flat_map chain_tasks (values l.chains))
+invariant-loop-chain g l = first_task (flat_map chain_tasks l.chain-iterator) ≡ first_task (flat_map chain_tasks (values l.chains))

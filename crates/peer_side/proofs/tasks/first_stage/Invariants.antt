@@ -6,4 +6,4 @@ use Rattle.peer_side.specs.Peers.{chain_tasks}
 use Rattle.peer_side.proofs.tasks.first_stage.Given as goal
 
 abbrev pub invariant-loop-place : goal.invariant-loop-place
-invariant-loop-place l = find (λ task. chain_lags l.chain task l.p) (map (λ d. Del l.chain.incoming.number d.number) (drop l.place l.chain.incoming.tables.deletions)) ≡ find (λ task. chain_lags l.chain task l.p) (chain_tasks l.chain)
+invariant-loop-place g l = find (λ task. chain_lags l.chain task l.p) (map (λ d. Del l.chain.incoming.number d.number) (drop l.place l.chain.incoming.tables.deletions)) ≡ find (λ task. chain_lags l.chain task l.p) (chain_tasks l.chain)

@@ -3,4 +3,4 @@ use Rattle.policy_rules.specs.Judged.{AllPassOn}
 use Rattle.policy_rules.proofs.judging.judge.Given as goal
 
 abbrev pub invariant-loop-rule : goal.invariant-loop-rule
-invariant-loop-rule l = AllPassOn l.prefix (take l.rule-index l.rule-items) l.fn.route l.route
+invariant-loop-rule g l = AllPassOn l.prefix (take l.rule-index l.rule-items) l.fn.route l.route

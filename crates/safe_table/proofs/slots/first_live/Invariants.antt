@@ -9,4 +9,4 @@ abbrev pub invariant-rows : goal.invariant-rows
 invariant-rows g l = Reaches l.trie.rows (key_of l.fn.after) l.row.0 × (IsTrue l.row.1 ↔ HasKey (live_rows l.trie.rows) l.row.0)
 
 abbrev pub decreases-rows : goal.decreases-rows
-decreases-rows g l = 2 ^ 32 * 256 - rank l.row.0
+decreases-rows g l = 2 ^ 128 * 256 - rank l.row.0

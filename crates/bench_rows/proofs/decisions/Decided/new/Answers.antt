@@ -4,7 +4,7 @@ use Rattle.std.specs.FinMap as map
 use Rattle.link_change.specs.Rows.{Rows}
 use Rattle.link_change.proofs.RowLemmas.{empty_rows}
 use Rattle.safe_table.specs.Tables.{Rows as Contents}
-use Rattle.bgp_attr.specs.declared.route.Route.{Route}
+use Rattle.bgp_attr.specs.Routes.{Route}
 use Rattle.bench_rows.specs.Tables.{rows_in, candidates_in}
 use Rattle.bench_rows.proofs.Branches.{push_rows}
 use Rattle.bench_rows.proofs.decisions.Decided.new.Goals as goal

@@ -1,5 +1,5 @@
 use Rattle.std.proofs.Common.{ap, length, map, arith}
-use Rattle.bgp_attr.specs.declared.attrs.Attrs.{Attrs}
+use Rattle.bgp_attr.specs.Attributes.{Attrs}
 use Rattle.bgp_wire.specs.Spelling.{unrecognized_attribute, reflection_attributes, octets_of}
 use Rattle.bgp_wire.specs.Lengths.{attributes_length}
 use Rattle.bgp_wire.proofs.SpelledLengths.{length-sent}

@@ -1,6 +1,6 @@
 use Rattle.std.proofs.Common.{ap, length, arith, if◌then◌else◌, [], ◌∷◌}
 use Rattle.byteorder.specs.Endian.{big_bytes}
-use Rattle.bgp_attr.specs.declared.attrs.Attrs.{Attrs}
+use Rattle.bgp_attr.specs.Attributes.{Attrs}
 use Rattle.bgp_wire.specs.Spelling.{spelled, optional, aggregator_value, aggregator_flags, further_attributes, octets_of}
 use Rattle.bgp_wire.proofs.SpelledLengths.{length-four}
 use Rattle.bgp_wire.proofs.writing.lengths.further_length.Goals as goal

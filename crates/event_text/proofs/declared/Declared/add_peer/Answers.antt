@@ -7,19 +7,19 @@ use Rattle.event_text.proofs.DeclarationLemmas.{peer_kept}
 use Rattle.event_text.proofs.declared.Declared.add_peer.Goals as goal
 
 pub overflow_cast-number : goal.overflow_cast-number
-overflow_cast-number c =
+overflow_cast-number g c =
     let refused = subst (λ d. refusal d (events.Peer c.args.number c.args.words c.args.client) ≡ None) (sym c.self.view_is) c.requires in
     let few : c.args.number ≤ 64 = (addable c.self.inside.profile c.self.inside.speaker c.self.inside.peers.items c.args.number c.args.words c.args.client refused).0 in
     omega arith
 
 pub invariant_of-self-2 : goal.invariant_of-self-2
-invariant_of-self-2 c =
+invariant_of-self-2 g c =
     let refused = subst (λ d. refusal d (events.Peer c.args.number c.args.words c.args.client) ≡ None) (sym c.self.view_is) c.requires in
     let a = addable c.self.inside.profile c.self.inside.speaker c.self.inside.peers.items c.args.number c.args.words c.args.client refused in
     subst IsCounted (sym c.in_ok-push.ensures.items) (counted_push c.self.inside.peers.items _ c.self.invariant a.1 (omega arith))
 
 pub returns-clause-kept : goal.returns-clause-kept
-returns-clause-kept c =
+returns-clause-kept g c =
     λ declared ok.
     let refused = subst (λ d. refusal d (events.Peer c.args.number c.args.words c.args.client) ≡ None) (sym c.self.view_is) c.requires in
     let before = subst IsDeclaration (sym c.self.view_is) declared in

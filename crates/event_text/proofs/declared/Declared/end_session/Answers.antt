@@ -5,12 +5,12 @@ use Rattle.event_text.proofs.DeclarationLemmas.{end_kept}
 use Rattle.event_text.proofs.declared.Declared.end_session.Goals as goal
 
 pub invariant_of-self : goal.invariant_of-self
-invariant_of-self c =
+invariant_of-self g c =
     let e = refilled c.self.inside.peers.len c.end_at.new.peers c.self.inside.peers.items (omega (arith, c.self.inside.peers.ok.0)) (sym c.self.inside.peers.ok.0) ∙ c.end_at.ensures ∙ ap (map (ended_at c.args.number)) c.as_mut_slice.ensures.value in
     subst IsCounted (sym e) (counted_ended c.self.inside.peers.items c.args.number c.self.invariant)
 
 pub returns-clause-kept : goal.returns-clause-kept
-returns-clause-kept c =
+returns-clause-kept g c =
     λ declared.
     let e = refilled c.self.inside.peers.len c.end_at.new.peers c.self.inside.peers.items (omega (arith, c.self.inside.peers.ok.0)) (sym c.self.inside.peers.ok.0) ∙ c.end_at.ensures ∙ ap (map (ended_at c.args.number)) c.as_mut_slice.ensures.value in
     let before = subst IsDeclaration (sym c.self.view_is) declared in

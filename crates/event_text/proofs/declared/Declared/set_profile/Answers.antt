@@ -4,7 +4,7 @@ use Rattle.event_text.proofs.DeclarationLemmas.{profile_kept}
 use Rattle.event_text.proofs.declared.Declared.set_profile.Goals as goal
 
 pub returns-clause-kept : goal.returns-clause-kept
-returns-clause-kept c =
+returns-clause-kept g c =
     λ declared none.
     let before = subst IsDeclaration (sym c.self.view_is) declared in
     let undeclared = subst (λ d. d.speaker ≡ None) (sym c.self.view_is) none in

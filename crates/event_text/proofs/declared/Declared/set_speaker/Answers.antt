@@ -6,7 +6,7 @@ use Rattle.event_text.proofs.DeclarationLemmas.{speaker_kept}
 use Rattle.event_text.proofs.declared.Declared.set_speaker.Goals as goal
 
 pub returns-clause-kept : goal.returns-clause-kept
-returns-clause-kept c =
+returns-clause-kept g c =
     λ declared refused ok.
     let before = subst IsDeclaration (sym c.self.view_is) declared in
     let may = subst (λ d. refusal d (events.Local c.args.words) ≡ None) (sym c.self.view_is) refused in

@@ -1,6 +1,6 @@
 use Rattle.std.proofs.Common.{List, true, is_some, ◌≡◌, ◌∙◌, ap, subst, rules}
 use Rattle.addr4.specs.Places.{key_of}
-use Rattle.policy_rules.specs.declared.rule.Rule.{Rule}
+use Rattle.policy_rules.specs.Rules.{Rule}
 use Rattle.pass_core.specs.Passed.{Passed, function_at}
 use Rattle.pass_core.proofs.TurnLemmas.{goes_on, ends_here}
 use Rattle.link_change.specs.Turns.{taken_turn}

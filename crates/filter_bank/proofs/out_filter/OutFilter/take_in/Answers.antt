@@ -1,5 +1,5 @@
 use Rattle.std.proofs.Common.{List, Option, ◌≡◌, ◌∙◌, ap}
-use Rattle.policy_rules.specs.declared.rule.Rule.{Rule}
+use Rattle.policy_rules.specs.Rules.{Rule}
 use Rattle.pass_core.specs.Passed.{Passed, function_at}
 use Rattle.pass_core.specs.Turns.{passed}
 use Rattle.link_change.proofs.ChangeLemmas.{computes_on}

@@ -1,6 +1,6 @@
 use Rattle.std.proofs.Common.{List, Option, true, is_some, ◌≡◌, ◌∙◌, ap, subst, rules}
 use Rattle.addr4.specs.Places.{key_of}
-use Rattle.policy_rules.specs.declared.rule.Rule.{Rule}
+use Rattle.policy_rules.specs.Rules.{Rule}
 use Rattle.pass_core.specs.Passed.{Passed, function_at}
 use Rattle.pass_core.specs.Turns.{IsWalked}
 use Rattle.pass_core.proofs.TurnLemmas.{goes_on, coming_at}

@@ -8,19 +8,19 @@ use Rattle.in_chain.proofs.FilterLemmas.{falls_on, falls_quietly}
 use Rattle.in_chain.proofs.chain.Chain.feed.Goals as goal
 
 pub returns-in_default-clause-lines : goal.returns-in_default-clause-lines
-returns-in_default-clause-lines c =
+returns-in_default-clause-lines g c =
     let old : Chained = record { incoming = record { number = c.self.inside.number; tables = c.self.inside.stages }; me = c.self.inside.me; peer = c.self.inside.peer; filter = c.self.inside.filter } in
     let same = rw c.in_default.is at c.in_ok-change.ensures.sent in
     let lines = rw c.in_default.is at c.in_ok-change.ensures.lines in
     rw (← c.self.view_is) (falls_quietly old c.feed.new.self c.args.p (way_down (owners.Peer old.incoming.number) (In old.incoming.number) old.incoming.tables.deletions) c.args.journal.now c.feed.new.journal same lines)
 
 pub returns-clause-sent : goal.returns-clause-sent
-returns-clause-sent c =
+returns-clause-sent g c =
     let is = rw c.in-Some.is at c.in_ok-change.ensures.sent in
     rw (← c.self.view_is) (c.take_in-sent.ensures (lowest_rows c.self.inside.stages) (lowest_rows c.feed.new.self) c.args.p is)
 
 pub returns-clause-lines : goal.returns-clause-lines
-returns-clause-lines c =
+returns-clause-lines g c =
     let old : Chained = record { incoming = record { number = c.self.inside.number; tables = c.self.inside.stages }; me = c.self.inside.me; peer = c.self.inside.peer; filter = c.self.inside.filter } in
     let is = rw c.in-Some.is at c.in_ok-change.ensures.sent in
     let lines = rw c.in-Some.is at c.in_ok-change.ensures.lines in

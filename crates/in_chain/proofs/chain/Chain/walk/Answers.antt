@@ -4,7 +4,7 @@ use Rattle.in_chain.proofs.chain.Chain.walk.Goals as goal
 use Rattle.in_chain.proofs.chain.Chain.walk.Goals.{in-Nothing, in-Quiet, in-Sent+in_ok-push_change-in-Sent}
 
 pub returns-clause-taken : goal.returns-clause-taken
-returns-clause-taken c =
+returns-clause-taken g c =
     let old : Chained = record { incoming = record { number = c.self.inside.number; tables = c.self.inside.stages }; me = c.self.inside.me; peer = c.self.inside.peer; filter = c.self.inside.filter } in
     let f = c.unit.new.self in
     let walked = c.in_ok-unit.ensures.taken in

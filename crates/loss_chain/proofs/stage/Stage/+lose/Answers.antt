@@ -39,5 +39,5 @@ returns-in-Deletion-clause-leads g t c =
     let sound_above = rw (c.lost-link.ensures.link, c.number.ensures) at sound_then in
     let passed = leads_quietly g.R.Valued.value c.args.owner c.args.out c.in-Deletion.deletion (tables_of c.deref_mut.result.now) (tables_of c.lose.new.self)
     (loss_entries c.args.owner c.args.number (tables_of c.deref_mut.result.now)) sound sound_above rows leads in
-    let P : Stage g.row.R.Denot → Type 0 = λ s. LeadsOver g.R.Valued.value c.args.owner c.args.out (lowered c.in-Deletion.deletion (tables_of s)) (loss_entries c.args.owner c.args.number (tables_of s)) (lowered c.in-Deletion.deletion (tables_of c.lose.new.self)) in
+    let P : Stage g.row.R.Denot g.row.F.Denot → Type 0 = λ s. LeadsOver g.R.Valued.value c.args.owner c.args.out (lowered c.in-Deletion.deletion (tables_of s)) (loss_entries c.args.owner c.args.number (tables_of s)) (lowered c.in-Deletion.deletion (tables_of c.lose.new.self)) in
     rw c.in-Deletion.is (subst P c.deref_mut.ensures.value passed))

@@ -20,7 +20,7 @@ returns-then-not-is_empty-clause-leads g t c =
     let new = tables_of c.weld.new.self in
     let passed = weld_passes g.R.Valued.value c.args.owner c.args.out c.in-Deletion.deletion old new (sym c.is_empty.ensures.test ∙ c.if-not-is_empty.true)
     (leads_quietly g.R.Valued.value c.args.owner c.args.out c.in-Deletion.deletion old new (weld_entries c.args.owner (lost_link c.args.owner c.in-Deletion.deletion.number) (deletions_of c.deref_mut.result.now)) sound sound_above above.rows leads) in
-    let P : Stage g.row.R.Denot → Type 0 = λ s. LeadsOver g.R.Valued.value c.args.owner c.args.out (lowered c.in-Deletion.deletion (tables_of s)) (weld_entries c.args.owner c.args.out (c.in-Deletion.deletion ∷ deletions_of s)) (lowered c.in-Deletion.deletion new) in
+    let P : Stage g.row.R.Denot g.row.F.Denot → Type 0 = λ s. LeadsOver g.R.Valued.value c.args.owner c.args.out (lowered c.in-Deletion.deletion (tables_of s)) (weld_entries c.args.owner c.args.out (c.in-Deletion.deletion ∷ deletions_of s)) (lowered c.in-Deletion.deletion new) in
     rw c.in-Deletion.is (subst P c.deref_mut.ensures.value passed)
 
 pub returns-in_ok-push_entry-in-Deletion-clause-leads : goal.returns-in_ok-push_entry-in-Deletion-clause-leads

@@ -5,25 +5,25 @@ use Rattle.nibble_trie.proofs.Ways.{below_way, inner_live, inner_level, above_st
 use Rattle.nibble_trie.proofs.index.Index.above.Goals as goal
 
 pub way-init : goal.way-init
-way-init c = record { above = c.requires; way = λ heads layout h way. way }
+way-init g c = record { above = c.requires; way = λ heads layout h way. way }
 
 pub overflow_sub-spot : goal.overflow_sub-spot
-overflow_sub-spot c =
+overflow_sub-spot g c =
     let r = c.way.invariant.above in
     omega (arith, inner_level c.args.self.now r.heads r.layout c.way.spot c.in-Inner.key r.holds r.way.stands c.in-Inner.is)
 
 pub below-spot-requires-clause-live : goal.below-spot-requires-clause-live
-below-spot-requires-clause-live c =
+below-spot-requires-clause-live g c =
     let r = c.way.invariant.above in
     inner_live c.args.self.now r.heads r.layout c.way.spot c.in-Inner.key r.holds r.way.stands c.in-Inner.is
 
 pub below-spot-requires-clause-short : goal.below-spot-requires-clause-short
-below-spot-requires-clause-short c =
+below-spot-requires-clause-short g c =
     let r = c.way.invariant.above in
     omega (arith, r.way.stands.short, inner_level c.args.self.now r.heads r.layout c.way.spot c.in-Inner.key r.holds r.way.stands c.in-Inner.is)
 
 pub way-preserved : goal.way-preserved
-way-preserved c =
+way-preserved g c =
     let self = c.args.self.now in
     let a = c.args.address in
     record {
@@ -32,16 +32,16 @@ way-preserved c =
     }
 
 pub way-smaller : goal.way-smaller
-way-smaller c =
+way-smaller g c =
     let r = c.way.invariant.above in
     let level : c.below-spot.result.level ≡ c.way.spot.level - 1 = ap (λ s. s.level) c.below-spot.ensures in
     omega (arith, level, inner_level c.args.self.now r.heads r.layout c.way.spot c.in-Inner.key r.holds r.way.stands c.in-Inner.is)
 
 pub unreachable-requires : goal.unreachable-requires
-unreachable-requires c = above_cell c.args.self.now c.args.address c.args.branch c.way.spot c.way.invariant.above (subst IsCell (sym c.in-Nothing.is) tt)
+unreachable-requires g c = above_cell c.args.self.now c.args.address c.args.branch c.way.spot c.way.invariant.above (subst IsCell (sym c.in-Nothing.is) tt)
 
 pub unreachable-requires-in-Leaf : goal.unreachable-requires-in-Leaf
-unreachable-requires-in-Leaf c = above_cell c.args.self.now c.args.address c.args.branch c.way.spot c.way.invariant.above (subst IsCell (sym c.in-Leaf.is) tt)
+unreachable-requires-in-Leaf g c = above_cell c.args.self.now c.args.address c.args.branch c.way.spot c.way.invariant.above (subst IsCell (sym c.in-Leaf.is) tt)
 
 pub returns-then-key-branch-clause-way : goal.returns-then-key-branch-clause-way
-returns-then-key-branch-clause-way c = c.way.invariant.way
+returns-then-key-branch-clause-way g c = c.way.invariant.way

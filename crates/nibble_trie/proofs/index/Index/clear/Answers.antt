@@ -5,7 +5,7 @@ use Rattle.nibble_trie.proofs.Ways.{cell_spot}
 use Rattle.nibble_trie.proofs.index.Index.clear.Goals as goal
 
 pub prune-requires : goal.prune-requires
-prune-requires c =
+prune-requires g c =
     let old = c.args.self.now in
     let new = c.write.new.self in
     let r = c.requires.way in
@@ -20,7 +20,7 @@ prune-requires c =
     }
 
 pub returns : goal.returns
-returns c = λ heads layout h way alone.
+returns g c = λ heads layout h way alone.
     let old = c.args.self.now in
     let new = c.write.new.self in
     let w = subst (Writes (is_live old) (is_live new) (link_at old) (link_at new) c.args.spot.at) c.nothing.ensures c.write.ensures.writes in

@@ -5,21 +5,21 @@ use Rattle.nibble_trie.proofs.Ways.{top_way, inner_known, end_way}
 use Rattle.nibble_trie.proofs.index.Index.end_of.Goals as goal
 
 pub way-init : goal.way-init
-way-init c = λ heads layout h. top_way c.args.self.now layout c.args.address (omega arith)
+way-init g c = λ heads layout h. top_way c.args.self.now layout c.args.address c.known.ensures.fits
 
 pub overflow_sub-level : goal.overflow_sub-level
-overflow_sub-level c = omega (arith, (inner_known c.args.self.now c.args.address (spot_at c.way.end c.args.address) c.in-Inner.branch c.requires c.way.invariant (sym c.target.ensures ∙ c.in-Inner.is)).1)
+overflow_sub-level g c = omega (arith, (inner_known c.args.self.now c.args.address (spot_at c.way.end c.args.address) c.in-Inner.branch c.requires c.way.invariant (sym c.target.ensures ∙ c.in-Inner.is)).1)
 
 pub index-links-requires : goal.index-links-requires
-index-links-requires c = (inner_known c.args.self.now c.args.address (spot_at c.way.end c.args.address) c.in-Inner.branch c.requires c.way.invariant (sym c.target.ensures ∙ c.in-Inner.is)).0
+index-links-requires g c = (inner_known c.args.self.now c.args.address (spot_at c.way.end c.args.address) c.in-Inner.branch c.requires c.way.invariant (sym c.target.ensures ∙ c.in-Inner.is)).0
 
 pub digit_of-requires : goal.digit_of-requires
-digit_of-requires c =
+digit_of-requires g c =
     let inner = inner_known c.args.self.now c.args.address (spot_at c.way.end c.args.address) c.in-Inner.branch c.requires c.way.invariant (sym c.target.ensures ∙ c.in-Inner.is) in
     omega (arith, inner.1, inner.2)
 
 pub way-smaller : goal.way-smaller
-way-smaller c = omega (arith, (inner_known c.args.self.now c.args.address (spot_at c.way.end c.args.address) c.in-Inner.branch c.requires c.way.invariant (sym c.target.ensures ∙ c.in-Inner.is)).1)
+way-smaller g c = omega (arith, (inner_known c.args.self.now c.args.address (spot_at c.way.end c.args.address) c.in-Inner.branch c.requires c.way.invariant (sym c.target.ensures ∙ c.in-Inner.is)).1)
 
 pub way-preserved : goal.way-preserved
-way-preserved c = λ heads layout h. end_way c.args.self.now heads layout c.args.address c.way.end c.in-Inner.branch c.index-links.result.now c.link.result h (sym c.target.ensures ∙ c.in-Inner.is) c.index-links.ensures (c.link.ensures ∙ ap (target_at c.index-links.result.now) c.digit_of.ensures.digit) (c.way.invariant heads layout h)
+way-preserved g c = λ heads layout h. end_way c.args.self.now heads layout c.args.address c.way.end c.in-Inner.branch c.index-links.result.now c.link.result h (sym c.target.ensures ∙ c.in-Inner.is) c.index-links.ensures (c.link.ensures ∙ ap (target_at c.index-links.result.now) c.digit_of.ensures.digit) (c.way.invariant heads layout h)

@@ -5,7 +5,7 @@ use Rattle.nibble_trie.proofs.Ways.{cell_spot}
 use Rattle.nibble_trie.proofs.index.Index.point.Goals as goal
 
 pub returns : goal.returns
-returns c = λ heads layout h way alone.
+returns g c = λ heads layout h way alone.
     let old = c.args.self.now in
     let new = c.write.new.self in
     let w = subst (λ t. Writes (is_live old) (is_live new) (link_at old) (link_at new) c.args.spot.at t) c.leaf.ensures c.write.ensures.writes in

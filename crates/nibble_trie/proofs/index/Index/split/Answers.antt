@@ -7,7 +7,7 @@ use Rattle.nibble_trie.proofs.Written.{splits_of, split_placed, inner_cell, one_
 use Rattle.nibble_trie.proofs.index.Index.split.Goals as goal
 
 pub returns-clause-placed : goal.returns-clause-placed
-returns-clause-placed c = λ heads layout other h way is has lies.
+returns-clause-placed g c = λ heads layout other h way is has lies.
     let old = c.args.self.now in
     let new = c.write.new.self in
     let spot = c.args.spot in
@@ -20,7 +20,7 @@ returns-clause-placed c = λ heads layout other h way is has lies.
     subst (Placed new heads c.args.address) (sym c.below.ensures) (split_placed old new heads layout spot c.args.address key c.args.standing other h way c.requires.deep has lies (spot.level - 1) (omega (arith, c.requires.deep)) s)
 
 pub returns-clause-cell : goal.returns-clause-cell
-returns-clause-cell c = λ other is.
+returns-clause-cell g c = λ other is.
     let old = c.args.self.now in
     let new = c.write.new.self in
     let spot = c.args.spot in

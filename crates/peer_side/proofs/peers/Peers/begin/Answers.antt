@@ -10,13 +10,13 @@ use Rattle.peer_side.proofs.StepLemmas.{begun_sound}
 use Rattle.peer_side.proofs.peers.Peers.begin.Goals as goal
 
 pub returns-clause-after : goal.returns-clause-after
-returns-clause-after c =
+returns-clause-after g c =
     on_ok_weaker c.push_entry-2.result
     (λ _. set_put c.self.inside.chains c.insert.new.self c.args.self.now c.args.number c.in_ok-chain.chain c.self.view_is c.in_ok-insert.ensures.updates ∙ ap (λ (x : Chained). put_chain c.args.number x c.args.self.now) c.in_ok-chain.ensures)
     c.push_entry-2.ensures
 
 pub returns-clause-leads : goal.returns-clause-leads
-returns-clause-leads c =
+returns-clause-leads g c =
     on_ok_weaker c.push_entry-2.result
     (λ _.
     let put = set_put c.self.inside.chains c.insert.new.self c.args.self.now c.args.number c.in_ok-chain.chain c.self.view_is c.in_ok-insert.ensures.updates ∙ ap (λ (x : Chained). put_chain c.args.number x c.args.self.now) c.in_ok-chain.ensures in
@@ -25,7 +25,7 @@ returns-clause-leads c =
     c.push_entry-2.ensures
 
 pub returns-clause-sound : goal.returns-clause-sound
-returns-clause-sound c =
+returns-clause-sound g c =
     on_ok_weaker c.push_entry-2.result
     (λ _.
     let put = set_put c.self.inside.chains c.insert.new.self c.args.self.now c.args.number c.in_ok-chain.chain c.self.view_is c.in_ok-insert.ensures.updates ∙ ap (λ (x : Chained). put_chain c.args.number x c.args.self.now) c.in_ok-chain.ensures in

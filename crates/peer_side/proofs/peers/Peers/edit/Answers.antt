@@ -5,10 +5,10 @@ use Rattle.peer_side.proofs.StepLemmas.{edited_inward}
 use Rattle.peer_side.proofs.peers.Peers.edit.Goals as goal
 
 pub unreachable-requires : goal.unreachable-requires
-unreachable-requires c = lent_none c.self.inside.chains c.args.self.now c.args.number c.self.view_is c.in_default.ensures.value c.requires.there
+unreachable-requires g c = lent_none c.self.inside.chains c.args.self.now c.args.number c.self.view_is c.in_default.ensures.value c.requires.there
 
 pub returns : goal.returns
-returns c =
+returns g c =
     let m = c.self.inside.chains in
     let a = c.args.self.now in
     let k = c.args.number in

@@ -7,16 +7,16 @@ use Rattle.peer_side.proofs.StepLemmas.{fed_adds}
 use Rattle.peer_side.proofs.peers.Peers.feed.Goals as goal
 
 pub unreachable-requires : goal.unreachable-requires
-unreachable-requires c = lent_none c.self.inside.chains c.args.self.now c.args.number c.self.view_is c.in_default.ensures.value c.requires.there
+unreachable-requires g c = lent_none c.self.inside.chains c.args.self.now c.args.number c.self.view_is c.in_default.ensures.value c.requires.there
 
 pub feed-requires-clause-chain : goal.feed-requires-clause-chain
-feed-requires-clause-chain c = (c.requires.sound c.args.number c.in-Some.chain.now (sym (c.in-Some.ensures.value ∙ read_at c.self.inside.chains c.args.self.now c.args.number c.self.view_is))).chain
+feed-requires-clause-chain g c = (c.requires.sound c.args.number c.in-Some.chain.now (sym (c.in-Some.ensures.value ∙ read_at c.self.inside.chains c.args.self.now c.args.number c.self.view_is))).chain
 
 pub feed-requires-clause-full : goal.feed-requires-clause-full
-feed-requires-clause-full c = (c.requires.sound c.args.number c.in-Some.chain.now (sym (c.in-Some.ensures.value ∙ read_at c.self.inside.chains c.args.self.now c.args.number c.self.view_is))).full
+feed-requires-clause-full g c = (c.requires.sound c.args.number c.in-Some.chain.now (sym (c.in-Some.ensures.value ∙ read_at c.self.inside.chains c.args.self.now c.args.number c.self.view_is))).full
 
 pub returns : goal.returns
-returns c =
+returns g c =
     let m = c.self.inside.chains in
     let a = c.args.self.now in
     let k = c.args.number in

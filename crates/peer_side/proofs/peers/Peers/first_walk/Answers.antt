@@ -6,11 +6,11 @@ use Rattle.peer_side.proofs.TaskLemmas.{first_on, none_left}
 use Rattle.peer_side.proofs.peers.Peers.first_walk.Goals as goal
 
 pub returns-clause-first : goal.returns-clause-first
-returns-clause-first c =
+returns-clause-first g c =
     let m = c.self.inside.chains in
     c.first_busy.ensures.first ∙ first_on c.args.self.now (values m) c.requires (values_in nat_cmp_total m c.args.self.now c.first_busy.ensures.ordered c.self.view_is)
 
 pub returns-clause-none : goal.returns-clause-none
-returns-clause-none c =
+returns-clause-none g c =
     let m = c.self.inside.chains in
     none_left c.turns_are_bounded.ensures.left c.args.self.now (values m) c.first_busy.result (values_in nat_cmp_total m c.args.self.now c.first_busy.ensures.ordered c.self.view_is) c.first_busy.ensures.first

@@ -6,6 +6,6 @@ use Rattle.peer_side.proofs.HeldLemmas.{first_walk_held}
 use Rattle.peer_side.proofs.peers.Peers.first_walk_at.Goals as goal
 
 pub returns : goal.returns
-returns c =
+returns g c =
     let m = c.self.inside.chains in
     c.first_walking.ensures.first ∙ first_walk_held c.args.self.now c.args.p (values m) c.requires (values_in nat_cmp_total m c.args.self.now c.first_walking.ensures.ordered c.self.view_is)

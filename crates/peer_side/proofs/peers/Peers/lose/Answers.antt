@@ -7,24 +7,24 @@ use Rattle.peer_side.proofs.StepLemmas.{may_lose_here, lost_adds}
 use Rattle.peer_side.proofs.peers.Peers.lose.Goals as goal
 
 pub unreachable-requires : goal.unreachable-requires
-unreachable-requires c = lent_none c.self.inside.chains c.args.self.now c.args.number c.self.view_is c.in_default.ensures.value (ap is_some c.requires.may.at)
+unreachable-requires g c = lent_none c.self.inside.chains c.args.self.now c.args.number c.self.view_is c.in_default.ensures.value (ap is_some c.requires.may.at)
 
 pub lose-requires-clause-chain : goal.lose-requires-clause-chain
-lose-requires-clause-chain c = (c.requires.sound c.args.number c.in-Some.chain.now (sym (c.in-Some.ensures.value ∙ read_at c.self.inside.chains c.args.self.now c.args.number c.self.view_is))).chain
+lose-requires-clause-chain g c = (c.requires.sound c.args.number c.in-Some.chain.now (sym (c.in-Some.ensures.value ∙ read_at c.self.inside.chains c.args.self.now c.args.number c.self.view_is))).chain
 
 pub lose-requires-clause-full : goal.lose-requires-clause-full
-lose-requires-clause-full c = (c.requires.sound c.args.number c.in-Some.chain.now (sym (c.in-Some.ensures.value ∙ read_at c.self.inside.chains c.args.self.now c.args.number c.self.view_is))).full
+lose-requires-clause-full g c = (c.requires.sound c.args.number c.in-Some.chain.now (sym (c.in-Some.ensures.value ∙ read_at c.self.inside.chains c.args.self.now c.args.number c.self.view_is))).full
 
 pub lose-requires-clause-room : goal.lose-requires-clause-room
-lose-requires-clause-room c =
+lose-requires-clause-room g c =
     (may_lose_here c.args.number c.args.session c.args.self.now c.in-Some.chain.now c.requires.may (sym (c.in-Some.ensures.value ∙ read_at c.self.inside.chains c.args.self.now c.args.number c.self.view_is))).0
 
 pub lose-requires-clause-later : goal.lose-requires-clause-later
-lose-requires-clause-later c =
+lose-requires-clause-later g c =
     (may_lose_here c.args.number c.args.session c.args.self.now c.in-Some.chain.now c.requires.may (sym (c.in-Some.ensures.value ∙ read_at c.self.inside.chains c.args.self.now c.args.number c.self.view_is))).1
 
 pub returns : goal.returns
-returns c =
+returns g c =
     let m = c.self.inside.chains in
     let a = c.args.self.now in
     let k = c.args.number in

@@ -8,20 +8,20 @@ use Rattle.peer_side.proofs.StepLemmas.{comes_inward}
 use Rattle.peer_side.proofs.peers.Peers.turn.Goals as goal
 
 pub returns-in_default : goal.returns-in_default
-returns-in_default c = (
+returns-in_default g c = (
   ap (has_turn_in c.args.task) (ap (λ n. chain_at n c.args.self.now) (sym c.peer_of.ensures) ∙ sym (c.in_default.ensures.value ∙ read_at c.self.inside.chains c.args.self.now c.peer_of.result c.self.view_is)),
   ap (λ x. from_entries {R = nat_cmp} x.entries) c.get_mut.follows.holds-at-none ∙ c.self.view_is,
   refl,
 )
 
 pub unit-requires-clause-chain : goal.unit-requires-clause-chain
-unit-requires-clause-chain c = (c.requires.sound c.peer_of.result c.in-Some.chain.now (sym (c.in-Some.ensures.value ∙ read_at c.self.inside.chains c.args.self.now c.peer_of.result c.self.view_is))).chain
+unit-requires-clause-chain g c = (c.requires.sound c.peer_of.result c.in-Some.chain.now (sym (c.in-Some.ensures.value ∙ read_at c.self.inside.chains c.args.self.now c.peer_of.result c.self.view_is))).chain
 
 pub unit-requires-clause-full : goal.unit-requires-clause-full
-unit-requires-clause-full c = (c.requires.sound c.peer_of.result c.in-Some.chain.now (sym (c.in-Some.ensures.value ∙ read_at c.self.inside.chains c.args.self.now c.peer_of.result c.self.view_is))).full
+unit-requires-clause-full g c = (c.requires.sound c.peer_of.result c.in-Some.chain.now (sym (c.in-Some.ensures.value ∙ read_at c.self.inside.chains c.args.self.now c.peer_of.result c.self.view_is))).full
 
 pub returns : goal.returns
-returns c =
+returns g c =
     let m = c.self.inside.chains in
     let a = c.args.self.now in
     let k = c.peer_of.result in

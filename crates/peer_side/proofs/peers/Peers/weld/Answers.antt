@@ -7,16 +7,16 @@ use Rattle.peer_side.proofs.StepLemmas.{weld_adds}
 use Rattle.peer_side.proofs.peers.Peers.weld.Goals as goal
 
 pub unreachable-requires : goal.unreachable-requires
-unreachable-requires c = lent_none c.self.inside.chains c.args.self.now c.args.number c.self.view_is c.in_default.ensures.value c.requires.there
+unreachable-requires g c = lent_none c.self.inside.chains c.args.self.now c.args.number c.self.view_is c.in_default.ensures.value c.requires.there
 
 pub weld-requires-clause-chain : goal.weld-requires-clause-chain
-weld-requires-clause-chain c = (c.requires.sound.own c.in-Some.fallen.now (sym (c.in-Some.ensures.value ∙ read_at c.self.inside.chains c.args.self.now c.args.number c.self.view_is))).chain
+weld-requires-clause-chain g c = (c.requires.sound.own c.in-Some.fallen.now (sym (c.in-Some.ensures.value ∙ read_at c.self.inside.chains c.args.self.now c.args.number c.self.view_is))).chain
 
 pub weld-requires-clause-one_empty : goal.weld-requires-clause-one_empty
-weld-requires-clause-one_empty c = (c.requires.sound.own c.in-Some.fallen.now (sym (c.in-Some.ensures.value ∙ read_at c.self.inside.chains c.args.self.now c.args.number c.self.view_is))).one_empty
+weld-requires-clause-one_empty g c = (c.requires.sound.own c.in-Some.fallen.now (sym (c.in-Some.ensures.value ∙ read_at c.self.inside.chains c.args.self.now c.args.number c.self.view_is))).one_empty
 
 pub returns : goal.returns
-returns c =
+returns g c =
     let m = c.self.inside.chains in
     let a = c.args.self.now in
     let k = c.args.number in

@@ -7,7 +7,7 @@ use Rattle.redist.specs.Local.{redistributed}
 use Rattle.redist.proofs.stage.Redist.take_in.Goals as goal
 
 pub returns-clause-sent : goal.returns-clause-sent
-returns-clause-sent c =
+returns-clause-sent g c =
     let me = c.args.me.now in
     let p = c.args.change.prefix in
     let pass = c.args.self.now in

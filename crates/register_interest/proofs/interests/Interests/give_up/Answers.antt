@@ -3,4 +3,4 @@ use Rattle.register_interest.proofs.InterestLemmas.{interests_total, exact_inter
 use Rattle.register_interest.proofs.interests.Interests.give_up.Goals as goal
 
 pub returns : goal.returns
-returns c = map_removed interests_total exact_interests c.self.inside.kept c.remove.new.self c.args.self.now c.args.interest.now c.self.view_is c.remove.ensures.updates.0
+returns g c = map_removed interests_total exact_interests c.self.inside.kept c.remove.new.self c.args.self.now c.args.interest.now c.self.view_is c.remove.ensures.updates.0

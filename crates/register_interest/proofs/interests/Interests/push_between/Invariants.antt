@@ -5,4 +5,4 @@ use Rattle.register_interest.proofs.InterestLemmas.{IsHitsOf}
 use Rattle.register_interest.proofs.interests.Interests.push_between.Given as goal
 
 abbrev pub invariant-loop-interest : goal.invariant-loop-interest
-invariant-loop-interest l = IsHitsOf width l.prefix (map deref_pair l.yielded) l.fn.out.items l.out.items
+invariant-loop-interest g l = IsHitsOf width l.prefix (map deref_pair l.yielded) l.fn.out.items l.out.items

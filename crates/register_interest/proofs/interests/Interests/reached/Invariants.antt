@@ -6,4 +6,4 @@ use Rattle.register_interest.proofs.InterestLemmas.{IsAbove}
 use Rattle.register_interest.proofs.interests.Interests.reached.Given as goal
 
 abbrev pub invariant-loop-length : goal.invariant-loop-length
-invariant-loop-length l = Appends width l.prefix (map.get l.self) (IsAbove width l.prefix l.length) [] l.out.items
+invariant-loop-length g l = Appends width l.prefix (map.get l.self) (IsAbove width l.prefix l.length) [] l.out.items

@@ -2,7 +2,7 @@ use Rattle.std.proofs.Common.{Option, sym, ap, ◌∙◌}
 use Rattle.std.specs.FinMap as map
 use Rattle.link_change.specs.Rows.{with_row}
 use Rattle.link_change.proofs.RowLemmas.{rows_inserted, rows_removed}
-use Rattle.bgp_attr.specs.declared.route.Route.{Route}
+use Rattle.bgp_attr.specs.Routes.{Route}
 use Rattle.bench_rows.proofs.Branches.{set_rows}
 use Rattle.bench_rows.proofs.decisions.branches.TableBranches.set.Goals as goal
 

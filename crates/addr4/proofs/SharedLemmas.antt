@@ -7,7 +7,7 @@ use Rattle.std.specs.Int.Count.{count_leading_zeros}
 use Rattle.std.proofs.lemmas.Nat.Bits.{same_from_bits, bit_at_xor, bit_at-zero}
 use Rattle.std.specs.Int.{bit_at}
 use Rattle.std.specs.Int.Bits.{xor_self}
-use Rattle.register_interest.specs.Search.{Shared}
+use Rattle.addr4.specs.Blocks.{Shared}
 
 bits_same : (x y : ℕ) → x < 2 → y < 2 → (x + y) % 2 ≡ 0 → x ≡ y
 bits_same x y a b e = omega arith
