@@ -1,0 +1,4 @@
+pub mod TextLemmas
+pub mod GroupLemmas
+pub mod AddrLemmas
+pub mod PrintedLemmas
