@@ -4,7 +4,7 @@ use Rattle.std.specs.Prelude.{filter, Contains, AllPairs, IsPermutation}
 use Rattle.std.specs.List.{list_any}
 use Rattle.std.proofs.lemmas.List.Kept.{AllPairs-filter}
 use Rattle.std.proofs.lemmas.List.Sorted.{Contains-permutation, IsPermutation-sym}
-use Rattle.bgp_attr.specs.declared.route.Route.{Route}
+use Rattle.bgp_attr.specs.Routes.{Route}
 use Rattle.best_path.specs.declared.step.Step.{Step}
 use Rattle.best_path.specs.declared.step.Step.TheVariants.{Address}
 use Rattle.best_path.specs.Keys.{is_local, peer_address, candidate_of}

@@ -1,7 +1,7 @@
 -- What is picked.
 use Rattle.std.proofs.Common.{◌≡◌, ℕ, zero, suc, ◌<◌, List, [], ◌∷◌, length, slice_get, Option, Some, None, sym, ◌∙◌, ap, arith}
 use Rattle.std.specs.Prelude.{filter}
-use Rattle.bgp_attr.specs.declared.route.Route.{Route}
+use Rattle.bgp_attr.specs.Routes.{Route}
 use Rattle.best_path.specs.Keys.{is_local}
 use Rattle.best_path.specs.Places.{first_of, IsPlaceOfFirst}
 use Rattle.best_path.specs.Steps.{left_by_all, local_or, IsPlaceOfBest}

@@ -1,7 +1,7 @@
 -- Laws of the decision.
 use Rattle.std.specs.Prelude.{◌≡◌, ◌≢◌, ◌≤◌, false, List, [], ◌∷◌, length, filter, Contains, All, AllPairs, IsPermutation, Some, None}
 use Rattle.bgp_attr.specs.Reflections.{not_reflected}
-use Rattle.bgp_attr.specs.declared.route.Route.{Route}
+use Rattle.bgp_attr.specs.Routes.{Route}
 use Rattle.best_path.specs.Keys.{is_local, peer_address}
 use Rattle.best_path.specs.Steps.{left_by_all, pick, left_by_eight, pick_by_eight}
 

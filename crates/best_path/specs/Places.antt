@@ -1,6 +1,6 @@
 -- The first of a list, and its place.
 use Rattle.std.specs.Prelude.{◌≡◌, ◌<◌, ℕ, List, [], ◌∷◌, length, map, filter, slice_get, Option, Some, None}
-use Rattle.bgp_attr.specs.declared.route.Route.{Route}
+use Rattle.bgp_attr.specs.Routes.{Route}
 use Rattle.best_path.specs.declared.candidate.Candidate.{Candidate}
 use Rattle.best_path.specs.Keys.{is_local, candidate_of}
 

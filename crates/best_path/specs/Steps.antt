@@ -2,7 +2,7 @@
 -- list that the one before left.
 use Rattle.std.specs.Prelude.{◌≡◌, ◌<◌, ℕ, length, slice_get, Bool, not, ◌&&◌, nat_lt, nat_eq, List, [], ◌∷◌, filter, Option, Some, None, true, false}
 use Rattle.std.specs.List.{list_any}
-use Rattle.bgp_attr.specs.declared.route.Route.{Route}
+use Rattle.bgp_attr.specs.Routes.{Route}
 use Rattle.best_path.specs.declared.candidate.Candidate.{Candidate}
 use Rattle.best_path.specs.declared.step.Step.{Step}
 use Rattle.best_path.specs.declared.step.Step.TheVariants.{Preference, PathLength, Origin, Med, External, InteriorMetric, Identifier, ClusterCount, Address}

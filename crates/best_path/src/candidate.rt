@@ -3,8 +3,8 @@
 ghost use Rattle.std.specs.Prelude.{◌≡◌};
 ghost use Rattle.best_path.specs.Keys.{neighbour_as, origin_rank, candidate_of};
 
-use addr4::Addr;
-use bgp_attr::{Origin, Route};
+use addr4::{Addr, Family, RouterId};
+use bgp_attr::{Origin, Route, SharedAttrs};
 use std::mem::size_of;
 
 /// What the decision compares of a route; made of one by [`Candidate::of`]. That a route is local decides alone: of a local
@@ -24,7 +24,7 @@ pub struct Candidate {
     /// The interior metric of the next hop, 0 where it isn't known.
     pub(crate) igp: u32,
     /// ORIGINATOR_ID, or the peer's BGP identifier where there is none (RFC 4456, section 9).
-    pub(crate) id: Addr,
+    pub(crate) id: RouterId,
     /// The peer's address.
     pub(crate) addr: Addr,
     pub(crate) origin: Origin,
@@ -39,7 +39,7 @@ const _: () = prove!(size_of::<Candidate>() <= 64);
 
 impl Candidate {
     /// The candidate that a route is.
-    pub fn of(route: &Route) -> Candidate
+    pub fn of<F: Family>(route: &Route<SharedAttrs<F>>) -> Candidate
         ensures { result ≡ candidate_of route.now }
     {
         let attrs = route.attrs.attrs();
@@ -52,9 +52,9 @@ impl Candidate {
             med: route.med.unwrap_or(0),
             internal: false,
             igp: route.igp.unwrap_or(0),
-            id: Addr::new(0),
+            id: RouterId::new(0),
             clusters: attrs.reflection.clusters().len() as u64,
-            addr: Addr::new(0),
+            addr: Addr::unspecified(),
         };
         if let Some(peer) = route.from {
             candidate.local = false;
@@ -78,7 +78,7 @@ impl Candidate {
 }
 
 // The neighbour AS of a route; 0 of a local one.
-fn neighbour_as(route: &Route) -> u32
+fn neighbour_as<F: Family>(route: &Route<SharedAttrs<F>>) -> u32
     ensures { result ≡ neighbour_as route.now }
 {
     match route.from {

@@ -6,7 +6,7 @@
 
 ghost use Rattle.std.specs.Prelude.{◌≡◌, ◌≤◌, ◌<◌, ◌&&◌, true, List, None, length, map, MatchOption};
 ghost use Rattle.std.specs.Option.{option_copied, option_map_or};
-ghost use Rattle.bgp_attr.specs.declared.route.Route.{Route};
+ghost use Rattle.bgp_attr.specs.Routes.{Route};
 ghost use Rattle.best_path.specs.Keys.{candidate_of};
 ghost use Rattle.best_path.specs.Steps.{left_by_all, IsPlaceOfBest};
 ghost use Rattle.best_path.specs.Leaders.{Leads, first_steps, last_steps, goes_before, is_taken_out, is_left, has_local};

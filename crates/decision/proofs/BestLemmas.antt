@@ -3,10 +3,10 @@ use Rattle.std.proofs.Common.{◌≡◌, ℕ, if◌then◌else◌, Option, refl,
 use Rattle.addr4.specs.Prefixes.{AddressPrefix}
 use Rattle.link_change.specs.Rows.{Rows, computed_rows}
 use Rattle.link_change.specs.Changes.{IsSent, IsChangeOf}
-use Rattle.link_change.specs.declared.change.Change.{Change}
+use Rattle.link_change.specs.Changes.{Change}
 use Rattle.link_change.proofs.RowLemmas.{same_function}
 use Rattle.link_change.proofs.ChangeLemmas.{computes_on}
-use Rattle.bgp_attr.specs.declared.route.Route.{Route}
+use Rattle.bgp_attr.specs.Routes.{Route}
 use Rattle.best_path.specs.Steps.{pick}
 use Rattle.decision.specs.Branches.{AllRows, best_rows, OthersStay, Decides}
 use Rattle.decision.specs.Lineups.{at_prefix, routes_of, with_own}

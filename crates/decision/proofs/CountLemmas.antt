@@ -10,7 +10,7 @@ use Rattle.link_change.proofs.RowLemmas.{same_function}
 use Rattle.link_change.specs.Rows.{Rows, Candidates, IsNextCandidate, CoversRows}
 use Rattle.best_path.specs.Steps.{pick}
 use Rattle.decision.specs.Branches.{AllRows, best_rows, best_candidates}
-use Rattle.bgp_attr.specs.declared.route.Route.{Route}
+use Rattle.bgp_attr.specs.Routes.{Route}
 use Rattle.decision.specs.Lineups.{at_prefix, chosen}
 use Rattle.decision.specs.Contests.{Contest, kept, count_from, counted, walkers_in, CountsAt, Counts, Moves, HasMove, Updated, Knows, KnowsAt, winner_in, won_rows}
 use Rattle.decision.specs.Laws.{NoCandidateWhereNoneIsCounted, SomethingIsKnown}

@@ -7,9 +7,9 @@ use Rattle.addr4.specs.Prefixes.{AddressPrefix, prefix_cmp}
 use Rattle.addr4.proofs.PrefixOrder.{by_prefix}
 use Rattle.link_change.specs.Rows.{Rows, Candidates}
 use Rattle.link_change.specs.Changes.{IsSent}
-use Rattle.link_change.specs.declared.change.Change.{Change}
+use Rattle.link_change.specs.Changes.{Change}
 use Rattle.link_change.proofs.RowLemmas.{same_function, with_row_here}
-use Rattle.bgp_attr.specs.declared.route.Route.{Route}
+use Rattle.bgp_attr.specs.Routes.{Route}
 use Rattle.best_path.specs.Steps.{pick}
 use Rattle.decision.specs.declared.lineup.Lineup.{Lineup}
 use Rattle.decision.specs.Branches.{AllRows, OthersStay, best_rows}

@@ -1,7 +1,7 @@
 -- The laws of the best rows.
 use Rattle.std.proofs.Common.{◌≡◌, ℕ, zero, suc, ◌+◌, ◌<◌, ◌⊎◌, List, [], ◌∷◌, ◌++◌, Option, Some, None, refl, sym, ◌∙◌, ap, subst, arith, inl, inr}
 use Rattle.std.specs.List.{cons_option}
-use Rattle.bgp_attr.specs.declared.route.Route.{Route}
+use Rattle.bgp_attr.specs.Routes.{Route}
 use Rattle.best_path.specs.Steps.{pick}
 use Rattle.best_path.proofs.StepLemmas.{Has}
 use Rattle.best_path.proofs.LawLemmas.{contains_has, pick_is_one_of_them, none_only_of_nothing}

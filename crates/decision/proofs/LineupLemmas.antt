@@ -9,7 +9,7 @@ use Rattle.std.specs.Slice.{IsItemAt}
 use Rattle.std.proofs.lemmas.Option.{slice_get_past, slice_get-get_or}
 use Rattle.std.proofs.lemmas.List.Elements.{filter_map-append}
 use Rattle.std.proofs.lemmas.Bool.Decides.{nat_tests}
-use Rattle.bgp_attr.specs.declared.route.Route.{Route}
+use Rattle.bgp_attr.specs.Routes.{Route}
 use Rattle.best_path.specs.Steps.{pick}
 use Rattle.best_path.proofs.LawLemmas.{one_is_its_own_best}
 use Rattle.decision.specs.Lineups.{routes_of, with_own, chosen, candidate_at}

@@ -7,7 +7,7 @@ use Rattle.std.proofs.lemmas.List.Edits.{insert_end, insert-append_left, remove-
 use Rattle.std.proofs.lemmas.List.Recursion.{is_position_or_len}
 use Rattle.std.proofs.lemmas.List.Sums.{prefix_len-le-length}
 use Rattle.std.proofs.lemmas.Bool.Decides.{nat_tests}
-use Rattle.bgp_attr.specs.declared.route.Route.{Route}
+use Rattle.bgp_attr.specs.Routes.{Route}
 use Rattle.best_path.specs.declared.candidate.Candidate.{Candidate}
 use Rattle.best_path.specs.Keys.{candidate_of}
 use Rattle.decision.specs.declared.lineup.Lineup.{Lineup}

@@ -4,8 +4,8 @@ use Rattle.std.specs.List.{filter_map, range_with_len, list_any}
 use Rattle.addr4.specs.Prefixes.{AddressPrefix}
 use Rattle.link_change.specs.Rows.{Rows, Candidates}
 use Rattle.link_change.specs.Changes.{IsSent}
-use Rattle.link_change.specs.declared.change.Change.{Change}
-use Rattle.bgp_attr.specs.declared.route.Route.{Route}
+use Rattle.link_change.specs.Changes.{Change}
+use Rattle.bgp_attr.specs.Routes.{Route}
 use Rattle.best_path.specs.Steps.{pick}
 
 -- the rows of each branch, by its number

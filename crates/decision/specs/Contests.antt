@@ -6,8 +6,8 @@ use Rattle.std.specs.FinMap.{FinMap}
 use Rattle.addr4.specs.Prefixes.{AddressPrefix, prefix_cmp}
 use Rattle.link_change.specs.Rows.{Rows, Candidates}
 use Rattle.link_change.specs.Changes.{IsSent}
-use Rattle.link_change.specs.declared.change.Change.{Change}
-use Rattle.bgp_attr.specs.declared.route.Route.{Route}
+use Rattle.link_change.specs.Changes.{Change}
+use Rattle.bgp_attr.specs.Routes.{Route}
 use Rattle.best_path.specs.Steps.{pick}
 use Rattle.decision.specs.declared.lineup.Lineup.{Lineup}
 use Rattle.decision.specs.declared.contest.Mark.{Mark}

@@ -1,7 +1,7 @@
 -- Whose row is the best before a change of one branch's row, and after it.
 use Rattle.std.specs.Prelude.{◌≡◌, ℕ, Option, MatchOption}
-use Rattle.link_change.specs.declared.change.Change.{Change}
-use Rattle.bgp_attr.specs.declared.route.Route.{Route}
+use Rattle.link_change.specs.Changes.{Change}
+use Rattle.bgp_attr.specs.Routes.{Route}
 use Rattle.best_path.specs.Steps.{pick}
 use Rattle.decision.specs.declared.winners.Winners.{Winners}
 use Rattle.decision.specs.Lineups.{with_own, routes_of, chosen}

@@ -6,47 +6,47 @@ ghost use Rattle.decision.specs.Contests.{won_rows, kept};
 
 use crate::branches::Branches;
 use crate::contests::Contests;
-use addr4::{Memory, Place, Prefix};
-use bgp_attr::Route;
+use addr4::{Family, Memory, Place, Prefix, V4};
+use bgp_attr::{Route, SharedAttrs};
 use link_change::Upstream;
 
 /// The link `best`: the best route at each prefix over these branches, by what is known of them. The branch whose row it is is
 /// asked for it, and no other; a walk asks none. [`Contests::best`] makes it.
 #[derive(Drop)]
-pub struct Best<'a, B: Branches> {
+pub struct Best<'a, B: Branches<F>, F: Family = V4> {
     pub all: &'a B,
-    pub(crate) contests: &'a Contests,
+    pub(crate) contests: &'a Contests<F>,
     ghost known: { won_rows contests.now (B.rows all.now) ≡ best_rows (B.rows all.now) },
     ghost counted: { kept contests.now ≡ best_candidates (B.candidates all.now) },
 }
 
-impl<'a, B: Branches> Best<'a, B> {
+impl<'a, B: Branches<F>, F: Family> Best<'a, B, F> {
     ghost use Rattle.decision.specs.Lineups.{at_prefix, chosen};
 
     /// The branch whose row is the best one at a prefix: where one is answered its row there is the best one, if it has one, and
     /// where none is answered no branch has a row.
-    pub fn winner(&self, p: &Prefix) -> Option<u8>
+    pub fn winner(&self, p: &Prefix<F>) -> Option<u8>
         ensures { best_rows (B.rows self.now.all.now) p.now ≡ chosen (at_prefix (B.rows self.now.all.now) p.now) result }
     {
         self.contests.winner(p)
     }
 }
 
-impl<'a, B: Branches> Upstream for Best<'a, B> {
-    type Row = Route;
+impl<'a, B: Branches<F>, F: Family> Upstream<F> for Best<'a, B, F> {
+    type Row = Route<SharedAttrs<F>>;
 
     ghost rows = { λ s. best_rows (B.rows s.all.now) };
 
     ghost candidates = { λ s. best_candidates (B.candidates s.all.now) };
 
-    fn asked(&self, p: &Prefix) -> Result<Option<Route>, Memory> {
+    fn asked(&self, p: &Prefix<F>) -> Result<Option<Route<SharedAttrs<F>>>, Memory> {
         match self.contests.winner(p) {
             None => Ok(None),
             Some(number) => self.all.asked(number, p),
         }
     }
 
-    fn next_candidate(&self, after: &Place) -> Option<Prefix> {
+    fn next_candidate(&self, after: &Place<Prefix<F>>) -> Option<Prefix<F>> {
         self.contests.next_kept(after)
     }
 }

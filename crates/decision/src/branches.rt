@@ -2,25 +2,25 @@
 
 ghost use Rattle.std.specs.Prelude.{◌≡◌, IfOk, is_some, ℕ};
 ghost use Rattle.link_change.specs.Rows.{Rows, Candidates};
-ghost use Rattle.bgp_attr.specs.declared.route.Route.{Route};
+ghost use Rattle.bgp_attr.specs.Routes.{Route as Routed};
 
-use addr4::{Memory, Prefix};
-use bgp_attr::Route;
+use addr4::{Family, Memory, Prefix};
+use bgp_attr::{Route, SharedAttrs};
 
 /// All branches above the decision as they are now, by number: 0 has the local routes, 1 to 64 those of the peers. The decision
 /// knows where each has a candidate and whose row is the best ([`Contests`](crate::Contests)); a branch is asked for a row alone.
-pub trait Branches {
+pub trait Branches<F: Family> {
     /// The rows that stand on the last link of each branch.
-    ghost rows: { Self → ℕ → Rows Route };
+    ghost rows: { Self → ℕ → Rows Routed };
 
     /// The prefixes that a walk of each branch goes to; some may have no row.
     ghost candidates: { Self → ℕ → Candidates };
 
     /// The row of a branch at a prefix.
-    fn asked(&self, branch: u8, p: &Prefix) -> Result<Option<Route>, Memory>
+    fn asked(&self, branch: u8, p: &Prefix<F>) -> Result<Option<Route<SharedAttrs<F>>>, Memory>
         ensures { IfOk result (λ row. row ≡ rows self.now branch p.now) };
 
     /// Whether a branch has a row at a prefix. Takes no memory.
-    fn has(&self, branch: u8, p: &Prefix) -> bool
+    fn has(&self, branch: u8, p: &Prefix<F>) -> bool
         ensures { result ≡ is_some (rows self.now branch p.now) };
 }

@@ -3,7 +3,7 @@
 ghost use Rattle.std.specs.Prelude.{◌≡◌, ◌≢◌, ◌<◌, ◌+◌, ℕ, Option, Some, None, MatchOption, true, false, cond, length, IfOk, OnOk};
 ghost use Rattle.std.specs.FinMap as tables;
 ghost use Rattle.addr4.specs.Prefixes.{AddressPrefix};
-ghost use Rattle.bgp_attr.specs.declared.route.Route.{Route};
+ghost use Rattle.bgp_attr.specs.Routes.{Route as Routed};
 ghost use Rattle.decision.specs.Lineups.{IsLine, at_prefix, with_own, number_at};
 ghost use Rattle.decision.specs.Wins.{Win, WinBoth};
 ghost use Rattle.decision.specs.Contests.{IsContest, OnlyWinner, HasNoOther, contest_of};
@@ -11,9 +11,9 @@ ghost use Rattle.decision.specs.Contests.{IsContest, OnlyWinner, HasNoOther, con
 use crate::branches::Branches;
 use crate::lineup::Lineup;
 use crate::winners::Winners;
-use addr4::{Memory, Prefix};
+use addr4::{Family, Memory, Prefix};
 use best_path::Candidate;
-use bgp_attr::Route;
+use bgp_attr::{Route, SharedAttrs};
 use link_change::Change;
 use nibble_trie::{Node, Trie};
 use std::alloc::Global;
@@ -41,7 +41,7 @@ pub(crate) fn moved(walkers: u8, comes: bool) -> u8
 }
 
 // The branch, if it has a row.
-fn own_winner(branch: u8, row: &Option<Route>) -> Option<u8>
+fn own_winner<F: Family>(branch: u8, row: &Option<Route<SharedAttrs<F>>>) -> Option<u8>
     ensures { result ≡ number_at row.now branch }
 {
     match row {
@@ -52,11 +52,11 @@ fn own_winner(branch: u8, row: &Option<Route>) -> Option<u8>
 
 // The line of the other branch, where one branch alone may have a row before a change, and it is another one: it is asked for
 // its row.
-fn line_of_other<B: Branches>(
+fn line_of_other<F: Family, B: Branches<F>>(
     alloc: Global,
     winner: Option<u8>,
     branch: u8,
-    change: &Change<Route>,
+    change: &Change<Route<SharedAttrs<F>>, Prefix<F>>,
     all: &B,
 ) -> Result<Option<Lineup>, Memory>
     requires only { OnlyWinner (with_own branch change.now.before (at_prefix (B.rows all.now) change.now.prefix)) winner }
@@ -79,11 +79,11 @@ fn line_of_other<B: Branches>(
 }
 
 // A change of a branch's row where the candidates of all are in line. Where one is left, it is the winner's.
-fn decide_in_line<B: Branches>(
+fn decide_in_line<F: Family, B: Branches<F>>(
     mark: &mut Mark,
     line: &mut Lineup,
     branch: u8,
-    change: &Change<Route>,
+    change: &Change<Route<SharedAttrs<F>>, Prefix<F>>,
     all: &B,
 ) -> Result<Winners, Memory>
     requires small { branch < 65 }
@@ -101,12 +101,12 @@ fn decide_in_line<B: Branches>(
 }
 
 // The same where no line is kept: where another branch has a row too, one is made.
-fn decide_alone<B: Branches>(
+fn decide_alone<F: Family, B: Branches<F>>(
     alloc: Global,
     mark: &mut Mark,
-    lines: &mut Trie<Lineup>,
+    lines: &mut Trie<Lineup, F>,
     branch: u8,
-    change: &Change<Route>,
+    change: &Change<Route<SharedAttrs<F>>, Prefix<F>>,
     all: &B,
 ) -> Result<Option<Winners>, Memory>
     requires small { branch < 65 }
@@ -130,12 +130,12 @@ fn decide_alone<B: Branches>(
 
 /// What is known at the prefix of a change of a branch's row, by what was known before it; and who wins before it and after, where
 /// another branch has a row. The branches are lent as they are after the change. One is asked where it alone had a row.
-pub(crate) fn decide<B: Branches>(
+pub(crate) fn decide<F: Family, B: Branches<F>>(
     alloc: Global,
     mark: &mut Mark,
-    lines: &mut Trie<Lineup>,
+    lines: &mut Trie<Lineup, F>,
     branch: u8,
-    change: &Change<Route>,
+    change: &Change<Route<SharedAttrs<F>>, Prefix<F>>,
     all: &B,
 ) -> Result<Option<Winners>, Memory>
     requires small { branch < 65 }

@@ -13,8 +13,8 @@ use crate::branches::Branches;
 use crate::contest::{Mark, decide, moved};
 use crate::lineup::Lineup;
 use crate::winners::won_by;
-use addr4::{Memory, Place, Prefix};
-use bgp_attr::Route;
+use addr4::{Family, Memory, Place, Prefix, V4};
+use bgp_attr::{Route, SharedAttrs};
 use link_change::Change;
 use nibble_trie::Trie;
 use std::alloc::Global;
@@ -23,13 +23,13 @@ use std::marker::Model;
 /// What is known of the branches at each prefix where one has a candidate: how many have one, the branch whose row is the best,
 /// and where several have a row the candidates of all. Contracts see it as a finite map.
 #[derive(Drop)]
-pub struct Contests {
+pub struct Contests<F: Family = V4> {
     alloc: Global,
-    marks: Trie<Mark>,
-    lines: Trie<Lineup>,
+    marks: Trie<Mark, F>,
+    lines: Trie<Lineup, F>,
 }
 
-impl Model for Contests {
+impl<F: Family> Model for Contests<F> {
     ghost use Rattle.std.specs.FinMap.{FinMap};
     ghost use Rattle.std.specs.FinMap as tables;
     ghost use Rattle.addr4.specs.Prefixes.{prefix_cmp, address_prefix_code};
@@ -46,7 +46,7 @@ impl Model for Contests {
 }
 
 // Puts a mark at a prefix.
-fn keep(marks: &mut Trie<Mark>, prefix: Prefix, mark: Mark) -> Result<(), Memory>
+fn keep<F: Family>(marks: &mut Trie<Mark, F>, prefix: Prefix<F>, mark: Mark) -> Result<(), Memory>
     ensures ok { OnOk result (marks.new.rows ≡ tables.insert marks.old.rows prefix mark) }
     ensures memory { OnErr result (marks.new.rows ≡ marks.old.rows) }
 {
@@ -56,9 +56,9 @@ fn keep(marks: &mut Trie<Mark>, prefix: Prefix, mark: Mark) -> Result<(), Memory
     }
 }
 
-impl Contests {
+impl<F: Family> Contests<F> {
     /// No branch has a row, nor a candidate. Takes no memory.
-    pub fn new(alloc: Global) -> Contests
+    pub fn new(alloc: Global) -> Contests<F>
         ensures known { (rows : AllRows) → ((b : ℕ) (q : AddressPrefix) → b < 65 → rows b q ≡ None) → Knows result rows }
         ensures counts { (candidates : ℕ → Candidates) → ((b : ℕ) (q : AddressPrefix) → b < 65 → candidates b q ≡ false) → Counts result candidates }
     {
@@ -72,12 +72,12 @@ impl Contests {
     /// A change of one branch's rows, as it goes on below: the change of the best route at its prefix. The branches are lent as
     /// they are after the change; another one is asked where it alone has a row there, and the one whose row is sent again. None
     /// comes exactly where the best route stays the same, Memory only for want of memory.
-    pub fn take_in<B: Branches>(
+    pub fn take_in<B: Branches<F>>(
         &mut self,
         branch: u8,
-        change: Change<Route>,
+        change: Change<Route<SharedAttrs<F>>, Prefix<F>>,
         all: &B,
-    ) -> Result<Option<Change<Route>>, Memory>
+    ) -> Result<Option<Change<Route<SharedAttrs<F>>, Prefix<F>>>, Memory>
         requires small { branch < 65 }
         requires known { KnowsBefore branch self.old (B.rows all.now) change }
         requires there { IsSome (tables.get self.old change.prefix) }
@@ -96,7 +96,11 @@ impl Contests {
     }
 
     /// The best route at a prefix; none where no branch has one. The branch whose row it is is asked for it, and no other.
-    pub fn asked<B: Branches>(&self, all: &B, prefix: &Prefix) -> Result<Option<Route>, Memory>
+    pub fn asked<B: Branches<F>>(
+        &self,
+        all: &B,
+        prefix: &Prefix<F>,
+    ) -> Result<Option<Route<SharedAttrs<F>>>, Memory>
         requires { Knows self.now (B.rows all.now) }
         ensures { IfOk result (λ row. row ≡ best_rows (B.rows all.now) prefix.now) }
     {
@@ -107,7 +111,7 @@ impl Contests {
     }
 
     /// Whether there is a best route at a prefix. Takes no memory.
-    pub fn has<B: Branches>(&self, all: &B, prefix: &Prefix) -> bool
+    pub fn has<B: Branches<F>>(&self, all: &B, prefix: &Prefix<F>) -> bool
         requires { Knows self.now (B.rows all.now) }
         ensures { result ≡ is_some (best_rows (B.rows all.now) prefix.now) }
     {
@@ -119,7 +123,7 @@ impl Contests {
 
     /// A candidate of a branch comes at a prefix, or goes. What was known of rows stays known, where a prefix that loses its last
     /// candidate has none. Memory only for want of memory.
-    pub fn note(&mut self, prefix: Prefix, comes: bool) -> Result<(), Memory>
+    pub fn note(&mut self, prefix: Prefix<F>, comes: bool) -> Result<(), Memory>
         requires { HasMove prefix comes self.old }
         ensures counts { OnOk result ((branch : ℕ) (before now : ℕ → Candidates) → Moves branch prefix comes before now → Counts self.old before → Counts self.new now) }
         ensures known { OnOk result ((rows : AllRows) (candidates : ℕ → Candidates) → Counts self.new candidates → CoversAt candidates rows prefix → Knows self.old rows → Knows self.new rows) }
@@ -136,7 +140,7 @@ impl Contests {
     }
 
     /// The least prefix beyond a place at which a branch has a candidate. Every best route stands at one.
-    pub fn next_candidate(&self, after: &Place) -> Option<Prefix>
+    pub fn next_candidate(&self, after: &Place<Prefix<F>>) -> Option<Prefix<F>>
         ensures next { (candidates : ℕ → Candidates) → Counts self.now candidates → IsNextCandidate (best_candidates candidates) (key_of after.now) result }
         ensures covers { (candidates : ℕ → Candidates) (rows : AllRows) → Counts self.now candidates → Knows self.now rows → CoversRows (best_candidates candidates) (best_rows rows) }
     {
@@ -144,7 +148,7 @@ impl Contests {
     }
 
     /// The link `best` over the branches that are known.
-    pub fn best<'a, B: Branches>(&'a self, all: &'a B) -> Best<'a, B>
+    pub fn best<'a, B: Branches<F>>(&'a self, all: &'a B) -> Best<'a, B, F>
         requires known { Knows self.now (B.rows all.now) }
         requires counted { Counts self.now (B.candidates all.now) }
         ensures { result.all.now ≡ all.now }
@@ -156,7 +160,7 @@ impl Contests {
     }
 
     /// The least prefix beyond a place at which something is known.
-    pub(crate) fn next_kept(&self, after: &Place) -> Option<Prefix>
+    pub(crate) fn next_kept(&self, after: &Place<Prefix<F>>) -> Option<Prefix<F>>
         ensures { IsNextRow (tables.get self.now) (key_of after.now) result }
     {
         match self.marks.next_row(*after) {
@@ -166,7 +170,7 @@ impl Contests {
     }
 
     /// The branch whose row is the best.
-    pub(crate) fn winner(&self, prefix: &Prefix) -> Option<u8>
+    pub(crate) fn winner(&self, prefix: &Prefix<F>) -> Option<u8>
         ensures { result ≡ winner_in (tables.get self.now prefix.now) }
     {
         match self.marks.get(*prefix) {
@@ -176,7 +180,7 @@ impl Contests {
     }
 
     // The first candidate at a prefix.
-    fn enter(&mut self, prefix: Prefix) -> Result<(), Memory>
+    fn enter(&mut self, prefix: Prefix<F>) -> Result<(), Memory>
         requires { tables.get self.old prefix ≡ None }
         ensures { OnOk result (Updated self.old self.new prefix (Some (record { walkers = 1; winner = None; line = None }))) }
     {
@@ -189,7 +193,7 @@ impl Contests {
     }
 
     // The last candidate at a prefix has gone.
-    fn forget(&mut self, prefix: Prefix)
+    fn forget(&mut self, prefix: Prefix<F>)
         ensures { Updated self.old self.new prefix None }
     {
         self.lines.remove(prefix);

@@ -2,13 +2,13 @@
 
 ghost use Rattle.std.specs.Prelude.{◌≡◌, ◌≤◌, ◌<◌, ℕ, Option, Some, [], ◌∷◌, not, nat_lt, length, OnOk, IfOk};
 ghost use Rattle.std.specs.List.{insert, remove, position, position_or_len};
-ghost use Rattle.bgp_attr.specs.declared.route.Route.{Route};
+ghost use Rattle.bgp_attr.specs.Routes.{Route as Routed};
 ghost use Rattle.decision.specs.Lineups.{IsLine, InLine, Parts, candidate_at, routes_of, chosen, with_own};
 ghost use Rattle.best_path.specs.Steps.{pick};
 
-use addr4::Memory;
+use addr4::{Family, Memory, Prefix};
 use best_path::{Candidate, best};
-use bgp_attr::Route;
+use bgp_attr::{Route, SharedAttrs};
 use link_change::Change;
 use std::alloc::Global;
 
@@ -21,7 +21,7 @@ pub(crate) struct Lineup {
 }
 
 /// The candidate that a row is, if it is one.
-pub(crate) fn candidate(row: &Option<Route>) -> Option<Candidate>
+pub(crate) fn candidate<F: Family>(row: &Option<Route<SharedAttrs<F>>>) -> Option<Candidate>
     ensures { result ≡ candidate_at row.now }
 {
     match row {
@@ -54,10 +54,14 @@ impl Lineup {
     }
 
     /// A branch's row changes: the candidate of the one before goes, and that of the one after comes. Memory only for want of it.
-    pub(crate) fn take_in(&mut self, branch: u8, change: &Change<Route>) -> Result<(), Memory>
+    pub(crate) fn take_in<F: Family>(
+        &mut self,
+        branch: u8,
+        change: &Change<Route<SharedAttrs<F>>, Prefix<F>>,
+    ) -> Result<(), Memory>
         requires small { branch < 65 }
         requires lined { InLine branch change.now.before self.old }
-        ensures { OnOk result ((here : ℕ → Option Route) → IsLine (with_own branch change.now.before here) self.old → IsLine (with_own branch change.now.after here) self.new) }
+        ensures { OnOk result ((here : ℕ → Option Routed) → IsLine (with_own branch change.now.before here) self.old → IsLine (with_own branch change.now.after here) self.new) }
     {
         let place = self.leave(branch, &change.before);
         if let Some(candidate) = candidate(&change.after) {
@@ -69,7 +73,7 @@ impl Lineup {
     /// The branch whose candidate is the best; none where there is no candidate.
     pub(crate) fn winner(&self) -> Option<u8>
         requires { length self.now.candidates.items ≤ 65 }
-        ensures best { (here : ℕ → Option Route) → IsLine here self.now → chosen here result ≡ pick (routes_of 65 here) }
+        ensures best { (here : ℕ → Option Routed) → IsLine here self.now → chosen here result ≡ pick (routes_of 65 here) }
         ensures listed { (only b : ℕ) → self.now.branches.items ≡ only ∷ [] → result ≡ Some b → b ≡ only }
     {
         let place = best(self.candidates.as_slice())?;
@@ -84,10 +88,10 @@ impl Lineup {
     }
 
     // The candidate of a branch goes, if it has this row; the place where it stood, or would stand.
-    fn leave(&mut self, branch: u8, row: &Option<Route>) -> usize
+    fn leave<F: Family>(&mut self, branch: u8, row: &Option<Route<SharedAttrs<F>>>) -> usize
         requires small { branch < 65 }
         requires lined { InLine branch row.now self.old }
-        ensures { (here : ℕ → Option Route) → IsLine (with_own branch row.now here) self.old → Parts branch here self.new result }
+        ensures { (here : ℕ → Option Routed) → IsLine (with_own branch row.now here) self.old → Parts branch here self.new result }
     {
         let place = self.place(branch);
         if row.is_some() {

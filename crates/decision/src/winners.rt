@@ -1,14 +1,14 @@
 //! Whose row is the best before a change and after it, and what goes on below.
 
 ghost use Rattle.std.specs.Prelude.{◌≡◌, ◌≢◌, ℕ, Option, Some, true, IfOk};
-ghost use Rattle.bgp_attr.specs.declared.route.Route.{Route};
+ghost use Rattle.bgp_attr.specs.Routes.{Route as Routed};
 ghost use Rattle.decision.specs.Branches.{Decides};
 ghost use Rattle.decision.specs.Lineups.{at_prefix, with_own, chosen};
 ghost use Rattle.decision.specs.Wins.{WinBoth};
 
 use crate::branches::Branches;
-use addr4::{Memory, Prefix};
-use bgp_attr::Route;
+use addr4::{Family, Memory, Prefix};
+use bgp_attr::{Route, SharedAttrs};
 use link_change::Change;
 
 /// The branches that have the best row before a change of one branch's row, and after it.
@@ -28,13 +28,13 @@ impl Winners {
 }
 
 // The row of the branch that wins, where one branch has this own row.
-fn row_of<B: Branches>(
+fn row_of<F: Family, B: Branches<F>>(
     winner: Option<u8>,
     branch: u8,
-    own: Option<Route>,
-    prefix: &Prefix,
+    own: Option<Route<SharedAttrs<F>>>,
+    prefix: &Prefix<F>,
     all: &B,
-) -> Result<Option<Route>, Memory>
+) -> Result<Option<Route<SharedAttrs<F>>>, Memory>
     ensures { IfOk result (λ row. row ≡ chosen (with_own branch own (at_prefix (B.rows all.now) prefix.now)) winner) }
 {
     let Some(number) = winner else {
@@ -47,12 +47,12 @@ fn row_of<B: Branches>(
 }
 
 /// A branch's change, as it goes on below where these win.
-pub(crate) fn won_by<B: Branches>(
+pub(crate) fn won_by<F: Family, B: Branches<F>>(
     winners: Winners,
     branch: u8,
-    change: Change<Route>,
+    change: Change<Route<SharedAttrs<F>>, Prefix<F>>,
     all: &B,
-) -> Result<Option<Change<Route>>, Memory>
+) -> Result<Option<Change<Route<SharedAttrs<F>>, Prefix<F>>>, Memory>
     requires { WinBoth branch (at_prefix (B.rows all.now) change.prefix) change winners }
     ensures { IfOk result (Decides branch (B.rows all.now) change) }
 {

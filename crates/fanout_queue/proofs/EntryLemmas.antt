@@ -4,13 +4,14 @@ use Rattle.std.proofs.lemmas.List.{map-append, length-map, length-append, map-se
 use Rattle.std.proofs.Math.ListN as list
 use Rattle.std.proofs.Math.Seq.{set-append_seam, get_or-append_seam, map-set_same}
 use Rattle.std.proofs.lemmas.Bool.Decides.{nat_tests}
+use Rattle.std.specs.List.{list_any}
 use Rattle.std.specs.Ordering.{eq_by_cmp, is_eq}
+use Rattle.std.specs.BTreeMap.{is_at}
 use Rattle.std.specs.BTreeSet.{BTreeSet, contains}
 use Rattle.addr4.specs.Prefixes.{AddressPrefix, prefix_cmp}
-use Rattle.link_change.specs.declared.change.Change.{Change}
-use Rattle.fanout_queue.specs.declared.entries.Entry.{Entry}
+use Rattle.link_change.specs.Changes.{Change}
 use Rattle.fanout_queue.specs.Index.{Key, key_cmp, IsFirstNumber, IsFirstStop, is_reached, lesser, stops, IsIndexed}
-use Rattle.fanout_queue.specs.Entries.{Numbered, stands_at, changes_of, readers_of, numbered_of, IsKept, readers_at, unread_at, IsPlace, Enters, Leaves, first_before, IsNextBeside}
+use Rattle.fanout_queue.specs.Entries.{Entry, Numbered, stands_at, changes_of, readers_of, numbered_of, IsKept, readers_at, unread_at, IsPlace, Enters, Leaves, first_before, IsNextBeside}
 use Rattle.fanout_queue.proofs.Cases.{by_bool}
 use Rattle.fanout_queue.proofs.IndexLemmas.{put_indexed, cut_indexed, more_indexed, key_below, number_here, none_numbered, none_beside, lesser_beside, none_stops, other_stops, change_stops}
 
@@ -126,6 +127,12 @@ module _ {R : Type 0} where
         (enters_by (numbered_of first kept at_end numbered) (numbered_of first (set kept (place - first) (record { change = e.change; readers = e.readers + 1 })) at_end numbered) place refl (same_changes kept (place - first) (e.readers + 1) e at) refl from (omega arith)
         (count_set kept at_end (place - first) (e.readers + 1) e within ∙ ap (λ c. set (readers_of kept at_end) (place - first) (c + 1)) (sym (count_here e within at))))
 
+    -- a count that has room for one more, as it is kept
+    pub room_entry : (e : Entry R) → place - first < length kept → e ≡ get_or kept (place - first) e → readers_at m place + 1 < 2 ^ 64 → e.readers + 1 < 2 ^ 64
+    room_entry e within at room =
+        let here : readers_at m place ≡ e.readers = subst (λ (v : Numbered R). readers_at v place ≡ e.readers) view (count_here e within at) in
+        omega arith
+
     pub enters_end : first ≤ place → place - first ≡ length kept → Enters m (numbered_of first kept (at_end + 1) numbered) place
     enters_end from is =
         let n = counts_long kept at_end in let k = length-map kept (λ (x : Entry R). x.change) in
@@ -185,6 +192,28 @@ module _ {R : Type 0} where
         until = omega arith;
         fits = sound.fits;
       }
+
+  -- the index has nothing
+  pub none_indexed : (first : ℕ) (kept : List (Entry R)) (index none : BTreeSet Key) (indexed number : ℕ) → number ≤ first → none.keys ≡ [] → IsKept first kept index indexed → IsKept first kept none number
+  none_indexed first kept index none indexed number low empty sound = record {
+    keys = record {
+      below = λ p n from less. absurd (omega arith);
+      above = λ p n from past. ap (λ (ks : List Key). list_any (is_at (key_cmp (p, n))) ks) empty;
+    };
+    until = omega arith;
+    fits = sound.fits;
+  }
+
+  -- or what it had
+  pub same_indexed : (first : ℕ) (kept : List (Entry R)) (index index' : BTreeSet Key) (indexed : ℕ) → index'.keys ≡ index.keys → IsKept first kept index indexed → IsKept first kept index' indexed
+  same_indexed first kept index index' indexed same sound = record {
+    keys = record {
+      below = λ p n from less. ap (λ (ks : List Key). list_any (is_at (key_cmp (p, n))) ks) same ∙ sound.keys.below p n from less;
+      above = λ p n from past. ap (λ (ks : List Key). list_any (is_at (key_cmp (p, n))) ks) same ∙ sound.keys.above p n from past;
+    };
+    until = sound.until;
+    fits = sound.fits;
+  }
 
   -- ---- what is found in the index
   module _ {numbered : ℕ} (first : ℕ) (kept : List (Entry R)) (at_end : ℕ) (index : BTreeSet Key) (indexed : ℕ) (m : Numbered R) (view : numbered_of first kept at_end numbered ≡ m) (sound : IsKept first kept index indexed) (place : ℕ) (is : IsPlace m place) where

@@ -13,7 +13,7 @@ use Rattle.addr4.specs.Prefixes.{AddressPrefix, prefix_cmp, ComesBefore}
 use Rattle.addr4.specs.Places.{IsBeyond}
 use Rattle.addr4.proofs.PrefixOrder.{itself, by_prefix, prefixes_total, exact_prefixes}
 use Rattle.link_change.specs.Rows.{Rows, Candidates, together, IsNextCandidate}
-use Rattle.link_change.specs.declared.change.Change.{Change}
+use Rattle.link_change.specs.Changes.{Change}
 use Rattle.link_change.specs.InOrder.{changed_in, rows_before}
 use Rattle.fanout_queue.specs.Entries.{first_before, IsNextBeside}
 use Rattle.fanout_queue.specs.Index.{Key, key_cmp, is_entry, is_beyond, is_reached, lesser, stops, IsFirstKey, IsFirstNumber, IsFirstStop, IsIndexed}

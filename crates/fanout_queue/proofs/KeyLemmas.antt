@@ -1,15 +1,16 @@
 -- The first key of an index at which a search stops.
 use Rattle.std.proofs.Common.{◌≡◌, ℕ, suc, ◌<◌, ◌^◌, arith, Bool, true, false, cond, ◌&&◌, ◌||◌, List, [], ◌∷◌, Option, Some, None, refl, sym, ap, ◌∙◌, subst}
-use Rattle.std.specs.List.{All, find, filter, list_any}
+use Rattle.std.specs.List.{All, find, filter, list_any, slice_get}
+use Rattle.std.specs.Option.{IfSome}
 use Rattle.std.specs.List.Sorted.{IsStrictlySortedBy}
-use Rattle.std.specs.Ordering.{nat_cmp, ordering_then, ordering_reverse, is_eq, is_lt}
+use Rattle.std.specs.Ordering.{nat_cmp, ordering_then, ordering_reverse, is_eq, is_gt, is_lt}
 use Rattle.std.specs.declared.cmp.Ordering.{Ordering}
 use Rattle.std.specs.declared.cmp.Ordering.TheVariants.{Less, Equal, Greater}
-use Rattle.std.specs.declared.ops.Bound.TheVariants.{Unbounded}
+use Rattle.std.specs.declared.ops.Bound.TheVariants.{Included, Unbounded}
 use Rattle.std.specs.Cmp.{IsTotalOrder, eq_by_cmp_equiv, nat_cmp_total, ranked}
 use Rattle.std.specs.BTreeMap.{is_at}
-use Rattle.std.specs.BTreeMap.Range.{range_contains}
-use Rattle.std.specs.BTreeSet.{BTreeSet, contains, IsOrdered}
+use Rattle.std.specs.BTreeMap.Range.{range_contains, IsLeBy}
+use Rattle.std.specs.BTreeSet.{BTreeSet, contains, IsOrdered, IsKeyRangeOf, IsKeyInRange}
 use Rattle.std.proofs.lemmas.Cmp.{on_total, then_total}
 use Rattle.std.proofs.lemmas.Map.Lookups.{exact_pairs, exact_unsigned}
 use Rattle.std.proofs.lemmas.Map.Keys.{sorted_tail}
@@ -17,7 +18,7 @@ use Rattle.std.proofs.lemmas.Map.Views.{All-after_first}
 use Rattle.addr4.specs.Prefixes.{AddressPrefix, prefix_cmp}
 use Rattle.addr4.specs.Places.{IsBeyond}
 use Rattle.addr4.proofs.PrefixOrder.{prefixes_total, exact_prefixes}
-use Rattle.fanout_queue.specs.Index.{Key, key_cmp, behind, keys_from, IsFirstStop}
+use Rattle.fanout_queue.specs.Index.{Key, key_cmp, behind, keys_from, IsFirstKey, IsFirstStop}
 use Rattle.fanout_queue.proofs.Cases.{by_bool}
 
 keys_total : IsTotalOrder key_cmp
@@ -154,4 +155,18 @@ first_stop index test after (Some key) sorted fits is =
       first.in_list,
       first.passes,
       λ q in_index beyond before. first.before q in_index (beyond_inside after q beyond) (ap (λ o. ordering_then o (nat_cmp q.1 key.1)) before),
+    )
+
+-- ---- the first key of those from another one on
+pub first_from : (index : BTreeSet Key) (from : Key) (r rest : List Key) (key : Key) → IsKeyRangeOf key_cmp (Included from) Unbounded index r → r ≡ key ∷ rest → IsFirstKey index from (Some key)
+first_from index from r rest key range e =
+    let here : IsKeyInRange key_cmp (Included from) Unbounded index key = subst (λ (x : List Key). IfSome (slice_get x 0) (IsKeyInRange key_cmp (Included from) Unbounded index)) e range.1 in (
+      here.0.0,
+      here.1,
+      λ q low below. elim (contains key_cmp index q) as (λ b. contains key_cmp index q ≡ b → b ≡ false) [
+        | true ↦ λ has.
+            let high : IsLeBy key_cmp key q = subst (λ (x : List Key). IfSome (slice_get x 0) (λ k. IsLeBy key_cmp k q)) e (range.2 q (low, tt) has) in
+            let clash : true ≡ false = sym (ap is_gt (keys_total.antisymm key q ∙ ap ordering_reverse below)) ∙ high in absurd (cc)
+        | false ↦ λ _. refl
+      ] refl,
     )

@@ -7,7 +7,7 @@ use Rattle.std.specs.FinMap.{get-insert, get-remove}
 use Rattle.addr4.specs.Prefixes.{AddressPrefix}
 use Rattle.link_change.specs.Rows.{Rows}
 use Rattle.link_change.specs.Changes.{IsSent}
-use Rattle.link_change.specs.declared.change.Change.{Change}
+use Rattle.link_change.specs.Changes.{Change}
 use Rattle.link_change.specs.InOrder.{ChangesLead, rows_before, with_last}
 use Rattle.fanout_queue.specs.Queues.{Queued, AppendsToAll, Takes, AllLead, KeepsReaders}
 use Rattle.fanout_queue.specs.Readers.{unread_or_none, read_rows, ReaderLeads, KeepsOtherReaders}

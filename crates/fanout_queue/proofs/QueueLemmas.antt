@@ -15,7 +15,7 @@ use Rattle.std.proofs.Math.ListN.{drop_of_length-le}
 use Rattle.addr4.specs.Prefixes.{AddressPrefix}
 use Rattle.addr4.specs.declared.memory.Memory.{Memory}
 use Rattle.link_change.specs.Rows.{Rows}
-use Rattle.link_change.specs.declared.change.Change.{Change}
+use Rattle.link_change.specs.Changes.{Change}
 use Rattle.link_change.specs.InOrder.{rows_before, with_last, changed_in}
 use Rattle.fanout_queue.specs.Queues.{Queued, AppendsToAll, Takes, AllBelowRead, IsMostUnread}
 use Rattle.fanout_queue.specs.Entries.{Numbered, stands_at, readers_at, first_readers, unread_at, IsPlace, Indexes, Puts, Enters, Leaves, Trims, Passes, first_before}
@@ -70,6 +70,13 @@ few_stand n places = sum_by-le (stands_at n) 1 places (λ k d _. at_most_one n (
 
 pub at_place : (slice places : List (Option ℕ)) (number place : ℕ) → slice ≡ places → get_or slice number None ≡ Some place → get_or places number None ≡ Some place
 at_place slice places number place same at = ap (λ (l : List (Option ℕ)). get_or l number None) (sym same) ∙ at
+
+-- of a queue without readers
+abbrev none_stand : List ℕ
+none_stand = 0 ∷ []
+
+nobody_stands : (n : ℕ) → get_or none_stand n 0 ≡ 0
+nobody_stands n = by_place n 0 (get_or none_stand n 0 ≡ 0) (λ e. ap (λ k. get_or none_stand k 0) e) (λ apart. get_or_past none_stand n 0 (omega arith))
 
 module _ {R : Type 0} where
   -- ---- what a reader hasn't taken
@@ -360,6 +367,20 @@ module _ {R : Type 0} where
     }
 
   -- ---- what calls ask of a place
+  -- nothing is kept, and there is no reader
+  abbrev fresh : Numbered R
+  fresh = record { first = 0; changes = []; readers = 0 ∷ []; indexed = 0 }
+
+  fresh_sound : IsQueue fresh []
+  fresh_sound = record {
+    placed = λ k. subst (IsPlaced fresh) (sym (get_or_past [] k None (omega arith))) tt;
+    counted = λ n low. nobody_stands (n - 0);
+    needed = λ _. refl;
+  }
+
+  pub new_sound : (entries : Numbered R) (places : List (Option ℕ)) → entries ≡ fresh → places ≡ [] → IsQueue entries places
+  new_sound entries places new none = subst (λ (e : Numbered R). IsQueue e places) (sym new) (subst (IsQueue fresh) (sym none) fresh_sound)
+
   pub stands_there : (entries : Numbered R) (places : List (Option ℕ)) (number place : ℕ) → IsQueue entries places → get_or places number None ≡ Some place → IsPlace entries place
   stands_there entries places number place sound at = subst (IsPlaced entries) at (sound.placed number)
 

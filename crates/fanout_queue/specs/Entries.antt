@@ -5,11 +5,15 @@ use Rattle.std.specs.Ordering.{eq_by_cmp}
 use Rattle.std.specs.BTreeSet.{BTreeSet}
 use Rattle.addr4.specs.Prefixes.{AddressPrefix, prefix_cmp}
 use Rattle.link_change.specs.Rows.{Candidates, IsNextCandidate, together}
-use Rattle.link_change.specs.declared.change.Change.{Change}
-use Rattle.fanout_queue.specs.declared.entries.Entry.{Entry}
+use Rattle.link_change.specs.Changes.{Change}
+use Rattle.fanout_queue.specs.declared.entries.Entry as declared
 use Rattle.link_change.specs.InOrder.{changed_in}
 use Rattle.fanout_queue.specs.Queues.{change_code}
 use Rattle.fanout_queue.specs.Index.{Key, IsIndexed}
+
+-- an entry, whatever the family
+abbrev pub Entry : Type 0 → Type 0
+Entry R = declared.Entry R AddressPrefix
 
 -- The changes that are kept, the number of the first, how many readers are to take each of them next, and the number of the
 -- first that the index doesn't have. The last of the counts is that of the readers that have taken all. Where the last number

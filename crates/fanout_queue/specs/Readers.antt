@@ -3,7 +3,7 @@ use Rattle.std.specs.Prelude.{◌≡◌, ◌≢◌, ℕ, List, [], Option, Some,
 use Rattle.std.specs.FinMap as map
 use Rattle.link_change.specs.Rows.{Rows, Candidates, together}
 use Rattle.link_change.specs.InOrder.{ChangesLead, rows_before, changed_in}
-use Rattle.link_change.specs.declared.change.Change.{Change}
+use Rattle.link_change.specs.Changes.{Change}
 use Rattle.fanout_queue.specs.Queues.{Queued}
 
 module _ {R : Type 0} where

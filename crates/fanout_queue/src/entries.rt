@@ -6,7 +6,7 @@ ghost use Rattle.addr4.specs.Places.{key_of};
 ghost use Rattle.fanout_queue.specs.Entries.{changes_of, first_before, IsNextBeside};
 
 use crate::index;
-use addr4::{Memory, Place, Prefix, Row};
+use addr4::{Family, Memory, Place, Prefix, Row, V4};
 use link_change::Change;
 use std::alloc::Global;
 use std::collections::{BTreeSet, VecDeque};
@@ -15,10 +15,10 @@ use std::marker::Model;
 /// The changes that are kept, each with a number: the first that was ever put has 0, each later one the next. A reader's
 /// place is the number of the change that it takes next.
 #[derive(Drop)]
-pub(crate) struct Entries<R> {
-    pub(crate) kept: VecDeque<Entry<R>>,
+pub(crate) struct Entries<R, F: Family = V4> {
+    pub(crate) kept: VecDeque<Entry<R, Prefix<F>>>,
     // The prefixes and numbers of the changes that lookups were prepared for, and of some that are kept no more.
-    pub(crate) index: BTreeSet<(Prefix, u64)>,
+    pub(crate) index: BTreeSet<(Prefix<F>, u64)>,
     // The number of the first that is kept and that the index doesn't have, or one of those that are kept no more.
     pub(crate) indexed: u64,
     // The number of the first that is kept.
@@ -29,15 +29,15 @@ pub(crate) struct Entries<R> {
 
 // A change, and how many readers take it next.
 #[derive(Drop)]
-pub(crate) struct Entry<R> {
-    pub(crate) change: Change<R>,
+pub(crate) struct Entry<R, P = Prefix> {
+    pub(crate) change: Change<R, P>,
     readers: usize,
 }
 
 // Below this many entries memory isn't given back.
 const FEW: usize = 64;
 
-impl<R> Model for Entries<R> {
+impl<R, F: Family> Model for Entries<R, F> {
     ghost use Rattle.fanout_queue.specs.Entries.{Numbered, numbered_code, numbered_of, IsKept};
 
     ghost Value = { Numbered R };
@@ -70,11 +70,11 @@ fn push<T: Drop>(kept: &mut VecDeque<T>, entry: T) -> Result<(), Memory>
     }
 }
 
-impl<R: Row> Entries<R> {
+impl<R: Row, F: Family> Entries<R, F> {
     ghost use Rattle.fanout_queue.specs.Entries.{IsPlace, readers_at, first_readers, unread_at, Puts, Enters, Leaves, CutsFirst, Trims, TakesOut, Passes};
 
     /// No changes and no readers. Takes no memory.
-    pub(crate) fn new(alloc: Global) -> Entries<R>
+    pub(crate) fn new(alloc: Global) -> Entries<R, F>
         ensures { result ≡ record { first = 0; changes = []; readers = 0 ∷ []; indexed = 0 } }
     {
         Entries {
@@ -111,7 +111,7 @@ impl<R: Row> Entries<R> {
     }
 
     /// Puts a change behind the others. For want of memory, and when there is no further number, nothing changes.
-    pub(crate) fn put(&mut self, change: Change<R>) -> Result<(), Memory>
+    pub(crate) fn put(&mut self, change: Change<R, Prefix<F>>) -> Result<(), Memory>
         ensures ok { OnOk result (Puts self.old self.new change) }
         ensures memory { OnErr result (self.new ≡ self.old) }
     {
@@ -151,7 +151,7 @@ impl<R: Row> Entries<R> {
     }
 
     // Drops the first change, and answers it.
-    fn cut_first(&mut self) -> Option<Change<R>>
+    fn cut_first(&mut self) -> Option<Change<R, Prefix<F>>>
         ensures none { IsNone result → (self.old.changes ≡ []) × (self.new ≡ self.old) }
         ensures some { IfSome result (λ change. CutsFirst self.old self.new change) }
     {
@@ -185,7 +185,7 @@ impl<R: Row> Entries<R> {
     }
 
     // The change at a place.
-    fn copy_at(&self, place: u64) -> Result<Change<R>, Memory>
+    fn copy_at(&self, place: u64) -> Result<Change<R, Prefix<F>>, Memory>
         requires from { self.now.first ≤ place }
         requires within { place < self.now.first + length self.now.changes }
         ensures { IfOk result (λ change. unread_at self.now place ≡ change ∷ drop (place + 1 - self.now.first) self.now.changes) }
@@ -194,7 +194,7 @@ impl<R: Row> Entries<R> {
     }
 
     // A reader takes the change at its place. That is the change itself, which goes, where no other reader is to take it.
-    fn take_out(&mut self, place: u64) -> Result<Change<R>, Memory>
+    fn take_out(&mut self, place: u64) -> Result<Change<R, Prefix<F>>, Memory>
         requires from { self.old.first ≤ place }
         requires within { place < self.old.first + length self.old.changes }
         requires stands { 0 < readers_at self.old place }
@@ -210,7 +210,7 @@ impl<R: Row> Entries<R> {
     }
 
     /// A reader takes the change at its place, and goes on to the next place. For want of memory nothing changes.
-    pub(crate) fn pass(&mut self, place: u64) -> Result<Change<R>, Memory>
+    pub(crate) fn pass(&mut self, place: u64) -> Result<Change<R, Prefix<F>>, Memory>
         requires from { self.old.first ≤ place }
         requires within { place < self.old.first + length self.old.changes }
         requires stands { 0 < readers_at self.old place }

@@ -7,14 +7,14 @@ ghost use Rattle.addr4.specs.Places.{key_of};
 ghost use Rattle.addr4.specs.Prefixes.{AddressPrefix};
 ghost use Rattle.fanout_queue.specs.Index.{key_cmp, IsFirstKey, IsFirstNumber, IsFirstStop, is_beyond, is_reached, lesser, stops, behind, keys_from};
 
-use addr4::{Memory, Place, Prefix};
+use addr4::{Family, Memory, Place, Prefix};
 use std::collections::BTreeSet;
 use std::ops::Bound;
 
 /// Puts the key of an entry. For want of memory nothing changes.
-pub(crate) fn put_key(
-    index: &mut BTreeSet<(Prefix, u64)>,
-    prefix: Prefix,
+pub(crate) fn put_key<F: Family>(
+    index: &mut BTreeSet<(Prefix<F>, u64)>,
+    prefix: Prefix<F>,
     number: u64,
 ) -> Result<(), Memory>
     ensures ok { OnOk result (Updates key_cmp index.old index.new (prefix, number) true) }
@@ -25,7 +25,11 @@ pub(crate) fn put_key(
 }
 
 // The first key at or beyond this one.
-fn first_from(index: &BTreeSet<(Prefix, u64)>, prefix: Prefix, number: u64) -> Option<(Prefix, u64)>
+fn first_from<F: Family>(
+    index: &BTreeSet<(Prefix<F>, u64)>,
+    prefix: Prefix<F>,
+    number: u64,
+) -> Option<(Prefix<F>, u64)>
     ensures { IsFirstKey index.now (prefix, number) result }
 {
     match index.range((prefix, number)..).next() {
@@ -35,9 +39,9 @@ fn first_from(index: &BTreeSet<(Prefix, u64)>, prefix: Prefix, number: u64) -> O
 }
 
 /// The least number from this one on that the index has at a prefix.
-pub(crate) fn first_number(
-    index: &BTreeSet<(Prefix, u64)>,
-    prefix: Prefix,
+pub(crate) fn first_number<F: Family>(
+    index: &BTreeSet<(Prefix<F>, u64)>,
+    prefix: Prefix<F>,
     from: u64,
 ) -> Option<u64>
     ensures { IsFirstNumber index.now prefix from result }
@@ -49,7 +53,7 @@ pub(crate) fn first_number(
 }
 
 /// Whether the prefix isn't before the other one.
-pub(crate) fn is_reached(other: &Option<Prefix>, prefix: Prefix) -> bool
+pub(crate) fn is_reached<F: Family>(other: &Option<Prefix<F>>, prefix: Prefix<F>) -> bool
     ensures { result ≡ is_reached other.now prefix }
 {
     match other {
@@ -59,7 +63,11 @@ pub(crate) fn is_reached(other: &Option<Prefix>, prefix: Prefix) -> bool
 }
 
 /// The lesser of another prefix and of this one, if this lies beyond a place.
-pub(crate) fn lesser(after: &Place, prefix: Prefix, other: Option<Prefix>) -> Option<Prefix>
+pub(crate) fn lesser<F: Family>(
+    after: &Place<Prefix<F>>,
+    prefix: Prefix<F>,
+    other: Option<Prefix<F>>,
+) -> Option<Prefix<F>>
     ensures { result ≡ lesser (key_of after.now) prefix other }
 {
     if is_beyond(after, prefix) && !is_reached(&other, prefix) {
@@ -70,7 +78,7 @@ pub(crate) fn lesser(after: &Place, prefix: Prefix, other: Option<Prefix>) -> Op
 }
 
 // Whether a prefix lies beyond a place.
-fn is_beyond(after: &Place, prefix: Prefix) -> bool
+fn is_beyond<F: Family>(after: &Place<Prefix<F>>, prefix: Prefix<F>) -> bool
     ensures { result ≡ is_beyond (key_of after.now) prefix }
 {
     match after {
@@ -80,7 +88,7 @@ fn is_beyond(after: &Place, prefix: Prefix) -> bool
 }
 
 // The keys of the prefixes beyond a place begin behind this.
-fn behind(after: &Place) -> Bound<(Prefix, u64)>
+fn behind<F: Family>(after: &Place<Prefix<F>>) -> Bound<(Prefix<F>, u64)>
     ensures { result ≡ behind (key_of after.now) }
 {
     match after {
@@ -90,12 +98,12 @@ fn behind(after: &Place) -> Bound<(Prefix, u64)>
 }
 
 // The first key from a bound on at which the search stops.
-fn find_stop(
-    index: &BTreeSet<(Prefix, u64)>,
-    from: Bound<(Prefix, u64)>,
+fn find_stop<F: Family>(
+    index: &BTreeSet<(Prefix<F>, u64)>,
+    from: Bound<(Prefix<F>, u64)>,
     place: u64,
-    other: &Option<Prefix>,
-) -> Option<(Prefix, u64)>
+    other: &Option<Prefix<F>>,
+) -> Option<(Prefix<F>, u64)>
     ensures found { result ≡ find (stops place other.now) (keys_from from index.now) }
     ensures ordered { IsOrdered key_cmp index.now }
 {
@@ -106,12 +114,12 @@ fn find_stop(
 }
 
 /// The first key beyond a place whose number is from this one on, or whose prefix isn't before the other one.
-pub(crate) fn first_stop(
-    index: &BTreeSet<(Prefix, u64)>,
+pub(crate) fn first_stop<F: Family>(
+    index: &BTreeSet<(Prefix<F>, u64)>,
     place: u64,
-    after: &Place,
-    other: &Option<Prefix>,
-) -> Option<(Prefix, u64)>
+    after: &Place<Prefix<F>>,
+    other: &Option<Prefix<F>>,
+) -> Option<(Prefix<F>, u64)>
     requires { (p : AddressPrefix) (n : ℕ) → contains key_cmp index.now (p, n) ≡ true → n < 2 ^ 64 }
     ensures { IsFirstStop index.now (stops place other.now) (key_of after.now) result }
 {

@@ -7,12 +7,16 @@ ghost use Rattle.fanout_queue.specs.Entries.{changes_of, first_before, IsNextBes
 
 use crate::entries::{Entries, Entry};
 use crate::index;
-use addr4::{Memory, Place, Prefix, Row};
+use addr4::{Family, Memory, Place, Prefix, Row};
 use link_change::Change;
 use std::collections::VecDeque;
 
 // The first change at a prefix, of those from an index on.
-fn first_among<R>(kept: &VecDeque<Entry<R>>, from: usize, prefix: Prefix) -> Option<&Change<R>>
+fn first_among<R, F: Family>(
+    kept: &VecDeque<Entry<R, Prefix<F>>>,
+    from: usize,
+    prefix: Prefix<F>,
+) -> Option<&Change<R, Prefix<F>>>
     ensures { option_map (λ change. change.before) (option_copied result) ≡ first_before prefix (drop from (changes_of kept.now.items)) }
 {
     let mut at = from;
@@ -27,12 +31,12 @@ fn first_among<R>(kept: &VecDeque<Entry<R>>, from: usize, prefix: Prefix) -> Opt
 }
 
 // The least of another prefix and of those of the changes from an index on that lie beyond a place.
-fn least_among<R>(
-    kept: &VecDeque<Entry<R>>,
+fn least_among<R, F: Family>(
+    kept: &VecDeque<Entry<R, Prefix<F>>>,
     from: usize,
-    after: &Place,
-    other: Option<Prefix>,
-) -> Option<Prefix>
+    after: &Place<Prefix<F>>,
+    other: Option<Prefix<F>>,
+) -> Option<Prefix<F>>
     requires { from ≤ length kept.now.items }
     ensures { IsNextBeside (drop from (changes_of kept.now.items)) (key_of after.now) other result }
 {
@@ -45,7 +49,7 @@ fn least_among<R>(
     least
 }
 
-impl<R: Row> Entries<R> {
+impl<R: Row, F: Family> Entries<R, F> {
     ghost use Rattle.fanout_queue.specs.Entries.{IsPlace, unread_at, unindexed, Indexes};
 
     /// Drops the index, where the last change that it has was dropped.
@@ -96,7 +100,7 @@ impl<R: Row> Entries<R> {
     }
 
     /// The first change at a prefix, from a place on.
-    pub(crate) fn first_at(&self, place: u64, prefix: Prefix) -> Option<&Change<R>>
+    pub(crate) fn first_at(&self, place: u64, prefix: Prefix<F>) -> Option<&Change<R, Prefix<F>>>
         requires { IsPlace self.now place }
         ensures { option_map (λ change. change.before) (option_copied result) ≡ first_before prefix (unread_at self.now place) }
     {
@@ -114,9 +118,9 @@ impl<R: Row> Entries<R> {
     pub(crate) fn next_beside(
         &self,
         place: u64,
-        after: &Place,
-        other: Option<Prefix>,
-    ) -> Option<Prefix>
+        after: &Place<Prefix<F>>,
+        other: Option<Prefix<F>>,
+    ) -> Option<Prefix<F>>
         requires { IsPlace self.now place }
         ensures { IsNextBeside (unread_at self.now place) (key_of after.now) other result }
     {

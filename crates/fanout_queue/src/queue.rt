@@ -12,7 +12,7 @@ ghost use Rattle.fanout_queue.specs.Readers.{read_rows, row_before};
 use crate::entries::Entries;
 use crate::places;
 use crate::reader::Reader;
-use addr4::{Memory, Place, Prefix, Row};
+use addr4::{Family, Memory, Place, Prefix, Row, V4};
 use link_change::{Change, Upstream, copy_row};
 use std::alloc::Global;
 use std::marker::Model;
@@ -20,13 +20,13 @@ use std::marker::Model;
 /// A list of changes with a place for each reader. Contracts see what each live reader hasn't taken, by its number, the
 /// first change first.
 #[derive(Drop)]
-pub struct Queue<R> {
-    entries: Entries<R>,
+pub struct Queue<R, F: Family = V4> {
+    entries: Entries<R, F>,
     // The place of each live reader, by the number of the reader.
     places: Vec<Option<u64>>,
 }
 
-impl<R> Model for Queue<R> {
+impl<R, F: Family> Model for Queue<R, F> {
     ghost use Rattle.fanout_queue.specs.Queues.{Queued, queued_code};
     ghost use Rattle.fanout_queue.specs.Places.{queued_of, IsQueue};
 
@@ -39,9 +39,9 @@ impl<R> Model for Queue<R> {
     ghost invariant = { λ q. IsQueue q.entries q.places.items };
 }
 
-impl<R: Row> Queue<R> {
+impl<R: Row, F: Family> Queue<R, F> {
     /// A queue without readers. Takes no memory.
-    pub fn new(alloc: Global) -> Queue<R>
+    pub fn new(alloc: Global) -> Queue<R, F>
         ensures { result ≡ map.empty }
     {
         Queue {
@@ -51,7 +51,7 @@ impl<R: Row> Queue<R> {
     }
 
     /// Puts a change at the end of what each reader hasn't taken. For want of memory nothing changes.
-    pub fn put(&mut self, change: Change<R>) -> Result<(), Memory>
+    pub fn put(&mut self, change: Change<R, Prefix<F>>) -> Result<(), Memory>
         ensures ok { OnOk result (AppendsToAll change self.old self.new) }
         ensures stay { OnOk result (KeepsReaders self.old self.new) }
         ensures memory { OnErr result (self.new ≡ self.old) }
@@ -91,7 +91,7 @@ impl<R: Row> Queue<R> {
 
     /// Takes the first change that the reader hasn't taken. None exactly where there is none. Of every other reader all
     /// stays. For want of memory nothing changes; the last reader that is to take a change takes no memory.
-    pub fn take(&mut self, reader: &mut Reader) -> Result<Option<Change<R>>, Memory>
+    pub fn take(&mut self, reader: &mut Reader) -> Result<Option<Change<R, Prefix<F>>>, Memory>
         requires { IsSome (map.get self.old reader.old) }
         ensures same { reader.new ≡ reader.old }
         ensures ok { IfOk result (Takes self.old self.new reader.old) }
@@ -125,7 +125,7 @@ impl<R: Row> Queue<R> {
     }
 
     /// Whether there is a change at a prefix that the reader hasn't taken. Where there is none, it has the best row there.
-    pub fn unread(&self, reader: &Reader, prefix: Prefix) -> bool
+    pub fn unread(&self, reader: &Reader, prefix: Prefix<F>) -> bool
         requires { IsSome (map.get self.now reader.now) }
         ensures { IfSome (map.get self.now reader.now) (λ unread. result ≡ changed_in unread prefix) }
     {
@@ -135,7 +135,7 @@ impl<R: Row> Queue<R> {
 
     /// The first change at a prefix that the reader hasn't taken, if there is one. What the reader has there is the row before it,
     /// or else the best one.
-    pub fn first_unread(&self, reader: &Reader, prefix: Prefix) -> Option<&Change<R>>
+    pub fn first_unread(&self, reader: &Reader, prefix: Prefix<F>) -> Option<&Change<R, Prefix<F>>>
         requires { IsSome (map.get self.now reader.now) }
         ensures { (best : Rows R) → read_rows self.now reader.now best prefix ≡ row_before (option_copied result) (best prefix) }
     {
@@ -152,11 +152,11 @@ impl<R: Row> Queue<R> {
 
     /// What the reader has at a prefix, where these are the best rows: the row before the first change there that it hasn't
     /// taken, or else the best one.
-    pub fn asked<U: Upstream<Row = R>>(
+    pub fn asked<U: Upstream<F, Row = R>>(
         &self,
         reader: &Reader,
         best: &U,
-        prefix: Prefix,
+        prefix: Prefix<F>,
     ) -> Result<Option<R>, Memory>
         requires { IsSome (map.get self.now reader.now) }
         ensures { IfOk result (λ row. IfSome (map.get self.now reader.now) (λ unread. row ≡ rows_before unread (U.rows best.now) prefix)) }
@@ -170,12 +170,12 @@ impl<R: Row> Queue<R> {
 
     /// The least candidate beyond a place: one of the best rows, or a prefix of the changes that the reader hasn't taken. What
     /// the reader has stands at candidates.
-    pub fn next_candidate<U: Upstream<Row = R>>(
+    pub fn next_candidate<U: Upstream<F, Row = R>>(
         &self,
         reader: &Reader,
         best: &U,
-        after: Place,
-    ) -> Option<Prefix>
+        after: Place<Prefix<F>>,
+    ) -> Option<Prefix<F>>
         requires { IsSome (map.get self.now reader.now) }
         ensures next { IfSome (map.get self.now reader.now) (λ unread. IsNextCandidate (together (U.candidates best.now) (changed_in unread)) (key_of after) result) }
         ensures covers { IfSome (map.get self.now reader.now) (λ unread. CoversRows (together (U.candidates best.now) (changed_in unread)) (rows_before unread (U.rows best.now))) }

@@ -21,7 +21,7 @@ use Rattle.nexthop_resolver.proofs.AlikeLemmas.{tells_metrics}
 use Rattle.nexthop_resolver.proofs.LeftLemmas as left
 use Rattle.journal_text.specs.declared.link.Link.{Link}
 use Rattle.journal_text.specs.declared.link.Link.TheVariants.{Res}
-use Rattle.journal_text.specs.declared.value.Value.{Value}
+use Rattle.journal_text.specs.Lines.{Value}
 use Rattle.journal_text.specs.Walk.{Links, Leads}
 use Rattle.hop_side.specs.Resolvers.{resolver_at, PeerRows, link_by, hop_links, is_res, beside, busy_by, lags_by, known_of, same_metric, left_of, left_in, walks_of}
 use Rattle.hop_side.specs.Laws.{StandsAtFirst, LeadsAnywhere, StrangersAgree, ExactUnlessHeldUp, NoneHeldUpWithoutWork, WorkIsListed, NoneLeftWithoutWork, TurnsAreBounded, LeftFollows}

@@ -1,12 +1,12 @@
 -- A step of one resolver, as one of the side.
 use Rattle.std.proofs.Common.{◌≡◌, ℕ, true, false, ◌&&◌, cond, Option, Some, None, Result, Ok, Err, OnErr, nat_eq, refl, sym, ap, subst, ◌∙◌}
-use Rattle.bgp_attr.specs.declared.route.Route.{Route}
+use Rattle.bgp_attr.specs.Routes.{Route}
 use Rattle.addr4.specs.Prefixes.{AddressPrefix}
 use Rattle.link_change.specs.Rows.{Rows, no_rows}
 use Rattle.link_change.specs.Changes.{IsSent}
-use Rattle.link_change.specs.declared.change.Change.{Change}
+use Rattle.link_change.specs.Changes.{Change}
 use Rattle.link_change.proofs.RowLemmas.{same_function}
-use Rattle.rib_route.specs.declared.rows.Interior.{Interior}
+use Rattle.rib_route.specs.Rows.{Interior}
 use Rattle.register_interest.specs.Registers.{Registry, AllStand as MatchesStand}
 use Rattle.nexthop_known.specs.Counts.{AreCounted}
 use Rattle.nexthop_known.proofs.CountLemmas.{nothing_is_counted}
@@ -19,7 +19,7 @@ use Rattle.nexthop_resolver.proofs.RowLemmas.{no_rows_at_first}
 use Rattle.nexthop_resolver.proofs.AgreeLemmas.{others_agree, nothing_yet}
 use Rattle.journal_text.specs.declared.link.Link.{Link}
 use Rattle.journal_text.specs.declared.link.Link.TheVariants.{Res}
-use Rattle.journal_text.specs.declared.value.Value.{Value}
+use Rattle.journal_text.specs.Lines.{Value}
 use Rattle.journal_text.specs.Walk.{Links, with_link, Leads}
 use Rattle.journal_text.specs.Journals.{Journaled, with_entries, Adds}
 use Rattle.journal_text.specs.Values.{route_value, route_rows}

@@ -3,7 +3,7 @@ use Rattle.std.specs.Prelude.{◌≡◌, ◌↔◌, ℕ, ◌+◌, ◌≤◌, tru
 use Rattle.std.specs.List.{Contains}
 use Rattle.std.specs.FinMap as tables
 use Rattle.addr4.specs.Prefixes.{AddressPrefix}
-use Rattle.rib_route.specs.declared.rows.Interior.{Interior}
+use Rattle.rib_route.specs.Rows.{Interior}
 use Rattle.register_interest.specs.Registers.{Registry}
 use Rattle.nexthop_resolver.specs.declared.rows.Metric.{Metric}
 use Rattle.nexthop_resolver.specs.Kept.{route_hop, metric_of, with_metric}
@@ -11,8 +11,8 @@ use Rattle.nexthop_resolver.specs.Resolving.{Resolving, goes_on}
 use Rattle.nexthop_resolver.specs.Registered.{answer_of, KeepsOthers}
 use Rattle.journal_text.specs.declared.link.Link.{Link}
 use Rattle.journal_text.specs.declared.link.Link.TheVariants.{Res}
-use Rattle.journal_text.specs.declared.entry.Entry.{Entry}
-use Rattle.journal_text.specs.declared.value.Value.{Value}
+use Rattle.journal_text.specs.Lines.{Entry}
+use Rattle.journal_text.specs.Lines.{Value}
 use Rattle.journal_text.specs.Walk.{Links, Leads}
 use Rattle.hop_side.specs.Resolvers.{Resolvers, resolver_at, PeerRows, metric_rows, hop_links, is_res, IsHops, AllAgree, AllCounted, has_hop_work, hop_holds_up, known_of, known_in, Beyonds, left_in, walks_in}
 use Rattle.hop_side.specs.Steps.{LeadsRes}

@@ -1,14 +1,14 @@
 -- What each call makes of the resolvers, and what it keeps.
 use Rattle.std.specs.Prelude.{◌≡◌, ℕ, ◌+◌, ◌≤◌, ◌==◌, false, is_some, List, [], ◌∷◌, Option, Some, None}
 use Rattle.addr4.specs.Prefixes.{AddressPrefix}
-use Rattle.bgp_attr.specs.declared.route.Route.{Route}
+use Rattle.bgp_attr.specs.Routes.{Route}
 use Rattle.link_change.specs.Rows.{Rows, Candidates}
 use Rattle.link_change.specs.Changes.{IsSent}
-use Rattle.link_change.specs.declared.change.Change.{Change}
-use Rattle.link_change.specs.declared.turn.Turn.{Turn}
+use Rattle.link_change.specs.Changes.{Change}
+use Rattle.link_change.specs.Turns.{Turn}
 use Rattle.link_change.specs.declared.turn.Turn.TheVariants.{Nothing, Quiet, Sent}
-use Rattle.rib_route.specs.declared.rows.Interior.{Interior}
-use Rattle.register_interest.specs.declared.interests.Interest.{Interest}
+use Rattle.rib_route.specs.Rows.{Interior}
+use Rattle.register_interest.specs.Interests.{Interest}
 use Rattle.register_interest.specs.Interests.{without}
 use Rattle.register_interest.specs.Registers.{Registry, KeepsAnswers, AllStand as MatchesStand}
 use Rattle.pass_core.specs.Left.{CountsBeyond}
@@ -21,9 +21,9 @@ use Rattle.nexthop_resolver.specs.Reached.{IsReached, IsReachedBy}
 pub use Rattle.nexthop_resolver.specs.Reached.{reached_hop}
 use Rattle.nexthop_resolver.specs.Turns.{Turned}
 use Rattle.journal_text.specs.declared.link.Link.TheVariants.{Res}
-use Rattle.journal_text.specs.declared.entry.Entry.{Entry}
+use Rattle.journal_text.specs.Lines.{Entry}
 use Rattle.journal_text.specs.declared.entry.Entry.TheVariants.{Begin}
-use Rattle.journal_text.specs.declared.value.Value.{Value}
+use Rattle.journal_text.specs.Lines.{Value}
 use Rattle.journal_text.specs.Walk.{Links, Leads}
 use Rattle.journal_text.specs.Journals.{Journaled, Adds}
 use Rattle.journal_text.specs.Values.{route_value, sent_entries}

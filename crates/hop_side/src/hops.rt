@@ -4,14 +4,14 @@ ghost use Rattle.std.specs.Prelude.{◌≡◌, OnOk, None};
 ghost use Rattle.std.specs.Option.{option_copied};
 ghost use Rattle.std.specs.FinMap as map;
 ghost use Rattle.link_change.specs.Rows.{no_rows};
-ghost use Rattle.rib_route.specs.declared.rows.Interior.{Interior};
+ghost use Rattle.rib_route.specs.Rows.{Interior};
 ghost use Rattle.register_interest.specs.Registers.{Registry};
 ghost use Rattle.nexthop_resolver.specs.Resolving.{nothing_known};
 ghost use Rattle.journal_text.specs.Journals.{with_entries};
 ghost use Rattle.hop_side.specs.Resolvers.{resolver_at, put_resolver, PeerRows, hop_links, IsHops, AllAgree, AllCounted};
 ghost use Rattle.hop_side.specs.Steps.{LeadsRes, begin_entries, HasNoInterest};
 
-use addr4::Memory;
+use addr4::{Memory, Texts, V4};
 use journal_text::{Entry, Journal, Link};
 use nexthop_resolver::{Metric, Resolver};
 use std::alloc::Global;
@@ -20,12 +20,12 @@ use std::marker::Model;
 
 /// The resolvers of all peers. Contracts see a finite map from the peers' numbers to their resolvers.
 #[derive(Drop)]
-pub struct NextHops {
+pub struct NextHops<F: Texts = V4> {
     pub(crate) alloc: Global,
-    pub(crate) resolvers: BTreeMap<u32, Resolver<Metric>>,
+    pub(crate) resolvers: BTreeMap<u32, Resolver<Metric, F>>,
 }
 
-impl Model for NextHops {
+impl<F: Texts> Model for NextHops<F> {
     ghost use Rattle.std.specs.Coded.{coded_ℕ};
     ghost use Rattle.std.specs.FinMap as map;
     ghost use Rattle.nexthop_resolver.specs.contracts.rows.Metric as metric_row;
@@ -39,9 +39,9 @@ impl Model for NextHops {
     ghost view = { λ h. map.from_entries h.resolvers.entries };
 }
 
-impl NextHops {
+impl<F: Texts> NextHops<F> {
     /// No peer. Takes no memory.
-    pub fn new(alloc: Global) -> NextHops
+    pub fn new(alloc: Global) -> NextHops<F>
         ensures { result ≡ map.empty }
     {
         NextHops {
@@ -51,14 +51,14 @@ impl NextHops {
     }
 
     /// The resolver of a peer.
-    pub fn resolver(&self, number: u32) -> Option<&Resolver<Metric>>
+    pub fn resolver(&self, number: u32) -> Option<&Resolver<Metric, F>>
         ensures { option_copied result ≡ resolver_at number self.now }
     {
         self.resolvers.get(&number)
     }
 
     /// A peer is declared: its link `res.K` begins. No next hop of it is known, and no row stands above it yet.
-    pub fn begin(&mut self, number: u8, journal: &mut Journal) -> Result<(), Memory>
+    pub fn begin(&mut self, number: u8, journal: &mut Journal<F>) -> Result<(), Memory>
         requires sound { IsHops self.old }
         requires absent { resolver_at number self.old ≡ None }
         ensures after { OnOk result (self.new ≡ put_resolver number (nothing_known number) self.old) }

@@ -6,12 +6,12 @@ ghost use Rattle.link_change.specs.Rows.{IsNextCandidate, CoversRows};
 ghost use Rattle.hop_side.specs.Resolvers.{resolver_at, PeerRows, rows_by, hop_links};
 
 use crate::hops::NextHops;
-use addr4::{Memory, Place, Prefix};
-use bgp_attr::Route;
+use addr4::{Memory, Place, Prefix, Texts};
+use bgp_attr::{Route, SharedAttrs};
 use journal_text::Link;
 use link_change::Upstream;
 
-impl NextHops {
+impl<F: Texts> NextHops<F> {
     /// Whether a link `res.K` is live; no other link is.
     pub fn live(&self, link: Link) -> bool
         ensures { (uppers : PeerRows) → result ≡ is_some (hop_links self.now uppers link) }
@@ -23,12 +23,12 @@ impl NextHops {
     }
 
     /// The row at a prefix of `res.K`, over the rows of `filt.K`; None where it has none. Memory where the row can't be copied.
-    pub fn asked<U: Upstream<Row = Route>>(
+    pub fn asked<U: Upstream<F, Row = Route<SharedAttrs<F>>>>(
         &self,
         number: u32,
         upper: &U,
-        prefix: Prefix,
-    ) -> Result<Option<Route>, Memory>
+        prefix: Prefix<F>,
+    ) -> Result<Option<Route<SharedAttrs<F>>>, Memory>
         ensures { IfOk result (λ row. row ≡ rows_by (resolver_at number self.now) (U.rows upper.now) prefix) }
     {
         match self.resolver(number) {
@@ -38,12 +38,12 @@ impl NextHops {
     }
 
     /// The least candidate of `res.K` that lies beyond a place: those of `filt.K`, some of which may have no row on `res.K`.
-    pub fn next_candidate<U: Upstream<Row = Route>>(
+    pub fn next_candidate<U: Upstream<F, Row = Route<SharedAttrs<F>>>>(
         &self,
         number: u32,
         upper: &U,
-        after: Place,
-    ) -> Option<Prefix>
+        after: Place<Prefix<F>>,
+    ) -> Option<Prefix<F>>
         ensures next { IsNextCandidate (U.candidates upper.now) (key_of after) result }
         ensures covers { CoversRows (U.candidates upper.now) (rows_by (resolver_at number self.now) (U.rows upper.now)) }
     {

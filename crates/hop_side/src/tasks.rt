@@ -6,28 +6,28 @@ ghost use Rattle.std.specs.Ordering.{nat_cmp};
 ghost use Rattle.std.specs.FinMap as map;
 ghost use Rattle.std.specs.BTreeMap.{values, IsOrdered};
 ghost use Rattle.link_change.specs.Rows.{Rows};
-ghost use Rattle.bgp_attr.specs.declared.route.Route.{Route};
+ghost use Rattle.bgp_attr.specs.Routes.{Route};
 ghost use Rattle.nexthop_resolver.specs.Kept.{route_hop};
 ghost use Rattle.nexthop_resolver.specs.Left.{is_busy, hop_lags};
 ghost use Rattle.hop_side.specs.Resolvers.{PeerRows, resolver_at, rows_by, same_metric, hop_holds_up, has_hop_work, known_of, known_in, Beyonds, left_in};
 ghost use Rattle.hop_side.specs.Tasks.{first_of, first_lagging};
 
 use crate::hops::NextHops;
-use addr4::{Addr, Memory, Prefix};
+use addr4::{Addr, Family, Memory, Prefix, Texts};
 use nexthop_resolver::{Metric, Resolver};
 use std::collections::BTreeMap;
 
 /// The links `filt.K` of all peers, as far as their rows name next hops.
-pub trait Named {
+pub trait Named<F: Family> {
     /// The rows, by the peer's number.
     ghost rows: { Self → PeerRows };
 
     /// The next hop of the row of a peer at a prefix; None exactly where there is none. Takes no memory.
-    fn next_hop(&self, number: u32, p: Prefix) -> Option<Addr>
-        ensures { result ≡ option_map route_hop (rows self.now number p) };
+    fn next_hop(&self, number: u32, p: &Prefix<F>) -> Option<Addr<F>>
+        ensures { result ≡ option_map route_hop (rows self.now number p.now) };
 }
 
-impl NextHops {
+impl<F: Texts> NextHops<F> {
     /// Whether the next hops of a peer have work: a walk is on, a next hop is stale, or a fresh answer isn't in force.
     pub fn has_work(&self, number: u32) -> bool
         ensures { result ≡ has_hop_work self.now number }
@@ -40,7 +40,7 @@ impl NextHops {
 
     /// Whether the task of a peer's next hops holds up a prefix, where the row of `filt.K` there names this next hop, if it does:
     /// the next hop is stale, or its fresh answer isn't in force there. Takes no memory.
-    pub fn holds_up(&self, number: u32, hop: Option<Addr>, p: Prefix) -> bool
+    pub fn holds_up(&self, number: u32, hop: Option<Addr<F>>, p: Prefix<F>) -> bool
         ensures { result ≡ hop_holds_up self.now number p hop }
     {
         match self.resolvers.get(&number) {
@@ -50,7 +50,7 @@ impl NextHops {
     }
 
     /// Whether the row of `filt.K` at a prefix that names this next hop goes on to `res.K`. Takes no memory.
-    pub fn has(&self, number: u32, hop: Option<Addr>, p: Prefix) -> bool
+    pub fn has(&self, number: u32, hop: Option<Addr<F>>, p: Prefix<F>) -> bool
         ensures { (upper : Rows Route) → option_map route_hop (upper p) ≡ hop → result ≡ is_some (rows_by (resolver_at number self.now) upper p) }
     {
         let Some(hop) = hop else {
@@ -71,7 +71,7 @@ impl NextHops {
     }
 
     /// The first peer, by number, whose task holds up a prefix, where these are the rows of the links `filt.K`. Takes no memory.
-    pub fn first_held<U: Named>(&self, uppers: &U, p: Prefix) -> Option<u32>
+    pub fn first_held<U: Named<F>>(&self, uppers: &U, p: Prefix<F>) -> Option<u32>
         ensures { result ≡ find (λ k. hop_holds_up self.now k p (option_map route_hop (U.rows uppers.now k p))) (map.keys self.now) }
     {
         first_lagging(&self.resolvers, uppers, p)
@@ -86,23 +86,23 @@ impl NextHops {
 }
 
 /// Whether a resolver has work.
-fn is_busy(resolver: &Resolver<Metric>) -> bool
+fn is_busy<F: Texts>(resolver: &Resolver<Metric, F>) -> bool
     ensures { result ≡ is_busy same_metric resolver.now }
 {
     resolver.busy()
 }
 
 /// The first peer whose resolver holds up a prefix.
-fn first_lagging<U: Named>(
-    resolvers: &BTreeMap<u32, Resolver<Metric>>,
+fn first_lagging<F: Texts, U: Named<F>>(
+    resolvers: &BTreeMap<u32, Resolver<Metric, F>>,
     uppers: &U,
-    p: Prefix,
+    p: Prefix<F>,
 ) -> Option<u32>
     ensures first { result ≡ first_lagging (U.rows uppers.now) p resolvers.now.entries }
     ensures ordered { IsOrdered nat_cmp resolvers.now }
 {
     for (number, resolver) in resolvers {
-        if lags(resolver, uppers.next_hop(*number, p), p) {
+        if lags(resolver, uppers.next_hop(*number, &p), p) {
             return Some(*number);
         }
     }
@@ -110,7 +110,7 @@ fn first_lagging<U: Named>(
 }
 
 /// Whether a resolver holds up a prefix where this next hop is named.
-fn lags(resolver: &Resolver<Metric>, hop: Option<Addr>, p: Prefix) -> bool
+fn lags<F: Texts>(resolver: &Resolver<Metric, F>, hop: Option<Addr<F>>, p: Prefix<F>) -> bool
     ensures { result ≡ hop_lags same_metric resolver.now p hop }
 {
     resolver.holds_up(hop, p)
@@ -127,7 +127,7 @@ fn is_reached(answer: Option<Metric>) -> bool
 }
 
 /// The first peer whose resolver has work.
-fn first_of(resolvers: &BTreeMap<u32, Resolver<Metric>>) -> Option<u32>
+fn first_of<F: Texts>(resolvers: &BTreeMap<u32, Resolver<Metric, F>>) -> Option<u32>
     ensures first { result ≡ first_of resolvers.now.entries }
     ensures ordered { IsOrdered nat_cmp resolvers.now }
 {
@@ -140,7 +140,7 @@ fn first_of(resolvers: &BTreeMap<u32, Resolver<Metric>>) -> Option<u32>
 }
 
 /// How many next hops these know together.
-fn count_known(resolvers: &BTreeMap<u32, Resolver<Metric>>) -> Result<u128, Memory>
+fn count_known<F: Texts>(resolvers: &BTreeMap<u32, Resolver<Metric, F>>) -> Result<u128, Memory>
     ensures sum { IfOk result (λ known. known ≡ sum_by known_of (values resolvers.now)) }
     ensures ordered { IsOrdered nat_cmp resolvers.now }
 {

@@ -7,12 +7,12 @@ use Rattle.std.specs.Option.{option_map}
 use Rattle.std.specs.Ordering.{nat_cmp}
 use Rattle.std.specs.FinMap.{get, empty, get-empty}
 use Rattle.addr4.specs.Prefixes.{AddressPrefix}
-use Rattle.rib_route.specs.declared.rows.Interior.{Interior}
-use Rattle.register_interest.specs.declared.interests.Interest.{Interest}
+use Rattle.rib_route.specs.Rows.{Interior}
+use Rattle.register_interest.specs.Interests.{Interest}
 use Rattle.register_interest.specs.Interests.{without}
 use Rattle.register_interest.specs.Registers.{Registry, KeepsAnswers}
 use Rattle.register_interest.proofs.InterestLemmas.{without_others, without_listed}
-use Rattle.nexthop_known.specs.declared.answer.Hop.{Hop}
+use Rattle.nexthop_known.specs.Hops.{Hop}
 use Rattle.nexthop_known.specs.Hops.{Hops, is_with, IsMapped}
 use Rattle.nexthop_known.specs.Agreement.{IsPresent}
 use Rattle.nexthop_known.proofs.HopLemmas.{with_told, with_itself}

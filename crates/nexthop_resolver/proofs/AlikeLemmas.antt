@@ -5,8 +5,7 @@ use Rattle.std.proofs.lemmas.Slice.Eq.{bytes_eq-Decides}
 use Rattle.std.specs.Option.{option_eq}
 use Rattle.std.specs.Str.{bytes_eq}
 use Rattle.nexthop_resolver.specs.declared.rows.Metric.{Metric}
-use Rattle.nexthop_resolver.specs.declared.rows.Outlet.{Outlet}
-use Rattle.nexthop_resolver.specs.declared.rows.Way.{Way}
+use Rattle.nexthop_resolver.specs.Ways.{Outlet, Way}
 use Rattle.nexthop_resolver.specs.Kept.{same_metric, same_outlet, same_way}
 use Rattle.nexthop_resolver.specs.Left.{TellsAlike}
 use Rattle.nexthop_resolver.proofs.MoveLemmas.{same_some}

@@ -6,12 +6,12 @@ use Rattle.std.specs.Cmp.{nat_cmp_total}
 use Rattle.addr4.specs.Prefixes.{AddressPrefix, Holds}
 use Rattle.register_interest.specs.Width.{width}
 use Rattle.link_change.proofs.MapLemmas.{get_at, get_apart, removed_at, removed_apart}
-use Rattle.rib_route.specs.declared.rows.Interior.{Interior}
+use Rattle.rib_route.specs.Rows.{Interior}
 use Rattle.register_interest.specs.Covers.{longest, matched, IsSubnet, IsCover}
-use Rattle.register_interest.specs.declared.interests.Interest.{Interest}
+use Rattle.register_interest.specs.Interests.{Interest}
 use Rattle.register_interest.specs.Registers.{Registry}
 use Rattle.register_interest.proofs.InterestLemmas.{interests_total, exact_interests}
-use Rattle.nexthop_known.specs.declared.answer.Hop.{Hop}
+use Rattle.nexthop_known.specs.Hops.{Hop}
 use Rattle.nexthop_known.specs.Hops.{Hops, came_at, is_stale_at, learnt, renewed, IsRenewed, IsGivenUp, IsWithSome, IsWithNone}
 use Rattle.nexthop_known.specs.Agreement.{Agree, IsInterestIn, GivesUp}
 use Rattle.nexthop_known.proofs.AgreeLemmas.{answered_agrees, early_agrees, early_is_given_up, forgotten_agrees}

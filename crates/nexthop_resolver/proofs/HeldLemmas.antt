@@ -5,9 +5,9 @@ use Rattle.std.proofs.lemmas.Bool.{and_right, or_parts, or_from}
 use Rattle.std.specs.FinMap as map
 use Rattle.std.specs.FinMap.{get}
 use Rattle.addr4.specs.Prefixes.{AddressPrefix}
-use Rattle.rib_route.specs.declared.rows.Interior.{Interior}
+use Rattle.rib_route.specs.Rows.{Interior}
 use Rattle.register_interest.specs.Registers.{Registry}
-use Rattle.nexthop_known.specs.declared.answer.Hop.{Hop}
+use Rattle.nexthop_known.specs.Hops.{Hop}
 use Rattle.nexthop_known.specs.Hops.{Hops, is_stale_at}
 use Rattle.nexthop_known.proofs.CountLemmas.{named_is_counted}
 use Rattle.pass_core.specs.Passed.{is_beyond, function_of, function_at}

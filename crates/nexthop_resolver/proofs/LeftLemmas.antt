@@ -6,12 +6,12 @@ use Rattle.std.specs.Option.{option_map}
 use Rattle.std.specs.FinMap.{get, insert}
 use Rattle.addr4.specs.Prefixes.{AddressPrefix}
 use Rattle.link_change.specs.Rows.{Rows, Candidates, IsNextCandidate}
-use Rattle.link_change.specs.declared.change.Change.{Change}
-use Rattle.rib_route.specs.declared.rows.Interior.{Interior}
+use Rattle.link_change.specs.Changes.{Change}
+use Rattle.rib_route.specs.Rows.{Interior}
 use Rattle.register_interest.specs.Registers.{Registry}
 use Rattle.pass_core.specs.Passed.{Passed, Walked, stepped, walk_stepped, finished, after_walk}
 use Rattle.pass_core.specs.Turns.{walked_on}
-use Rattle.nexthop_known.specs.declared.answer.Hop.{Hop}
+use Rattle.nexthop_known.specs.Hops.{Hop}
 use Rattle.nexthop_known.specs.Hops.{Hops, is_stale_at, stale_count, settled, renewed, IsMapped, IsLeastStale, IsSettled, IsDiffering}
 use Rattle.nexthop_known.proofs.StaleLemmas.{none_counts, some_counts, one_counts_no_more, same_count, known_count, none_stale}
 use Rattle.nexthop_resolver.specs.Resolving.{Resolving, Answers, in_force_by, fresh_by, walk_to, passes, begun}

@@ -8,7 +8,7 @@ use Rattle.std.proofs.lemmas.Bool.{cases_eq}
 use Rattle.std.specs.Cmp.{nat_cmp_total}
 use Rattle.addr4.specs.Prefixes.{AddressPrefix}
 use Rattle.link_change.proofs.MapLemmas.{get_at, get_apart, removed_at, removed_apart}
-use Rattle.nexthop_known.specs.declared.answer.Hop.{Hop}
+use Rattle.nexthop_known.specs.Hops.{Hop}
 use Rattle.nexthop_known.specs.Hops.{Hops, renewed, IsMapped, IsRenewed}
 use Rattle.nexthop_known.specs.Counts.{Counts, counted, one_more, one_less, one_less_of, is_one, once, Recounts}
 use Rattle.nexthop_known.proofs.StaleLemmas.{same_len}

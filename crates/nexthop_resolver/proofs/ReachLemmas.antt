@@ -6,11 +6,11 @@ use Rattle.std.specs.Option.{option_map}
 use Rattle.std.specs.FinMap.{get, len}
 use Rattle.addr4.specs.Prefixes.{AddressPrefix}
 use Rattle.link_change.specs.Rows.{Rows}
-use Rattle.rib_route.specs.declared.rows.Interior.{Interior}
-use Rattle.register_interest.specs.declared.interests.Interest.{Interest}
+use Rattle.rib_route.specs.Rows.{Interior}
+use Rattle.register_interest.specs.Interests.{Interest}
 use Rattle.register_interest.specs.Interests.{without}
 use Rattle.register_interest.specs.Registers.{Registry, KeepsAnswers}
-use Rattle.nexthop_known.specs.declared.answer.Hop.{Hop}
+use Rattle.nexthop_known.specs.Hops.{Hop}
 use Rattle.nexthop_known.specs.Hops.{is_with, staled}
 use Rattle.nexthop_resolver.specs.Resolving.{Resolving, AreNamed, res_rows}
 use Rattle.nexthop_resolver.specs.Registered.{Agrees}

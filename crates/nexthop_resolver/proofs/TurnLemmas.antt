@@ -9,19 +9,19 @@ use Rattle.addr4.specs.Prefixes.{AddressPrefix}
 use Rattle.link_change.specs.Rows.{Rows, Candidates, IsNextCandidate, CoversRows}
 use Rattle.link_change.specs.Changes.{IsChangeOf}
 use Rattle.link_change.specs.Turns.{IsTurned, taken_turn}
-use Rattle.link_change.specs.declared.change.Change.{Change}
-use Rattle.link_change.specs.declared.turn.Turn.{Turn}
+use Rattle.link_change.specs.Changes.{Change}
+use Rattle.link_change.specs.Turns.{Turn}
 use Rattle.link_change.specs.declared.turn.Turn.TheVariants.{Nothing, Quiet, Sent}
 use Rattle.link_change.proofs.RowLemmas.{same_function}
 use Rattle.link_change.proofs.MapLemmas.{get_at, get_apart}
-use Rattle.rib_route.specs.declared.rows.Interior.{Interior}
+use Rattle.rib_route.specs.Rows.{Interior}
 use Rattle.register_interest.specs.Registers.{Registry}
 use Rattle.pass_core.specs.Passed.{Passed, finished, function_at}
 use Rattle.pass_core.specs.Turns as turns
 use Rattle.pass_core.specs.Turns.{passed, passed_rows, rows_by}
 use Rattle.pass_core.proofs.SplitLemmas.{at_itself, beyond_so}
 use Rattle.pass_core.proofs.TurnLemmas as walks
-use Rattle.nexthop_known.specs.declared.answer.Hop.{Hop}
+use Rattle.nexthop_known.specs.Hops.{Hop}
 use Rattle.nexthop_known.specs.Hops.{Hops, settled, renewed, IsMapped, IsLeastStale, IsDiffering, IsRenewed}
 use Rattle.nexthop_known.specs.Counts.{Counts}
 use Rattle.nexthop_known.proofs.AgreeLemmas.{settled_agrees}

@@ -3,9 +3,9 @@ use Rattle.std.proofs.Common.{◌≡◌, ℕ, Bool, true, false, ◌||◌, ◌&&
 use Rattle.std.specs.Option.{option_map}
 use Rattle.std.specs.FinMap as map
 use Rattle.addr4.specs.Prefixes.{AddressPrefix}
-use Rattle.addr4.specs.declared.place.Place.{Place}
+use Rattle.addr4.specs.Places.{Place}
 use Rattle.addr4.specs.Places.{key_of}
-use Rattle.nexthop_known.specs.declared.answer.Hop.{Hop}
+use Rattle.nexthop_known.specs.Hops.{Hop}
 use Rattle.nexthop_known.specs.Hops.{is_stale_at, IsLeastStale, IsSettled, IsSettledAt, IsDiffering, IsDifferingAt}
 use Rattle.nexthop_resolver.specs.Resolving.{Resolving, is_in_force}
 use Rattle.nexthop_resolver.specs.Turns.{Rests, HasWork}

@@ -6,10 +6,10 @@ use Rattle.std.specs.FinMap as map
 use Rattle.addr4.specs.Prefixes.{AddressPrefix}
 use Rattle.link_change.specs.Rows.{Rows, no_rows, Candidates}
 use Rattle.link_change.specs.Turns.{IsTurned}
-use Rattle.link_change.specs.declared.change.Change.{Change}
-use Rattle.link_change.specs.declared.turn.Turn.{Turn}
-use Rattle.rib_route.specs.declared.rows.Interior.{Interior}
-use Rattle.register_interest.specs.declared.interests.Interest.{Interest}
+use Rattle.link_change.specs.Changes.{Change}
+use Rattle.link_change.specs.Turns.{Turn}
+use Rattle.rib_route.specs.Rows.{Interior}
+use Rattle.register_interest.specs.Interests.{Interest}
 use Rattle.register_interest.specs.Interests.{without}
 use Rattle.register_interest.specs.Registers.{Registry, KeepsAnswers}
 use Rattle.nexthop_known.specs.Hops.{stale_count}

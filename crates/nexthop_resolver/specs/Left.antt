@@ -3,7 +3,7 @@
 use Rattle.std.specs.Prelude.{◌≡◌, ◌↔◌, ℕ, ◌+◌, nat_lt, not, ◌||◌, ◌&&◌, Bool, true, false, is_some, Option, Some, None}
 use Rattle.std.specs.FinMap as map
 use Rattle.addr4.specs.Prefixes.{AddressPrefix}
-use Rattle.nexthop_known.specs.declared.answer.Hop.{Hop}
+use Rattle.nexthop_known.specs.Hops.{Hop}
 use Rattle.nexthop_known.specs.Hops.{Hops, is_stale_at, stale_count, count_of}
 use Rattle.nexthop_resolver.specs.Resolving.{Resolving, is_in_force}
 

@@ -1,3 +1,4 @@
+pub mod Ways
 pub mod Kept
 pub mod Resolving
 pub mod Registered

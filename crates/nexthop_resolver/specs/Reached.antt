@@ -2,8 +2,8 @@
 use Rattle.std.specs.Prelude.{◌≡◌, ℕ, ◌==◌, ◌&&◌, Bool, cond, MatchBool, List, Option, None}
 use Rattle.std.specs.List.{list_any}
 use Rattle.addr4.specs.Prefixes.{AddressPrefix}
-use Rattle.register_interest.specs.declared.interests.Interest.{Interest}
-use Rattle.nexthop_known.specs.declared.answer.Hop.{Hop}
+use Rattle.register_interest.specs.Interests.{Interest}
+use Rattle.nexthop_known.specs.Hops.{Hop}
 use Rattle.nexthop_known.specs.Hops.{IsMapped, is_with}
 use Rattle.nexthop_resolver.specs.Resolving.{Resolving}
 use Rattle.nexthop_resolver.specs.Takes.{Invalidates}

@@ -4,8 +4,8 @@ use Rattle.std.specs.FinMap as map
 use Rattle.addr4.specs.Prefixes.{AddressPrefix}
 use Rattle.link_change.specs.Rows.{Rows}
 use Rattle.link_change.specs.Changes.{IsSent}
-use Rattle.link_change.specs.declared.change.Change.{Change}
-use Rattle.nexthop_known.specs.declared.answer.Hop.{Hop}
+use Rattle.link_change.specs.Changes.{Change}
+use Rattle.nexthop_known.specs.Hops.{Hop}
 use Rattle.nexthop_known.specs.Hops.{Hops, IsMapped, IsPartlyMapped, staled}
 use Rattle.nexthop_known.specs.Counts.{AreCounted, Recounts}
 use Rattle.nexthop_resolver.specs.Resolving.{Resolving, named_by, res_rows}

@@ -7,18 +7,18 @@ ghost use Rattle.nexthop_known.specs.Agreement.{IsInterestIn};
 ghost use Rattle.nexthop_resolver.specs.Registered.{answer_of, interest_of, IsLargest, Agrees, IsEarly, KeepsOthers, Learns, Renews};
 
 use crate::rows::FromMatch;
-use addr4::{Addr, Memory, Prefix};
+use addr4::{Addr, Family, Memory, Prefix};
 use nexthop_known::Known;
 use register_interest::Register;
 use rib_route::Interior;
 
 // Asks about a next hop: what is kept of the answer, and the subnet for which it holds, in which the client is interested from
 // now on. For want of memory nothing changes.
-fn ask<A: FromMatch>(
+fn ask<F: Family, A: FromMatch<F>>(
     client: u8,
-    hop: Addr,
-    register: &mut Register<Interior>,
-) -> Result<(A, Prefix), Memory>
+    hop: Addr<F>,
+    register: &mut Register<Interior<Addr<F>>, F>,
+) -> Result<(A, Prefix<F>), Memory>
     ensures answer { IfOk result (λ r. r.0 ≡ answer_of A.kept_of register.old hop) }
     ensures largest { IfOk result (λ r. IsLargest (map.get register.old.rows) hop r.1) }
     ensures interest { IfOk result (λ r. IsInterestIn (interest_of client register.old) (interest_of client register.new) r.1 true) }
@@ -30,11 +30,11 @@ fn ask<A: FromMatch>(
 }
 
 // Gives up an interest that came too early, unless a known next hop needs it.
-fn give_back<A: FromMatch>(
-    known: &Known<A>,
+fn give_back<F: Family, A: FromMatch<F>>(
+    known: &Known<A, F>,
     client: u8,
-    subnet: Prefix,
-    register: &mut Register<Interior>,
+    subnet: Prefix<F>,
+    register: &mut Register<Interior<Addr<F>>, F>,
 )
     requires { IsEarly A.kept_of client known.now register.old subnet }
     ensures agrees { Agrees A.kept_of client known.now register.new }
@@ -46,11 +46,11 @@ fn give_back<A: FromMatch>(
 }
 
 // Asks about an unknown next hop, and knows it from then on. For want of memory it stays unknown.
-pub(crate) fn learn<A: FromMatch>(
-    known: &mut Known<A>,
+pub(crate) fn learn<F: Family, A: FromMatch<F>>(
+    known: &mut Known<A, F>,
     client: u8,
-    hop: Addr,
-    register: &mut Register<Interior>,
+    hop: Addr<F>,
+    register: &mut Register<Interior<Addr<F>>, F>,
 ) -> Result<(), Memory>
     requires unknown { IsNone (map.get known.old hop) }
     requires agrees { Agrees A.kept_of client known.old register.old }
@@ -70,11 +70,11 @@ pub(crate) fn learn<A: FromMatch>(
 }
 
 // Asks again about a stale next hop. For want of memory it stays stale.
-pub(crate) fn renew<A: FromMatch>(
-    known: &mut Known<A>,
+pub(crate) fn renew<F: Family, A: FromMatch<F>>(
+    known: &mut Known<A, F>,
     client: u8,
-    hop: Addr,
-    register: &mut Register<Interior>,
+    hop: Addr<F>,
+    register: &mut Register<Interior<Addr<F>>, F>,
 ) -> Result<(), Memory>
     requires stale { is_stale_at (map.get known.old hop) ≡ true }
     requires agrees { Agrees A.kept_of client known.old register.old }
@@ -94,11 +94,11 @@ pub(crate) fn renew<A: FromMatch>(
 }
 
 // Forgets a known next hop, and gives up the interest in the subnet of its answer, unless another one needs it.
-pub(crate) fn forget<A: FromMatch>(
-    known: &mut Known<A>,
+pub(crate) fn forget<F: Family, A: FromMatch<F>>(
+    known: &mut Known<A, F>,
     client: u8,
-    hop: Addr,
-    register: &mut Register<Interior>,
+    hop: Addr<F>,
+    register: &mut Register<Interior<Addr<F>>, F>,
 )
     requires known { IsSome (map.get known.old hop) }
     requires agrees { Agrees A.kept_of client known.old register.old }

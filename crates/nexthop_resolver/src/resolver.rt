@@ -15,7 +15,7 @@ ghost use Rattle.nexthop_resolver.specs.Turns.{Rests, HasWork, IsStep, IsTurn};
 
 use crate::asking::{forget, learn, renew};
 use crate::rows::{FromMatch, Via};
-use addr4::{Addr, Memory, Place, Prefix};
+use addr4::{Addr, Family, Memory, Place, Prefix, V4};
 use link_change::{Change, Turn, Upstream, copy_row};
 use nexthop_known::{Known, Tallies};
 use register_interest::Register;
@@ -26,14 +26,14 @@ use std::marker::Model;
 /// The stage of next hops. Contracts see how many rows above name each next hop, the answers about these, and the place of the
 /// walk that is on, if any.
 #[derive(Drop)]
-pub struct Resolver<A> {
+pub struct Resolver<A, F: Family = V4> {
     client: u8,
-    tallies: Tallies,
-    known: Known<A>,
-    walk: Option<Place>,
+    tallies: Tallies<F>,
+    known: Known<A, F>,
+    walk: Option<Place<Prefix<F>>>,
 }
 
-impl<A> Model for Resolver<A> {
+impl<A, F: Family> Model for Resolver<A, F> {
     ghost use Rattle.std.specs.Option.{option_map};
     ghost use Rattle.addr4.specs.Places.{key_of};
     ghost use Rattle.nexthop_resolver.specs.Resolving.{Resolving, AreNamed, resolving_code};
@@ -48,7 +48,7 @@ impl<A> Model for Resolver<A> {
 }
 
 // The next hop of a row, if there is a row.
-fn hop_of<R: Via>(row: &Option<R>) -> Option<Addr>
+fn hop_of<F: Family, R: Via<F>>(row: &Option<R>) -> Option<Addr<F>>
     ensures { result ≡ option_map R.hop row.now }
 {
     match row {
@@ -58,7 +58,7 @@ fn hop_of<R: Via>(row: &Option<R>) -> Option<Addr>
 }
 
 // What a row goes on as by an answer; by none it doesn't.
-fn made_by<R: Via>(row: R, answer: Option<R::Kept>) -> Option<R::Lower>
+fn made_by<F: Family, R: Via<F>>(row: R, answer: Option<R::Kept>) -> Option<R::Lower>
     ensures { result ≡ made_by R.hop R.made row answer }
 {
     match answer {
@@ -68,7 +68,7 @@ fn made_by<R: Via>(row: R, answer: Option<R::Kept>) -> Option<R::Lower>
 }
 
 // Whether the answers in force hold at a prefix: during a walk, beyond its place.
-fn is_in_force(walk: &Option<Place>, prefix: Prefix) -> bool
+fn is_in_force<F: Family>(walk: &Option<Place<Prefix<F>>>, prefix: Prefix<F>) -> bool
     ensures { result ≡ is_in_force (option_map key_of walk.now) prefix }
 {
     match walk {
@@ -78,9 +78,9 @@ fn is_in_force(walk: &Option<Place>, prefix: Prefix) -> bool
     }
 }
 
-impl<A: FromMatch> Resolver<A> {
+impl<F: Family, A: FromMatch<F>> Resolver<A, F> {
     /// No next hop is known. The register knows the resolver as this client. Takes no memory.
-    pub fn new(client: u8, alloc: Global) -> Resolver<A>
+    pub fn new(client: u8, alloc: Global) -> Resolver<A, F>
         ensures { result ≡ nothing_known client }
     {
         Resolver {
@@ -120,7 +120,7 @@ impl<A: FromMatch> Resolver<A> {
 
     /// Whether a row that names this next hop, if one does, may go on at a prefix by another answer than the register's present
     /// one: the next hop is stale, or its fresh answer isn't the one in force, which holds there.
-    pub fn holds_up(&self, hop: Option<Addr>, prefix: Prefix) -> bool
+    pub fn holds_up(&self, hop: Option<Addr<F>>, prefix: Prefix<F>) -> bool
         ensures { (alike : A → A → Bool) → TellsAlike alike → result ≡ hop_lags alike self.now prefix hop }
     {
         match hop {
@@ -130,7 +130,7 @@ impl<A: FromMatch> Resolver<A> {
     }
 
     // The same of one next hop.
-    fn hop_lags(&self, hop: Addr, prefix: Prefix) -> bool
+    fn hop_lags(&self, hop: Addr<F>, prefix: Prefix<F>) -> bool
         ensures { (alike : A → A → Bool) → TellsAlike alike → result ≡ hop_lags alike self.now prefix (Some hop) }
     {
         if self.known.is_stale(hop) {
@@ -144,7 +144,7 @@ impl<A: FromMatch> Resolver<A> {
 
     /// The answers that came with the subnet are stale: the register gave up the interest in it. For want of memory some of them
     /// are stale, and the others as they were.
-    pub fn invalidate(&mut self, subnet: Prefix) -> Result<(), Memory>
+    pub fn invalidate(&mut self, subnet: Prefix<F>) -> Result<(), Memory>
         ensures stale { OnOk result (Invalidates subnet self.old self.new) }
         ensures memory { OnErr result (PartlyInvalidates subnet self.old self.new) }
     {
@@ -153,7 +153,7 @@ impl<A: FromMatch> Resolver<A> {
     }
 
     // What a row goes on as by the answers in force.
-    fn by_in_force<R: Via<Kept = A>>(&self, row: Option<R>) -> Option<R::Lower>
+    fn by_in_force<R: Via<F, Kept = A>>(&self, row: Option<R>) -> Option<R::Lower>
         ensures { result ≡ goes_on R.hop R.made (in_force_by self.now.known) row }
     {
         match row {
@@ -166,7 +166,7 @@ impl<A: FromMatch> Resolver<A> {
     }
 
     // What a row goes on as by the fresh answers.
-    fn by_fresh<R: Via<Kept = A>>(&self, row: Option<R>) -> Option<R::Lower>
+    fn by_fresh<R: Via<F, Kept = A>>(&self, row: Option<R>) -> Option<R::Lower>
         ensures { result ≡ goes_on R.hop R.made (fresh_by self.now.known) row }
     {
         match row {
@@ -179,7 +179,7 @@ impl<A: FromMatch> Resolver<A> {
     }
 
     // What a row at a prefix goes on as.
-    fn resolve<R: Via<Kept = A>>(&self, prefix: Prefix, row: Option<R>) -> Option<R::Lower>
+    fn resolve<R: Via<F, Kept = A>>(&self, prefix: Prefix<F>, row: Option<R>) -> Option<R::Lower>
         ensures { result ≡ passed (resolved R.hop R.made) (passes self.now) prefix row }
     {
         if is_in_force(&self.walk, prefix) {
@@ -189,7 +189,11 @@ impl<A: FromMatch> Resolver<A> {
     }
 
     // One row more names the next hop. For want of memory nothing changes.
-    fn note(&mut self, hop: Addr, register: &mut Register<Interior>) -> Result<(), Memory>
+    fn note(
+        &mut self,
+        hop: Addr<F>,
+        register: &mut Register<Interior<Addr<F>>, F>,
+    ) -> Result<(), Memory>
         requires agrees { Agrees A.kept_of self.old.client self.old.known register.old }
         ensures moves { OnOk result (Moves (told_of A.kept_of register.old) None (Some hop) self.old self.new) }
         ensures agrees { Agrees A.kept_of self.new.client self.new.known register.new }
@@ -209,7 +213,7 @@ impl<A: FromMatch> Resolver<A> {
     }
 
     // One row less names the next hop.
-    fn release(&mut self, hop: Addr, register: &mut Register<Interior>)
+    fn release(&mut self, hop: Addr<F>, register: &mut Register<Interior<Addr<F>>, F>)
         requires agrees { Agrees A.kept_of self.old.client self.old.known register.old }
         ensures moves { Moves (told_of A.kept_of register.old) (Some hop) None self.old self.new }
         ensures only { KeepsOnly self.old.known self.new.known }
@@ -224,8 +228,8 @@ impl<A: FromMatch> Resolver<A> {
     // One row more, which names a next hop or none.
     fn note_row(
         &mut self,
-        after: Option<Addr>,
-        register: &mut Register<Interior>,
+        after: Option<Addr<F>>,
+        register: &mut Register<Interior<Addr<F>>, F>,
     ) -> Result<(), Memory>
         requires agrees { Agrees A.kept_of self.old.client self.old.known register.old }
         ensures moves { OnOk result (Moves (told_of A.kept_of register.old) None after self.old self.new) }
@@ -243,7 +247,11 @@ impl<A: FromMatch> Resolver<A> {
     }
 
     // One row less, which named a next hop or none.
-    fn release_row(&mut self, before: Option<Addr>, register: &mut Register<Interior>)
+    fn release_row(
+        &mut self,
+        before: Option<Addr<F>>,
+        register: &mut Register<Interior<Addr<F>>, F>,
+    )
         requires agrees { Agrees A.kept_of self.old.client self.old.known register.old }
         ensures moves { Moves (told_of A.kept_of register.old) before None self.old self.new }
         ensures only { KeepsOnly self.old.known self.new.known }
@@ -260,9 +268,9 @@ impl<A: FromMatch> Resolver<A> {
     // one, nothing changes. For want of memory nothing changes.
     fn swap(
         &mut self,
-        before: Option<Addr>,
-        after: Option<Addr>,
-        register: &mut Register<Interior>,
+        before: Option<Addr<F>>,
+        after: Option<Addr<F>>,
+        register: &mut Register<Interior<Addr<F>>, F>,
     ) -> Result<(), Memory>
         requires agrees { Agrees A.kept_of self.old.client self.old.known register.old }
         ensures moves { OnOk result (Moves (told_of A.kept_of register.old) before after self.old self.new) }
@@ -281,11 +289,11 @@ impl<A: FromMatch> Resolver<A> {
     /// A change from above, as it goes on below: by the answers that hold at its prefix. A next hop that comes is asked for at
     /// once, and has one answer for both; one that no row names any more is forgotten. None exactly where the row below stays the
     /// same. For want of memory nothing changes.
-    pub fn take_in<R: Via<Kept = A>>(
+    pub fn take_in<R: Via<F, Kept = A>>(
         &mut self,
-        change: Change<R>,
-        register: &mut Register<Interior>,
-    ) -> Result<Option<Change<R::Lower>>, Memory>
+        change: Change<R, Prefix<F>>,
+        register: &mut Register<Interior<Addr<F>>, F>,
+    ) -> Result<Option<Change<R::Lower, Prefix<F>>>, Memory>
         requires agrees { Agrees A.kept_of self.old.client self.old.known register.old }
         ensures taken { IfOk result (TakesIn R.hop R.made self.old self.new change) }
         ensures keeps { OnOk result (Keeps (told_of A.kept_of register.old) self.old self.new) }
@@ -305,11 +313,11 @@ impl<A: FromMatch> Resolver<A> {
     }
 
     // The walk goes from a place to the next candidate, or ends. For want of memory nothing changes.
-    fn step<R: Via<Kept = A>, U: Upstream<Row = R>>(
+    fn step<R: Via<F, Kept = A>, U: Upstream<F, Row = R>>(
         &mut self,
         upper: &U,
-        place: Place,
-    ) -> Result<Turn<R::Lower>, Memory>
+        place: Place<Prefix<F>>,
+    ) -> Result<Turn<R::Lower, Prefix<F>>, Memory>
         ensures step { IfOk result (IsStep R.hop R.made (U.candidates upper.now) (U.rows upper.now) (at_place self.old (key_of place)) self.new) }
         ensures memory { OnErr result (self.new ≡ self.old) }
     {
@@ -330,11 +338,11 @@ impl<A: FromMatch> Resolver<A> {
     /// that lies beyond its place, and sends the change there, if there is one, or ends; the least stale next hop is asked for
     /// again; a walk begins, with its first step. Nothing exactly where there is nothing to do. For want of memory nothing
     /// changes.
-    pub fn unit<R: Via<Kept = A>, U: Upstream<Row = R>>(
+    pub fn unit<R: Via<F, Kept = A>, U: Upstream<F, Row = R>>(
         &mut self,
         upper: &U,
-        register: &mut Register<Interior>,
-    ) -> Result<Turn<R::Lower>, Memory>
+        register: &mut Register<Interior<Addr<F>>, F>,
+    ) -> Result<Turn<R::Lower, Prefix<F>>, Memory>
         requires agrees { Agrees A.kept_of self.old.client self.old.known register.old }
         ensures taken { IfOk result (IsTurn R.hop R.made (U.candidates upper.now) (U.rows upper.now) A.kept_of register.old register.new self.old self.new) }
         ensures agrees { Agrees A.kept_of self.new.client self.new.known register.new }
@@ -355,10 +363,10 @@ impl<A: FromMatch> Resolver<A> {
     }
 
     /// The row at a prefix of the link below.
-    pub fn asked<R: Via<Kept = A>, U: Upstream<Row = R>>(
+    pub fn asked<R: Via<F, Kept = A>, U: Upstream<F, Row = R>>(
         &self,
         upper: &U,
-        prefix: Prefix,
+        prefix: Prefix<F>,
     ) -> Result<Option<R::Lower>, Memory>
         ensures { IfOk result (λ row. row ≡ res_rows R.hop R.made self.now (U.rows upper.now) prefix) }
     {
@@ -367,7 +375,7 @@ impl<A: FromMatch> Resolver<A> {
     }
 
     /// The answer about a next hop that holds at a prefix, if it is known.
-    pub fn answer(&self, hop: Addr, prefix: Prefix) -> Option<A>
+    pub fn answer(&self, hop: Addr<F>, prefix: Prefix<F>) -> Option<A>
         ensures { result ≡ function_at (passes self.now) prefix hop }
     {
         if is_in_force(&self.walk, prefix) {
@@ -378,11 +386,11 @@ impl<A: FromMatch> Resolver<A> {
 
     /// The least candidate of the link below beyond a place: those of the link above, of which some may have no row below.
     /// Every row below stands at one.
-    pub fn next_candidate<R: Via<Kept = A>, U: Upstream<Row = R>>(
+    pub fn next_candidate<R: Via<F, Kept = A>, U: Upstream<F, Row = R>>(
         &self,
         upper: &U,
-        after: Place,
-    ) -> Option<Prefix>
+        after: Place<Prefix<F>>,
+    ) -> Option<Prefix<F>>
         ensures next { IsNextCandidate (U.candidates upper.now) (key_of after) result }
         ensures covers { CoversRows (U.candidates upper.now) (res_rows R.hop R.made self.now (U.rows upper.now)) }
     {

@@ -2,30 +2,30 @@
 
 ghost use Rattle.std.specs.Prelude.{◌≡◌, ℕ, Option};
 ghost use Rattle.addr4.specs.Prefixes.{AddressPrefix};
-ghost use Rattle.rib_route.specs.declared.rows.Interior.{Interior};
+ghost use Rattle.rib_route.specs.Rows.{Interior as Inner};
 ghost use Rattle.register_interest.specs.Matches.{match_of};
 ghost use Rattle.nexthop_resolver.specs.Kept.{first_router};
 
-use addr4::{Addr, Row};
-use bgp_attr::Route;
+use addr4::{Addr, Family, Prefix, Row};
+use bgp_attr::{Route, SharedAttrs};
 use nexthop_known::Answer;
 use register_interest::Match;
 use rib_route::{External, FibRow, Iface, Interior};
 
 /// What is kept of the register's answer about a next hop.
-pub trait FromMatch: Answer {
+pub trait FromMatch<F: Family>: Answer {
     /// What is kept of the longest interior route that holds the next hop, or of none.
-    ghost kept_of: { Option (AddressPrefix × Interior) → Self };
+    ghost kept_of: { Option (AddressPrefix × Inner) → Self };
 
     /// What is kept of an answer.
-    fn from_match(found: &Option<Match<Interior>>) -> Self
+    fn from_match(found: &Option<Match<Interior<Addr<F>>, Prefix<F>>>) -> Self
         ensures { result ≡ kept_of (match_of found.now) };
 }
 
 /// A row that names a next hop.
-pub trait Via: Row {
+pub trait Via<F: Family>: Row {
     /// What is kept of the answer about the next hop.
-    type Kept: FromMatch;
+    type Kept: FromMatch<F>;
 
     /// What the row goes on as.
     type Lower: Row;
@@ -37,7 +37,7 @@ pub trait Via: Row {
     ghost made: { Self → Self.Kept → Option Self.Lower };
 
     /// The next hop that the row names.
-    fn next_hop(&self) -> Addr
+    fn next_hop(&self) -> Addr<F>
         ensures { result ≡ hop self.now };
 
     /// The row as it goes on by an answer; none where it doesn't.
@@ -57,12 +57,12 @@ impl Answer for Metric {
     }
 }
 
-impl FromMatch for Metric {
+impl<F: Family> FromMatch<F> for Metric {
     ghost use Rattle.nexthop_resolver.specs.Kept.{metric_of};
 
     ghost kept_of = { metric_of };
 
-    fn from_match(found: &Option<Match<Interior>>) -> Metric {
+    fn from_match(found: &Option<Match<Interior<Addr<F>>, Prefix<F>>>) -> Metric {
         match found {
             None => Metric { igp: None },
             Some(found) => Metric {
@@ -72,22 +72,22 @@ impl FromMatch for Metric {
     }
 }
 
-impl Via for Route {
+impl<F: Family> Via<F> for Route<SharedAttrs<F>> {
     ghost use Rattle.nexthop_resolver.specs.Kept.{route_hop, with_metric};
 
     type Kept = Metric;
 
-    type Lower = Route;
+    type Lower = Route<SharedAttrs<F>>;
 
     ghost hop = { route_hop };
 
     ghost made = { with_metric };
 
-    fn next_hop(&self) -> Addr {
+    fn next_hop(&self) -> Addr<F> {
         self.attrs.attrs().next_hop
     }
 
-    fn resolved(self, kept: Metric) -> Option<Route> {
+    fn resolved(self, kept: Metric) -> Option<Route<SharedAttrs<F>>> {
         match kept.igp {
             None => None,
             Some(igp) => {
@@ -101,30 +101,30 @@ impl Via for Route {
 
 /// How packets leave towards a next hop.
 #[derive(Clone, Copy, PartialEq, Eq)]
-pub struct Outlet {
+pub struct Outlet<A = Addr> {
     /// The router that they are sent to first; none where the next hop is on a subnet of this router.
-    pub gateway: Option<Addr>,
+    pub gateway: Option<A>,
     pub iface: Iface,
 }
 
 /// Of an answer for the forwarding table: the outlet, or none where no route holds the next hop.
 #[derive(Clone, Copy, PartialEq, Eq)]
-pub struct Way {
-    pub outlet: Option<Outlet>,
+pub struct Way<A = Addr> {
+    pub outlet: Option<Outlet<A>>,
 }
 
-impl Answer for Way {
-    fn same(&self, other: &Way) -> bool {
+impl<F: Family> Answer for Way<Addr<F>> {
+    fn same(&self, other: &Way<Addr<F>>) -> bool {
         self == other
     }
 }
 
-impl FromMatch for Way {
+impl<F: Family> FromMatch<F> for Way<Addr<F>> {
     ghost use Rattle.nexthop_resolver.specs.Kept.{way_of};
 
     ghost kept_of = { way_of };
 
-    fn from_match(found: &Option<Match<Interior>>) -> Way {
+    fn from_match(found: &Option<Match<Interior<Addr<F>>, Prefix<F>>>) -> Way<Addr<F>> {
         match found {
             None => Way { outlet: None },
             Some(found) => Way {
@@ -138,7 +138,7 @@ impl FromMatch for Way {
 }
 
 /// Whom packets are sent to: the gateway, or else the next hop itself.
-fn first_router(gateway: Option<Addr>, next_hop: Addr) -> Addr
+fn first_router<F: Family>(gateway: Option<Addr<F>>, next_hop: Addr<F>) -> Addr<F>
     ensures { result ≡ first_router gateway next_hop }
 {
     match gateway {
@@ -147,22 +147,22 @@ fn first_router(gateway: Option<Addr>, next_hop: Addr) -> Addr
     }
 }
 
-impl Via for External {
+impl<F: Family> Via<F> for External<Addr<F>> {
     ghost use Rattle.nexthop_resolver.specs.Kept.{external_hop, over};
 
-    type Kept = Way;
+    type Kept = Way<Addr<F>>;
 
-    type Lower = FibRow;
+    type Lower = FibRow<Addr<F>>;
 
     ghost hop = { external_hop };
 
     ghost made = { over };
 
-    fn next_hop(&self) -> Addr {
+    fn next_hop(&self) -> Addr<F> {
         self.next_hop
     }
 
-    fn resolved(self, kept: Way) -> Option<FibRow> {
+    fn resolved(self, kept: Way<Addr<F>>) -> Option<FibRow<Addr<F>>> {
         match kept.outlet {
             None => None,
             Some(outlet) => Some(FibRow {

@@ -1,5 +1,5 @@
 use Rattle.std.proofs.Common.{◌≡◌, take, map, List, []}
-use Rattle.bgp_attr.specs.declared.route.Route.{Route}
+use Rattle.bgp_attr.specs.Routes.{Route}
 use Rattle.best_path.specs.Keys.{candidate_of}
 use Rattle.best_path.specs.Places.{those_local}
 use Rattle.best_path.proofs.NearestLemmas.{LeadsFront}

@@ -5,7 +5,7 @@ use Rattle.fanout_queue.specs.Index.{keys_from, stops}
 use Rattle.fanout_queue.proofs.index.find_stop.Goals as goal
 
 pub returns-clause-found : goal.returns-clause-found
-returns-clause-found c =
+returns-clause-found g c =
     c.copied.ensures
     ∙ find_from_yields_List (stops c.args.place c.args.other.now) _ _ c.find.result c.find.ensures.ran
     (YieldsList-from_rest (keys_from c.args.from c.args.index.now) (c.range.ensures.between tt))

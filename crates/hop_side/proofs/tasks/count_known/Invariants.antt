@@ -5,4 +5,4 @@ use Rattle.hop_side.specs.Resolvers.{known_of}
 use Rattle.hop_side.proofs.tasks.count_known.Given as goal
 
 abbrev pub invariant-loop-resolver : goal.invariant-loop-resolver
-invariant-loop-resolver l = l.known + sum_by known_of l.resolver-iterator ≡ sum_by known_of (values l.resolvers)
+invariant-loop-resolver g l = l.known + sum_by known_of l.resolver-iterator ≡ sum_by known_of (values l.resolvers)

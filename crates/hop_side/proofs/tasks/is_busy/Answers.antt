@@ -4,4 +4,4 @@ use Rattle.nexthop_resolver.proofs.LeftLemmas.{busy_is}
 use Rattle.hop_side.proofs.tasks.is_busy.Goals as goal
 
 pub returns : goal.returns
-returns c = busy_is same_metric c.busy.result c.args.resolver.now tells_metrics c.busy.ensures
+returns g c = busy_is same_metric c.busy.result c.args.resolver.now tells_metrics c.busy.ensures

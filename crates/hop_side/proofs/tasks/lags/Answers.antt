@@ -3,4 +3,4 @@ use Rattle.nexthop_resolver.proofs.AlikeLemmas.{tells_metrics}
 use Rattle.hop_side.proofs.tasks.lags.Goals as goal
 
 pub returns : goal.returns
-returns c = c.holds_up.ensures same_metric tells_metrics
+returns g c = c.holds_up.ensures same_metric tells_metrics

@@ -1,6 +1,6 @@
 use Rattle.std.proofs.Common.{◌∙◌, sym, ap}
 use Rattle.link_change.specs.Rows.{Rows}
-use Rattle.bgp_attr.specs.declared.route.Route.{Route}
+use Rattle.bgp_attr.specs.Routes.{Route}
 use Rattle.decision.specs.Lineups.{at_prefix, chosen}
 use Rattle.decision.proofs.best.Best.winner.Goals as goal
 

@@ -1,7 +1,7 @@
 use Rattle.std.proofs.Common.{◌≡◌, ◌∙◌, sym, ap}
 use Rattle.std.proofs.lemmas.Result.{IfOk-weaker}
 use Rattle.link_change.specs.Rows.{Rows}
-use Rattle.bgp_attr.specs.declared.route.Route.{Route}
+use Rattle.bgp_attr.specs.Routes.{Route}
 use Rattle.decision.specs.Branches.{best_rows}
 use Rattle.decision.specs.Lineups.{at_prefix, chosen}
 use Rattle.decision.proofs.best.BestUpstream.asked.Goals as goal

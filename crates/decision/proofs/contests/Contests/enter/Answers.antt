@@ -9,15 +9,15 @@ use Rattle.decision.proofs.Kept.{put_known, put_marked, unmarked}
 use Rattle.decision.proofs.contests.Contests.enter.Goals as goal
 
 pub invariant_of-self : goal.invariant_of-self
-invariant_of-self c = subst (λ (m : FinMap prefix_cmp Mark). AreMarked m c.self.inside.lines.rows) (sym c.in_err-keep.ensures.memory) c.self.invariant
+invariant_of-self g c = subst (λ (m : FinMap prefix_cmp Mark). AreMarked m c.self.inside.lines.rows) (sym c.in_err-keep.ensures.memory) c.self.invariant
 
 pub invariant_of-self-2 : goal.invariant_of-self-2
-invariant_of-self-2 c =
+invariant_of-self-2 g c =
     subst (λ (m : FinMap prefix_cmp Mark). AreMarked m c.self.inside.lines.rows) (sym c.in_ok-keep.ensures.ok)
     (put_marked c.self.inside.marks.rows c.self.inside.lines.rows c.self.inside.lines.rows c.args.prefix _ (λ q apart. refl) c.self.invariant)
 
 pub returns : goal.returns
-returns c =
+returns g c =
     let mark : Mark = record { walkers = 1; winner = None } in
     let none = c.self.invariant c.args.prefix (unmarked c.self.inside.marks.rows c.self.inside.lines.rows c.args.prefix
     (ap (λ (m : FinMap prefix_cmp Contest). tables.get m c.args.prefix) c.self.view_is ∙ c.requires)) in

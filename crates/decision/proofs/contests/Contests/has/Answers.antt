@@ -14,4 +14,5 @@ pub returns-in-Some : goal.returns-in-Some
 returns-in-Some g c =
     let rows = g.B.Branches.rows c.args.all.now in
     let p = c.args.prefix.now in
-    c.has.ensures ∙ ap is_some (ap (chosen (at_prefix rows p)) (sym c.in-Some.is ∙ c.winner.ensures) ∙ knows_best rows p (tables.get c.args.self.now p) (c.requires p))
+    let is = ap (chosen (at_prefix rows p)) (sym c.in-Some.is ∙ c.winner.ensures) ∙ knows_best rows p (tables.get c.args.self.now p) (c.requires p) in
+    ◌∙◌ {b = is_some (rows c.in-Some.number p)} c.has.ensures (ap is_some is)

@@ -10,10 +10,10 @@ use Rattle.decision.proofs.CountLemmas.{has_room, has_some, first_comes, stays_c
 use Rattle.decision.proofs.contests.Contests.note.Goals as goal
 
 pub enter-requires : goal.enter-requires
-enter-requires c = nothing_known c.self.inside.marks.rows c.self.inside.lines.rows c.args.prefix (sym c.in_default.ensures.value)
+enter-requires g c = nothing_known c.self.inside.marks.rows c.self.inside.lines.rows c.args.prefix (sym c.in_default.ensures.value)
 
 pub returns-in_default-clause-counts : goal.returns-in_default-clause-counts
-returns-in_default-clause-counts c =
+returns-in_default-clause-counts g c =
     let p = c.args.prefix in
     let first : Contest = record { walkers = 1; winner = None; line = None } in
     let none = ap (λ (m : FinMap prefix_cmp Contest). tables.get m p) (sym c.self.view_is) ∙ nothing_known c.self.inside.marks.rows c.self.inside.lines.rows p (sym c.in_default.ensures.value) in
@@ -21,7 +21,7 @@ returns-in_default-clause-counts c =
     stays_counts c.args.self.now c.enter.new.self p c.args.comes first (λ e. absurd (omega (arith, e))) (first_comes p c.args.comes c.args.self.now c.requires none) new
 
 pub returns-in_default-clause-known : goal.returns-in_default-clause-known
-returns-in_default-clause-known c = λ rows candidates counts covers knows.
+returns-in_default-clause-known g c = λ rows candidates counts covers knows.
     let p = c.args.prefix in
     let first : Contest = record { walkers = 1; winner = None; line = None } in
     let none = ap (λ (m : FinMap prefix_cmp Contest). tables.get m p) (sym c.self.view_is) ∙ nothing_known c.self.inside.marks.rows c.self.inside.lines.rows p (sym c.in_default.ensures.value) in
@@ -29,22 +29,22 @@ returns-in_default-clause-known c = λ rows candidates counts covers knows.
     enters_knows c.args.self.now c.enter.new.self p first none refl refl new rows knows
 
 pub moved-mark-requires-clause-more : goal.moved-mark-requires-clause-more
-moved-mark-requires-clause-more c = λ comes.
+moved-mark-requires-clause-more g c = λ comes.
     let p = c.args.prefix in
     let at = ap (λ (m : FinMap prefix_cmp Contest). tables.get m p) (sym c.self.view_is) ∙ known_of c.self.inside.marks.rows c.self.inside.lines.rows p c.in-Some.mark.now (sym c.in-Some.ensures.value) in
     subst (λ o. walkers_in o < 65) at (has_room p c.args.comes c.args.self.now c.requires comes)
 
 pub moved-mark-requires-clause-less : goal.moved-mark-requires-clause-less
-moved-mark-requires-clause-less c = λ comes.
+moved-mark-requires-clause-less g c = λ comes.
     let p = c.args.prefix in
     let at = ap (λ (m : FinMap prefix_cmp Contest). tables.get m p) (sym c.self.view_is) ∙ known_of c.self.inside.marks.rows c.self.inside.lines.rows p c.in-Some.mark.now (sym c.in-Some.ensures.value) in
     subst (λ o. 0 < walkers_in o) at (has_some p c.args.comes c.args.self.now c.requires comes)
 
 pub invariant_of-self-2 : goal.invariant_of-self-2
-invariant_of-self-2 c = put_marked c.self.inside.marks.rows c.self.inside.lines.rows c.self.inside.lines.rows c.args.prefix _ (λ q apart. refl) c.self.invariant
+invariant_of-self-2 g c = put_marked c.self.inside.marks.rows c.self.inside.lines.rows c.self.inside.lines.rows c.args.prefix _ (λ q apart. refl) c.self.invariant
 
 pub returns-then-mark-eq0-clause-counts : goal.returns-then-mark-eq0-clause-counts
-returns-then-mark-eq0-clause-counts c =
+returns-then-mark-eq0-clause-counts g c =
     let p = c.args.prefix in
     let m = c.moved-mark.result in
     let mark : Mark = record { walkers = m; winner = c.in-Some.mark.now.winner } in
@@ -55,14 +55,14 @@ returns-then-mark-eq0-clause-counts c =
     (then_updated c.args.self.now _ c.forget.new.self p _ None moved c.forget.ensures)
 
 pub returns-then-mark-eq0-clause-known : goal.returns-then-mark-eq0-clause-known
-returns-then-mark-eq0-clause-known c =
+returns-then-mark-eq0-clause-known g c =
     let p = c.args.prefix in
     let mark : Mark = record { walkers = c.moved-mark.result; winner = c.in-Some.mark.now.winner } in
     let moved = put_known c.args.self.now c.self.inside.marks.rows c.self.inside.lines.rows c.self.inside.lines.rows p mark c.self.view_is (λ q apart. refl) in
     gone_knows c.args.self.now c.forget.new.self p (then_updated c.args.self.now _ c.forget.new.self p _ None moved c.forget.ensures)
 
 pub returns-else-mark-eq0-clause-counts : goal.returns-else-mark-eq0-clause-counts
-returns-else-mark-eq0-clause-counts c =
+returns-else-mark-eq0-clause-counts g c =
     let p = c.args.prefix in
     let m = c.moved-mark.result in
     let mark : Mark = record { walkers = m; winner = c.in-Some.mark.now.winner } in
@@ -72,7 +72,7 @@ returns-else-mark-eq0-clause-counts c =
     (subst (λ o. cond c.args.comes (m ≡ walkers_in o + 1) (m + 1 ≡ walkers_in o)) (sym at) c.moved-mark.ensures) moved
 
 pub returns-else-mark-eq0-clause-known : goal.returns-else-mark-eq0-clause-known
-returns-else-mark-eq0-clause-known c = λ rows candidates counts covers knows.
+returns-else-mark-eq0-clause-known g c = λ rows candidates counts covers knows.
     let p = c.args.prefix in
     let mark : Mark = record { walkers = c.moved-mark.result; winner = c.in-Some.mark.now.winner } in
     let line = tables.get c.self.inside.lines.rows p in

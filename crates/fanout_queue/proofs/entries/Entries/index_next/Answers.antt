@@ -1,7 +1,11 @@
 use Rattle.std.proofs.Common.{arith}
 use Rattle.std.proofs.lemmas.List.{length-map}
-use Rattle.fanout_queue.proofs.EntryLemmas.{end_is, more_kept}
+use Rattle.fanout_queue.proofs.EntryLemmas.{end_is, more_kept, same_indexed}
 use Rattle.fanout_queue.proofs.entries.Entries.index_next.Goals as goal
+
+pub invariant_of-self : goal.invariant_of-self
+invariant_of-self g c =
+    same_indexed c.self.inside.first c.self.inside.kept.items c.self.inside.index c.put_key.new.index c.self.inside.indexed c.in_err-put_key.ensures.memory c.self.invariant
 
 pub invariant_of-self-2 : goal.invariant_of-self-2
 invariant_of-self-2 g c =

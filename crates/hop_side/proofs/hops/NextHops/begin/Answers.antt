@@ -1,6 +1,6 @@
 use Rattle.std.proofs.Common.{◌≡◌, ◌∙◌, sym, ap, subst}
 use Rattle.std.proofs.lemmas.Result.{on_ok_weaker}
-use Rattle.rib_route.specs.declared.rows.Interior.{Interior}
+use Rattle.rib_route.specs.Rows.{Interior}
 use Rattle.link_change.specs.Rows.{no_rows}
 use Rattle.register_interest.specs.Registers.{Registry}
 use Rattle.nexthop_resolver.specs.declared.rows.Metric.{Metric}
@@ -12,14 +12,14 @@ use Rattle.hop_side.proofs.StepLemmas.{begun_leads, begun_counted, begun_agree, 
 use Rattle.hop_side.proofs.hops.NextHops.begin.Goals as goal
 
 pub returns-clause-after : goal.returns-clause-after
-returns-clause-after c =
+returns-clause-after g c =
     on_ok_weaker c.push_entry.result
     (λ _. put_by_key c.self.inside.resolvers c.insert.new.self c.args.self.now c.from-key.result c.args.number c.new-resolver.result c.self.view_is c.in_ok-insert.ensures.updates c.from-key.ensures
     ∙ ap (λ (x : Resolving Metric). put_resolver c.args.number x c.args.self.now) c.new-resolver.ensures)
     c.push_entry.ensures
 
 pub returns-clause-leads : goal.returns-clause-leads
-returns-clause-leads c =
+returns-clause-leads g c =
     on_ok_weaker c.push_entry.result
     (λ _.
     let put = put_by_key c.self.inside.resolvers c.insert.new.self c.args.self.now c.from-key.result c.args.number c.new-resolver.result c.self.view_is c.in_ok-insert.ensures.updates c.from-key.ensures in
@@ -28,7 +28,7 @@ returns-clause-leads c =
     c.push_entry.ensures
 
 pub returns-clause-counted : goal.returns-clause-counted
-returns-clause-counted c =
+returns-clause-counted g c =
     on_ok_weaker c.push_entry.result
     (λ _.
     let put = put_by_key c.self.inside.resolvers c.insert.new.self c.args.self.now c.from-key.result c.args.number c.new-resolver.result c.self.view_is c.in_ok-insert.ensures.updates c.from-key.ensures in
@@ -37,7 +37,7 @@ returns-clause-counted c =
     c.push_entry.ensures
 
 pub returns-clause-agree : goal.returns-clause-agree
-returns-clause-agree c =
+returns-clause-agree g c =
     on_ok_weaker c.push_entry.result
     (λ _.
     let put = put_by_key c.self.inside.resolvers c.insert.new.self c.args.self.now c.from-key.result c.args.number c.new-resolver.result c.self.view_is c.in_ok-insert.ensures.updates c.from-key.ensures in
@@ -46,7 +46,7 @@ returns-clause-agree c =
     c.push_entry.ensures
 
 pub returns-clause-sound : goal.returns-clause-sound
-returns-clause-sound c =
+returns-clause-sound g c =
     on_ok_weaker c.push_entry.result
     (λ _.
     let put = put_by_key c.self.inside.resolvers c.insert.new.self c.args.self.now c.from-key.result c.args.number c.new-resolver.result c.self.view_is c.in_ok-insert.ensures.updates c.from-key.ensures in

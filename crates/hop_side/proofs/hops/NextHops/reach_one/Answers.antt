@@ -11,7 +11,7 @@ use Rattle.hop_side.proofs.ReachLemmas.{reaches_none, reaches_some}
 use Rattle.hop_side.proofs.hops.NextHops.reach_one.Goals as goal
 
 pub returns-in_default-clause-stale : goal.returns-in_default-clause-stale
-returns-in_default-clause-stale c =
+returns-in_default-clause-stale g c =
     let m = c.self.inside.resolvers in
     let a = c.args.self.now in
     let k = c.from-number.result in
@@ -19,7 +19,7 @@ returns-in_default-clause-stale c =
     subst (ReachesOne c.args.interest a) (sym same) (reaches_none c.args.interest k a c.from-number.ensures (sym (c.in_default.ensures.value ∙ read_at m a k c.self.view_is)))
 
 pub returns-clause-stale : goal.returns-clause-stale
-returns-clause-stale c =
+returns-clause-stale g c =
     let m = c.self.inside.resolvers in
     let a = c.args.self.now in
     let k = c.from-number.result in
@@ -30,7 +30,7 @@ returns-clause-stale c =
     (on_ok_weaker c.invalidate.result (reaches_some c.args.interest k a s s' c.from-number.ensures at) c.invalidate.ensures.stale)
 
 pub returns-clause-memory : goal.returns-clause-memory
-returns-clause-memory c =
+returns-clause-memory g c =
     let m = c.self.inside.resolvers in
     let a = c.args.self.now in
     let k = c.from-number.result in

@@ -8,23 +8,23 @@ use Rattle.hop_side.proofs.StepLemmas.{on_err, took}
 use Rattle.hop_side.proofs.hops.NextHops.take_in.Goals as goal
 
 pub unreachable-requires : goal.unreachable-requires
-unreachable-requires c = lent_none c.self.inside.resolvers c.args.self.now c.args.number c.self.view_is c.in_default.ensures.value c.requires.there
+unreachable-requires g c = lent_none c.self.inside.resolvers c.args.self.now c.args.number c.self.view_is c.in_default.ensures.value c.requires.there
 
 pub take_in-requires : goal.take_in-requires
-take_in-requires c = record { agrees = c.requires.agree c.args.number c.in-Some.resolver.now (sym (c.in-Some.ensures.value ∙ read_at c.self.inside.resolvers c.args.self.now c.args.number c.self.view_is)) }
+take_in-requires g c = record { agrees = c.requires.agree c.args.number c.in-Some.resolver.now (sym (c.in-Some.ensures.value ∙ read_at c.self.inside.resolvers c.args.self.now c.args.number c.self.view_is)) }
 
 pub returns-in_err-sent-clause-memory : goal.returns-in_err-sent-clause-memory
-returns-in_err-sent-clause-memory c =
+returns-in_err-sent-clause-memory g c =
     let at = sym (c.in-Some.ensures.value ∙ read_at c.self.inside.resolvers c.args.self.now c.args.number c.self.view_is) in
     on_err c.from_residual.result _ (subst (λ (n : ℕ). KeepsOthers n c.args.register.now c.take_in.new.register) (c.requires.sound c.args.number c.in-Some.resolver.now at).client c.take_in.ensures.others)
 
 pub returns-in_err-push_sent-clause-memory : goal.returns-in_err-push_sent-clause-memory
-returns-in_err-push_sent-clause-memory c =
+returns-in_err-push_sent-clause-memory g c =
     let at = sym (c.in-Some.ensures.value ∙ read_at c.self.inside.resolvers c.args.self.now c.args.number c.self.view_is) in
     on_err c.from_residual-in_err-push_sent.result _ (subst (λ (n : ℕ). KeepsOthers n c.args.register.now c.take_in.new.register) (c.requires.sound c.args.number c.in-Some.resolver.now at).client c.take_in.ensures.others)
 
 pub returns-clause-taken : goal.returns-clause-taken
-returns-clause-taken c =
+returns-clause-taken g c =
     let m = c.self.inside.resolvers in
     let a = c.args.self.now in
     let k = c.args.number in
