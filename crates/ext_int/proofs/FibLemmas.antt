@@ -2,14 +2,14 @@
 use Rattle.std.proofs.Common.{◌≡◌, ℕ, Option, Some, None, option_map, refl, sym, ap, subst, ◌∙◌}
 use Rattle.std.specs.FinMap as map
 use Rattle.register_interest.specs.Width.{width}
-use Rattle.rib_route.specs.declared.rows.Interior.{Interior}
-use Rattle.rib_route.specs.declared.rows.External.{External}
-use Rattle.rib_route.specs.declared.rows.FibRow.{FibRow}
+use Rattle.rib_route.specs.Rows.{Interior}
+use Rattle.rib_route.specs.Rows.{External}
+use Rattle.rib_route.specs.Rows.{FibRow}
 use Rattle.rib_route.specs.Forwarding.{fib_row}
 use Rattle.link_change.specs.Rows.{Rows, Candidates, CoversRows, together, no_rows}
 use Rattle.link_change.specs.Turns.{IsTurned}
-use Rattle.link_change.specs.declared.change.Change.{Change}
-use Rattle.link_change.specs.declared.turn.Turn.{Turn}
+use Rattle.link_change.specs.Changes.{Change}
+use Rattle.link_change.specs.Turns.{Turn}
 use Rattle.link_change.specs.declared.turn.Turn.TheVariants.{Nothing, Quiet, Sent}
 use Rattle.link_change.proofs.RowLemmas.{same_function, not_first, not_second}
 use Rattle.link_change.proofs.TurnLemmas.{turned_by}
@@ -18,10 +18,9 @@ use Rattle.rib_merge.specs.Merging.{row_of_both, merged, MergesOn}
 use Rattle.rib_merge.specs.Forwards.{forwarded, ForwardsOn}
 use Rattle.register_interest.specs.Covers.{longest}
 use Rattle.register_interest.specs.Registers.{Registry}
-use Rattle.pass_core.specs.Turns.{rows_by}
-use Rattle.nexthop_resolver.specs.declared.rows.Way.{Way}
+use Rattle.nexthop_resolver.specs.Ways.{Way}
 use Rattle.nexthop_resolver.specs.Kept.{external_hop, over, way_of}
-use Rattle.nexthop_resolver.specs.Resolving.{Resolving, resolved, goes_on}
+use Rattle.nexthop_resolver.specs.Resolving.{Resolving, goes_on}
 use Rattle.nexthop_resolver.specs.Registered.{answer_of}
 use Rattle.nexthop_resolver.specs.Takes.{TakesIn}
 use Rattle.ext_int.specs.Fibs.{fib_distance, forwarding_table, FollowsInt, FollowsExt, FollowsTurn, TakesExt}

@@ -1,21 +1,21 @@
 -- The forwarding table: of interior and external routes, by distance (NSDI 2005, section 5.2).
 use Rattle.std.specs.Prelude.{◌≡◌, ◌⊎◌, ℕ, Option, Some}
 use Rattle.addr4.specs.Prefixes.{AddressPrefix}
-use Rattle.rib_route.specs.declared.rows.Interior.{Interior}
-use Rattle.rib_route.specs.declared.rows.External.{External}
-use Rattle.rib_route.specs.declared.rows.FibRow.{FibRow}
+use Rattle.rib_route.specs.Rows.{Interior}
+use Rattle.rib_route.specs.Rows.{External}
+use Rattle.rib_route.specs.Rows.{FibRow}
 use Rattle.rib_route.specs.Distances.{distance}
 use Rattle.link_change.specs.Rows.{Rows, Candidates}
 use Rattle.link_change.specs.Changes.{IsSent}
 use Rattle.link_change.specs.Turns.{taken_turn}
-use Rattle.link_change.specs.declared.change.Change.{Change}
-use Rattle.link_change.specs.declared.turn.Turn.{Turn}
+use Rattle.link_change.specs.Changes.{Change}
+use Rattle.link_change.specs.Turns.{Turn}
 use Rattle.link_change.specs.declared.turn.Turn.TheVariants.{Nothing, Quiet, Sent}
 use Rattle.rib_merge.specs.Merging.{merged}
 use Rattle.rib_merge.specs.Forwards.{forwarded}
 use Rattle.register_interest.specs.Registers.{Registry}
 use Rattle.nexthop_known.specs.Counts.{AreCounted}
-use Rattle.nexthop_resolver.specs.declared.rows.Way.{Way}
+use Rattle.nexthop_resolver.specs.Ways.{Way}
 use Rattle.nexthop_resolver.specs.Kept.{external_hop, over, way_of}
 use Rattle.nexthop_resolver.specs.Resolving.{Resolving, named_by, res_rows}
 use Rattle.nexthop_resolver.specs.Turns.{IsTurn}

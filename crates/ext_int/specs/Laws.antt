@@ -3,18 +3,18 @@ use Rattle.std.specs.Prelude.{◌≡◌, ℕ, Bool, false, Option, Some, None, o
 use Rattle.std.specs.FinMap as map
 use Rattle.addr4.specs.Prefixes.{AddressPrefix}
 use Rattle.register_interest.specs.Width.{width}
-use Rattle.rib_route.specs.declared.rows.Interior.{Interior}
-use Rattle.rib_route.specs.declared.rows.External.{External}
-use Rattle.rib_route.specs.declared.rows.FibRow.{FibRow}
+use Rattle.rib_route.specs.Rows.{Interior}
+use Rattle.rib_route.specs.Rows.{External}
+use Rattle.rib_route.specs.Rows.{FibRow}
 use Rattle.rib_route.specs.Forwarding.{fib_row}
 use Rattle.link_change.specs.Rows.{Rows, Candidates, no_rows}
 use Rattle.link_change.specs.Turns.{IsTurned}
-use Rattle.link_change.specs.declared.turn.Turn.{Turn}
+use Rattle.link_change.specs.Turns.{Turn}
 use Rattle.rib_merge.specs.Merging.{row_of_both}
 use Rattle.register_interest.specs.Covers.{longest}
 use Rattle.register_interest.specs.Registers.{Registry}
 use Rattle.nexthop_known.specs.Counts.{AreCounted}
-use Rattle.nexthop_resolver.specs.declared.rows.Way.{Way}
+use Rattle.nexthop_resolver.specs.Ways.{Way}
 use Rattle.nexthop_resolver.specs.Kept.{external_hop, over, way_of}
 use Rattle.nexthop_resolver.specs.Resolving.{Resolving, AreNamed, named_by, nothing_known}
 use Rattle.nexthop_resolver.specs.Registered.{Agrees}

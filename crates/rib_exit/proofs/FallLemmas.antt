@@ -2,26 +2,26 @@
 use Rattle.std.proofs.Common.{◌≡◌, ◌⊎◌, ℕ, Bool, true, false, not, cond, List, [], ◌++◌, Option, Some, None, Result, Ok, Err, IfOk, refl, sym, ap, subst, ◌∙◌, inl, inr}
 use Rattle.std.specs.Option.{option_or}
 use Rattle.addr4.specs.Prefixes.{AddressPrefix}
-use Rattle.bgp_attr.specs.declared.route.Route.{Route}
+use Rattle.bgp_attr.specs.Routes.{Route}
 use Rattle.link_change.specs.Rows.{Rows}
 use Rattle.link_change.specs.Changes.{IsSent}
-use Rattle.link_change.specs.declared.change.Change.{Change}
+use Rattle.link_change.specs.Changes.{Change}
 use Rattle.link_change.proofs.RowLemmas.{with_row_here}
-use Rattle.rib_route.specs.declared.rows.Interior.{Interior}
-use Rattle.rib_route.specs.declared.rows.External.{External}
-use Rattle.rib_route.specs.declared.rows.FibRow.{FibRow}
+use Rattle.rib_route.specs.Rows.{Interior}
+use Rattle.rib_route.specs.Rows.{External}
+use Rattle.rib_route.specs.Rows.{FibRow}
 use Rattle.register_interest.specs.Registers.{Registry, AllStand as MatchesStand}
 use Rattle.nexthop_known.specs.Counts.{AreCounted}
-use Rattle.nexthop_resolver.specs.declared.rows.Way.{Way}
+use Rattle.nexthop_resolver.specs.Ways.{Way}
 use Rattle.nexthop_resolver.specs.Kept.{external_hop, way_of}
 use Rattle.nexthop_resolver.specs.Resolving.{Resolving, AreNamed, named_by}
-use Rattle.nexthop_known.specs.declared.answer.Hop.{Hop}
+use Rattle.nexthop_known.specs.Hops.{Hop}
 use Rattle.nexthop_resolver.specs.Registered.{Agrees, KeepsOthers, told_of}
 use Rattle.nexthop_resolver.specs.Takes.{Keeps}
 use Rattle.nexthop_resolver.proofs.AskLemmas.{same_told, keeps_all}
 use Rattle.rib_split.specs.declared.split.BgpLink.{BgpLink}
 use Rattle.rib_split.specs.declared.split.BgpLink.TheVariants as sides
-use Rattle.rib_split.specs.declared.split.Split.{Split}
+use Rattle.rib_split.specs.Splits.{Split}
 use Rattle.rib_split.specs.declared.split.Split.TheVariants.{Neither, One, Moved}
 use Rattle.rib_split.specs.declared.splitter.Splitter.{Splitter}
 use Rattle.rib_split.specs.Splitting.{Parted, external_row, on_link, split_rows, other, first_on, IsSentOn, Moves, Splits}
@@ -29,13 +29,13 @@ use Rattle.rib_split.specs.Tables.{kept_rows, SplitsOn}
 use Rattle.rib_split.specs.Laws.{merged_links}
 use Rattle.rib_split.proofs.MergedLemmas.{moved_changes_once}
 use Rattle.ext_int.specs.Fibs.{fib_table, TakesOver}
-use Rattle.journal_text.specs.declared.entry.Entry.{Entry}
-use Rattle.journal_text.specs.declared.value.Value.{Value}
+use Rattle.journal_text.specs.Lines.{Entry}
+use Rattle.journal_text.specs.Lines.{Value}
 use Rattle.journal_text.specs.Walk.{Leads}
 use Rattle.journal_text.specs.Journals.{Journaled, Adds}
 use Rattle.journal_text.proofs.WalkLemmas.{leads_nowhere, leads_append}
 use Rattle.journal_text.proofs.JournalLemmas.{with_entries_none}
-use Rattle.rib_exit.specs.declared.exit.RibExit.{RibExit}
+use Rattle.rib_exit.specs.RibExits.{RibExit}
 use Rattle.rib_exit.specs.Exits.{links_of, beside, IsExit, AgreesWith, StandsOver}
 use Rattle.rib_exit.specs.Passing.{Caused, nothing_caused, part_entries, PassesDown, PassesBoth}
 use Rattle.rib_exit.specs.Steps.{LeadsExit, KeepsAgreed, CausesOn, FallsOn, TakesExternal}

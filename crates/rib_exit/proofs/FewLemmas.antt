@@ -3,16 +3,16 @@
 use Rattle.std.proofs.Common.{◌≡◌, not, Bool, true, false, cond, Option, Some, None, is_some, IsSome, refl, sym, ap, ◌∙◌}
 use Rattle.addr4.specs.Prefixes.{AddressPrefix}
 use Rattle.addr4.proofs.PrefixOrder.{prefixes_total, exact_prefixes}
-use Rattle.bgp_attr.specs.declared.route.Route.{Route}
+use Rattle.bgp_attr.specs.Routes.{Route}
 use Rattle.link_change.specs.Rows.{Rows}
-use Rattle.rib_route.specs.declared.rows.External.{External}
+use Rattle.rib_route.specs.Rows.{External}
 use Rattle.nexthop_resolver.specs.Kept.{external_hop}
 use Rattle.nexthop_resolver.proofs.FewLemmas as resolver
 use Rattle.rib_split.specs.declared.split.BgpLink.{BgpLink}
 use Rattle.rib_split.specs.declared.split.BgpLink.TheVariants as sides
 use Rattle.rib_split.specs.Splitting.{Parted, external_row, on_link}
 use Rattle.rib_split.specs.Tables.{kept_rows}
-use Rattle.rib_exit.specs.declared.exit.RibExit.{RibExit}
+use Rattle.rib_exit.specs.RibExits.{RibExit}
 use Rattle.rib_exit.specs.Exits.{ext_rows, StandsOver}
 use Rattle.rib_exit.specs.Laws.{RowsAreFew, KnownAreFew}
 

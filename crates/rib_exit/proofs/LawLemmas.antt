@@ -5,16 +5,16 @@ use Rattle.std.specs.FinMap as map
 use Rattle.std.specs.FinMap.{get-empty, len-empty}
 use Rattle.std.specs.Ordering.{nat_cmp}
 use Rattle.addr4.specs.Prefixes.{prefix_cmp}
-use Rattle.bgp_attr.specs.declared.route.Route.{Route}
+use Rattle.bgp_attr.specs.Routes.{Route}
 use Rattle.link_change.specs.Rows.{Rows, no_rows}
 use Rattle.link_change.proofs.RowLemmas.{same_function, empty_rows}
-use Rattle.rib_route.specs.declared.rows.External.{External}
-use Rattle.rib_route.specs.declared.rows.FibRow.{FibRow}
+use Rattle.rib_route.specs.Rows.{External}
+use Rattle.rib_route.specs.Rows.{FibRow}
 use Rattle.rib_merge.specs.Merging.{row_of_both, merged}
-use Rattle.nexthop_known.specs.declared.answer.Hop.{Hop}
+use Rattle.nexthop_known.specs.Hops.{Hop}
 use Rattle.nexthop_known.specs.Counts.{AreCounted}
 use Rattle.nexthop_known.proofs.CountLemmas.{nothing_is_counted}
-use Rattle.nexthop_resolver.specs.declared.rows.Way.{Way}
+use Rattle.nexthop_resolver.specs.Ways.{Way}
 use Rattle.nexthop_resolver.specs.Kept.{external_hop, over, way_of, same_way}
 use Rattle.nexthop_resolver.specs.Resolving.{nothing_known, named_by}
 use Rattle.nexthop_resolver.specs.Turns.{Rests}
@@ -33,7 +33,7 @@ use Rattle.ext_int.specs.Laws as tables
 use Rattle.ext_int.proofs.FibLemmas.{empty_table}
 use Rattle.journal_text.specs.declared.link.Link.{Link}
 use Rattle.journal_text.specs.declared.link.Link.TheVariants.{Ebgp, Ibgp, Ext, Fib}
-use Rattle.journal_text.specs.declared.value.Value.{Value}
+use Rattle.journal_text.specs.Lines.{Value}
 use Rattle.journal_text.specs.Walk.{Links, Leads, fold_links, no_links}
 use Rattle.journal_text.specs.Values.{fib_rows}
 use Rattle.rib_exit.specs.Exits.{nothing_yet, ext_rows, external_rows, exit_links, is_exit_link, beside}

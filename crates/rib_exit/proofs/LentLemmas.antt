@@ -4,16 +4,17 @@ use Rattle.std.specs.Prelude.{option_map}
 use Rattle.std.specs.Ordering.{ordering_reverse}
 use Rattle.std.specs.declared.cmp.Ordering.{Ordering}
 use Rattle.std.specs.declared.cmp.Ordering.TheVariants.{Less, Equal, Greater}
+use Rattle.addr4.specs.Blocks.{width}
 use Rattle.addr4.specs.Prefixes.{AddressPrefix, prefix_cmp, ComesBefore}
 use Rattle.addr4.specs.Places.{IsBeyond}
 use Rattle.addr4.proofs.PrefixOrder.{prefixes_total, exact_prefixes}
 use Rattle.addr4.proofs.RankLemmas.{further}
-use Rattle.bgp_attr.specs.declared.route.Route.{Route}
+use Rattle.bgp_attr.specs.Routes.{Route}
 use Rattle.link_change.specs.Rows.{Rows, Candidates, IsNextCandidate, CoversRows, with_rows, together}
 use Rattle.link_change.proofs.RowLemmas.{same_function}
-use Rattle.rib_route.specs.declared.rows.Interior.{Interior}
-use Rattle.rib_route.specs.declared.rows.External.{External}
-use Rattle.rib_route.specs.declared.rows.FibRow.{FibRow}
+use Rattle.rib_route.specs.Rows.{Interior}
+use Rattle.rib_route.specs.Rows.{External}
+use Rattle.rib_route.specs.Rows.{FibRow}
 use Rattle.nexthop_resolver.proofs.MoveLemmas.{same_some}
 use Rattle.rib_split.specs.declared.split.BgpLink.{BgpLink}
 use Rattle.rib_split.specs.declared.split.BgpLink.TheVariants as sides
@@ -22,18 +23,18 @@ use Rattle.rib_split.specs.Tables.{kept_rows}
 use Rattle.ext_int.specs.Fibs.{fib_table}
 use Rattle.journal_text.specs.declared.link.Link.{Link}
 use Rattle.journal_text.specs.declared.link.Link.TheVariants.{Ext, Fib}
-use Rattle.journal_text.specs.declared.value.Value.{Value}
+use Rattle.journal_text.specs.Lines.{Value}
 use Rattle.journal_text.specs.Walk.{HasRow}
 use Rattle.journal_text.specs.Values.{external_value, fib_value, fib_rows}
-use Rattle.rib_exit.specs.declared.exit.RibExit.{RibExit}
+use Rattle.rib_exit.specs.RibExits.{RibExit}
 use Rattle.rib_exit.specs.Exits.{ext_rows, ext_candidates, external_rows, journal_link, exit_links, exit_candidates, StandsOver}
 use Rattle.rib_exit.proofs.LawLemmas.{ext_is_of_best}
 
 -- ---- a walk over the routes of one link
--- a prefix of IPv4, if any
+-- a prefix, if any
 abbrev pub IsPlaced : Option AddressPrefix → Type 0
 IsPlaced None = Unit {0}
-IsPlaced (Some p) = (p.length ≤ 32) × (p.address < 2 ^ 32)
+IsPlaced (Some p) = (p.length ≤ width) × (p.address < 2 ^ width)
 
 module _ (best : Rows Route) (link : BgpLink) where
   -- where both links together have rows, and where this one has

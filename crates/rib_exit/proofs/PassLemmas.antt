@@ -6,16 +6,16 @@ use Rattle.std.specs.FinMap as map
 use Rattle.addr4.specs.Prefixes.{AddressPrefix}
 use Rattle.link_change.specs.Rows.{Rows}
 use Rattle.link_change.specs.Changes.{IsSent}
-use Rattle.link_change.specs.declared.change.Change.{Change}
+use Rattle.link_change.specs.Changes.{Change}
 use Rattle.link_change.proofs.RowLemmas.{with_row_here}
-use Rattle.rib_route.specs.declared.rows.Interior.{Interior}
-use Rattle.rib_route.specs.declared.rows.External.{External}
-use Rattle.rib_route.specs.declared.rows.FibRow.{FibRow}
+use Rattle.rib_route.specs.Rows.{Interior}
+use Rattle.rib_route.specs.Rows.{External}
+use Rattle.rib_route.specs.Rows.{FibRow}
 use Rattle.rib_merge.specs.declared.merge.Side.{Side}
 use Rattle.rib_merge.specs.Merging.{merged, MergesOn}
 use Rattle.register_interest.specs.Registers.{Registry}
 use Rattle.nexthop_known.specs.Counts.{Counts, AreCounted}
-use Rattle.nexthop_resolver.specs.declared.rows.Way.{Way}
+use Rattle.nexthop_resolver.specs.Ways.{Way}
 use Rattle.nexthop_resolver.specs.Kept.{external_hop, way_of}
 use Rattle.nexthop_resolver.specs.Resolving.{Resolving, named_by}
 use Rattle.nexthop_resolver.specs.Registered.{told_of}
@@ -27,8 +27,8 @@ use Rattle.rib_split.specs.Laws.{merged_links}
 use Rattle.ext_int.specs.Fibs.{fib_table, TakesOver, TakesExt}
 use Rattle.journal_text.specs.declared.link.Link.{Link}
 use Rattle.journal_text.specs.declared.link.Link.TheVariants.{Ext, Fib}
-use Rattle.journal_text.specs.declared.entry.Entry.{Entry}
-use Rattle.journal_text.specs.declared.value.Value.{Value}
+use Rattle.journal_text.specs.Lines.{Entry}
+use Rattle.journal_text.specs.Lines.{Value}
 use Rattle.journal_text.specs.Walk.{Leads}
 use Rattle.journal_text.specs.Journals.{Journaled, with_entries, Adds}
 use Rattle.journal_text.specs.Values.{external_value, fib_value, valued_change, sent_entries}

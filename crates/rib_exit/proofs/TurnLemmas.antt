@@ -1,19 +1,19 @@
 -- A turn of the task.
 use Rattle.std.proofs.Common.{◌≡◌, Option, Some, None, refl, sym, ap, subst, ◌∙◌}
 use Rattle.addr4.specs.Prefixes.{AddressPrefix}
-use Rattle.bgp_attr.specs.declared.route.Route.{Route}
+use Rattle.bgp_attr.specs.Routes.{Route}
 use Rattle.link_change.specs.Rows.{Rows, Candidates, with_rows}
 use Rattle.link_change.specs.Changes.{IsSent}
 use Rattle.link_change.specs.Turns.{IsTurned, taken_turn}
-use Rattle.link_change.specs.declared.change.Change.{Change}
-use Rattle.link_change.specs.declared.turn.Turn.{Turn}
+use Rattle.link_change.specs.Changes.{Change}
+use Rattle.link_change.specs.Turns.{Turn}
 use Rattle.link_change.specs.declared.turn.Turn.TheVariants as turns
-use Rattle.rib_route.specs.declared.rows.Interior.{Interior}
-use Rattle.rib_route.specs.declared.rows.External.{External}
-use Rattle.rib_route.specs.declared.rows.FibRow.{FibRow}
+use Rattle.rib_route.specs.Rows.{Interior}
+use Rattle.rib_route.specs.Rows.{External}
+use Rattle.rib_route.specs.Rows.{FibRow}
 use Rattle.register_interest.specs.Registers.{Registry, AllStand as MatchesStand}
 use Rattle.nexthop_known.specs.Counts.{Counts, AreCounted}
-use Rattle.nexthop_resolver.specs.declared.rows.Way.{Way}
+use Rattle.nexthop_resolver.specs.Ways.{Way}
 use Rattle.nexthop_resolver.specs.Kept.{external_hop, over, way_of, same_way}
 use Rattle.nexthop_resolver.specs.Resolving.{Resolving, AreNamed, named_by}
 use Rattle.nexthop_resolver.specs.Registered.{Agrees, KeepsOthers}
@@ -27,7 +27,7 @@ use Rattle.ext_int.specs.Fibs.{resolved_rows, fib_table, FollowsInt, FollowsTurn
 use Rattle.ext_int.proofs.FibLemmas.{turn_leads}
 use Rattle.journal_text.specs.Journals.{Journaled, with_entries, Adds}
 use Rattle.journal_text.proofs.JournalLemmas.{with_entries_none}
-use Rattle.rib_exit.specs.declared.exit.RibExit.{RibExit}
+use Rattle.rib_exit.specs.RibExits.{RibExit}
 use Rattle.rib_exit.specs.Exits.{ext_rows, ext_candidates, IsExit, StandsOver}
 use Rattle.rib_exit.specs.Steps.{fib_entries, TakesInterior, TurnsExit, ComesOut}
 use Rattle.rib_exit.proofs.LinkLemmas.{fib_leads}

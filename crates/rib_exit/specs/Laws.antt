@@ -4,19 +4,19 @@ use Rattle.std.specs.List.{Contains}
 use Rattle.std.specs.FinMap as map
 use Rattle.addr4.specs.Prefixes.{AddressPrefix}
 use Rattle.register_interest.specs.Width.{width}
-use Rattle.bgp_attr.specs.declared.route.Route.{Route}
+use Rattle.bgp_attr.specs.Routes.{Route}
 use Rattle.link_change.specs.Rows.{Rows, Candidates, no_rows, CoversRows}
-use Rattle.rib_route.specs.declared.rows.Interior.{Interior}
+use Rattle.rib_route.specs.Rows.{Interior}
 use Rattle.register_interest.specs.Covers.{longest}
 use Rattle.register_interest.specs.Registers.{Registry}
 use Rattle.nexthop_resolver.specs.Registered.{interest_of, KeepsOthers}
 use Rattle.rib_split.specs.Splitting.{external_row}
 use Rattle.ext_int.specs.Laws.{table_from}
 use Rattle.journal_text.specs.declared.link.Link.{Link}
-use Rattle.journal_text.specs.declared.entry.Entry.{Entry}
-use Rattle.journal_text.specs.declared.value.Value.{Value}
+use Rattle.journal_text.specs.Lines.{Entry}
+use Rattle.journal_text.specs.Lines.{Value}
 use Rattle.journal_text.specs.Walk.{Links, Leads}
-use Rattle.rib_exit.specs.declared.exit.RibExit.{RibExit}
+use Rattle.rib_exit.specs.RibExits.{RibExit}
 use Rattle.rib_exit.specs.Exits.{ext_rows, ext_candidates, fib_over, exit_links, is_exit_link, IsExit, AgreesWith, StandsOver, has_ext_work, ext_lags, known_in, stale_in, rows_in, left_in}
 use Rattle.rib_exit.specs.Steps.{LeadsExit}
 

@@ -1,3 +1,4 @@
+pub mod RibExits
 pub mod Exits
 pub mod Passing
 pub mod Steps

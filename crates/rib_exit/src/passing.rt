@@ -8,7 +8,7 @@ ghost use Rattle.journal_text.specs.Journals.{Adds};
 ghost use Rattle.rib_exit.specs.Exits.{journal_link};
 ghost use Rattle.rib_exit.specs.Passing.{side_of, PassesDown, PassesBoth};
 
-use addr4::Memory;
+use addr4::{Addr, Memory, Prefix, Texts};
 use ext_int::ExtInt;
 use journal_text::{Journal, Link};
 use link_change::{Change, Upstream};
@@ -39,15 +39,15 @@ fn side_of(link: BgpLink) -> Side
 
 /// A change of one link: its line, then, where the row of `ext` changes, the line of that, and then, where the row of `fib`
 /// changes, the line of that. The other link has this row at its prefix. Answers the change of `fib`.
-pub(crate) fn pass<I: Upstream<Row = Interior>>(
-    hops: &mut ExtInt,
+pub(crate) fn pass<F: Texts, I: Upstream<F, Row = Interior<Addr<F>>>>(
+    hops: &mut ExtInt<F>,
     link: BgpLink,
-    change: Change<External>,
-    other: Option<External>,
+    change: Change<External<Addr<F>>, Prefix<F>>,
+    other: Option<External<Addr<F>>>,
     int: &I,
-    register: &mut Register<Interior>,
-    journal: &mut Journal,
-) -> Result<Option<Change<FibRow>>, Memory>
+    register: &mut Register<Interior<Addr<F>>, F>,
+    journal: &mut Journal<F>,
+) -> Result<Option<Change<FibRow<Addr<F>>, Prefix<F>>>, Memory>
     requires agrees { Agrees way_of hops.old.client hops.old.known register.old }
     ensures passed { IfOk result (λ sent. Adds (PassesDown link change other (I.rows int.now) register.old hops.old hops.new sent) journal.old journal.new) }
     ensures client { hops.new.client ≡ hops.old.client }
@@ -68,15 +68,15 @@ pub(crate) fn pass<I: Upstream<Row = Interior>>(
 }
 
 /// A route moves to a link from the other one: the add goes down to the end, and then the delete.
-pub(crate) fn pass_both<I: Upstream<Row = Interior>>(
-    hops: &mut ExtInt,
+pub(crate) fn pass_both<F: Texts, I: Upstream<F, Row = Interior<Addr<F>>>>(
+    hops: &mut ExtInt<F>,
     link: BgpLink,
-    add: Change<External>,
-    delete: Change<External>,
+    add: Change<External<Addr<F>>, Prefix<F>>,
+    delete: Change<External<Addr<F>>, Prefix<F>>,
     int: &I,
-    register: &mut Register<Interior>,
-    journal: &mut Journal,
-) -> Result<Option<Change<FibRow>>, Memory>
+    register: &mut Register<Interior<Addr<F>>, F>,
+    journal: &mut Journal<F>,
+) -> Result<Option<Change<FibRow<Addr<F>>, Prefix<F>>>, Memory>
     requires agrees { Agrees way_of hops.old.client hops.old.known register.old }
     ensures passed { IfOk result (λ sent. Adds (PassesBoth link add delete (I.rows int.now) register.old hops.old hops.new sent) journal.old journal.new) }
     ensures client { hops.new.client ≡ hops.old.client }

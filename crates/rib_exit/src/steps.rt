@@ -10,25 +10,26 @@ use crate::exit::RibExit;
 use crate::lent::Ext;
 use crate::passing::{pass, pass_both};
 use crate::reading::Reading;
-use addr4::{Memory, Prefix};
-use bgp_attr::Route;
+use addr4::{Addr, Memory, Prefix, Texts};
+use bgp_attr::{Route, SharedAttrs};
+use ext_int::ExtInt;
 use journal_text::{Journal, Link};
 use link_change::{Change, Turn, Upstream};
 use register_interest::{Interest, Register};
 use rib_route::{FibRow, Interior};
 use rib_split::Split;
 
-impl RibExit {
+impl<F: Texts> RibExit<ExtInt<F>> {
     /// A change of the best routes, which the reader took: it goes through the splitter, and each part that this sends goes
     /// down, the add first. A next hop that comes is asked for at once, and one that no row of `ext` names any more is forgotten.
     /// Answers the change of `fib`: None exactly where its map stays the same.
-    pub fn take_external<I: Upstream<Row = Interior>>(
+    pub fn take_external<I: Upstream<F, Row = Interior<Addr<F>>>>(
         &mut self,
-        change: &Change<Route>,
+        change: &Change<Route<SharedAttrs<F>>, Prefix<F>>,
         int: &I,
-        register: &mut Register<Interior>,
-        journal: &mut Journal,
-    ) -> Result<Option<Change<FibRow>>, Memory>
+        register: &mut Register<Interior<Addr<F>>, F>,
+        journal: &mut Journal<F>,
+    ) -> Result<Option<Change<FibRow<Addr<F>>, Prefix<F>>>, Memory>
         requires sound { IsExit self.old }
         requires agree { AgreesWith self.old register.old }
         ensures taken { IfOk result (λ sent. Adds (TakesExternal change.now (I.rows int.now) sent register.old register.new self.old self.new) journal.old journal.new) }
@@ -56,12 +57,12 @@ impl RibExit {
 
     /// A change of the interior routes, as it comes out on `fib`; None exactly where its map stays the same. What the register
     /// gave up with it is told by another call ([`reach`](RibExit::reach)).
-    pub fn take_interior<B: Reading>(
+    pub fn take_interior<B: Reading<F>>(
         &self,
-        change: &Change<Interior>,
+        change: &Change<Interior<Addr<F>>, Prefix<F>>,
         best: &B,
-        journal: &mut Journal,
-    ) -> Result<Option<Change<FibRow>>, Memory>
+        journal: &mut Journal<F>,
+    ) -> Result<Option<Change<FibRow<Addr<F>>, Prefix<F>>>, Memory>
         requires stands { StandsOver (B.rows best.now) self.now }
         ensures { IfOk result (λ sent. Adds (TakesInterior change.now sent self.now) journal.old journal.new) }
     {
@@ -73,7 +74,7 @@ impl RibExit {
     /// The register gave up these interests with a change of the interior routes: the answers that came with those of the
     /// exit are stale. No row changes, and nothing is said. For want of memory only some of them are stale, and the rows of
     /// `ebgp` and `ibgp` are as they were.
-    pub fn reach(&mut self, reached: &[Interest]) -> Result<(), Memory>
+    pub fn reach(&mut self, reached: &[Interest<Prefix<F>>]) -> Result<(), Memory>
         requires sound { IsExit self.old }
         ensures stale { OnOk result (ReachesExit reached.now self.old self.new) }
         ensures memory { OnErr result (self.new.splitter ≡ self.old.splitter) }
@@ -89,7 +90,7 @@ impl RibExit {
 
     /// The answers that came with the subnet are stale: the register gave up the interest in it. No row changes, and nothing
     /// is said. For want of memory only some of them are stale, and the rows of `ebgp` and `ibgp` are as they were.
-    pub fn invalidate(&mut self, subnet: Prefix) -> Result<(), Memory>
+    pub fn invalidate(&mut self, subnet: Prefix<F>) -> Result<(), Memory>
         requires sound { IsExit self.old }
         ensures stale { OnOk result (Stales subnet self.old self.new) }
         ensures memory { OnErr result (self.new.splitter ≡ self.old.splitter) }
@@ -102,13 +103,13 @@ impl RibExit {
     /// One turn of the task `ext` (`ExtInt::unit`): a walk goes to the next candidate of `ext`, or ends; else the least stale
     /// next hop is asked for again; else a walk begins. Nothing exactly where there is no work; Quiet where no change comes out
     /// on `fib`.
-    pub fn turn<I: Upstream<Row = Interior>, B: Reading>(
+    pub fn turn<I: Upstream<F, Row = Interior<Addr<F>>>, B: Reading<F>>(
         &mut self,
         int: &I,
         best: &B,
-        register: &mut Register<Interior>,
-        journal: &mut Journal,
-    ) -> Result<Turn<FibRow>, Memory>
+        register: &mut Register<Interior<Addr<F>>, F>,
+        journal: &mut Journal<F>,
+    ) -> Result<Turn<FibRow<Addr<F>>, Prefix<F>>, Memory>
         requires sound { IsExit self.old }
         requires agree { AgreesWith self.old register.old }
         requires stands { StandsOver (B.rows best.now) self.old }

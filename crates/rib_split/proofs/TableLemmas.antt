@@ -3,15 +3,15 @@ use Rattle.std.proofs.Common.{◌≡◌, Option, Some, None, sym, ap, ◌∙◌}
 use Rattle.std.specs.FinMap as map
 use Rattle.std.specs.FinMap.{FinMap}
 use Rattle.addr4.specs.Prefixes.{AddressPrefix, prefix_cmp}
-use Rattle.bgp_attr.specs.declared.route.Route.{Route}
-use Rattle.rib_route.specs.declared.rows.External.{External}
+use Rattle.bgp_attr.specs.Routes.{Route}
+use Rattle.rib_route.specs.Rows.{External}
 use Rattle.link_change.specs.Rows.{Rows, with_row}
-use Rattle.link_change.specs.declared.change.Change.{Change}
+use Rattle.link_change.specs.Changes.{Change}
 use Rattle.link_change.proofs.RowLemmas.{same_function, rows_inserted, rows_removed, empty_rows}
 use Rattle.rib_split.specs.Kept.{kept_after}
 use Rattle.rib_split.specs.declared.split.BgpLink.{BgpLink}
 use Rattle.rib_split.specs.declared.split.BgpLink.TheVariants.{Ebgp, Ibgp}
-use Rattle.rib_split.specs.declared.split.Split.{Split}
+use Rattle.rib_split.specs.Splits.{Split}
 use Rattle.rib_split.specs.declared.split.Split.TheVariants.{Neither, One, Moved}
 use Rattle.rib_split.specs.declared.splitter.Splitter.{Splitter}
 use Rattle.rib_split.specs.Splitting.{external_row, Parted, split_rows, other, first_on, IsSentOn, Splits, IsSplitOf}

@@ -3,7 +3,7 @@ use Rattle.std.specs.Prelude.{Option, Some, None}
 use Rattle.std.specs.FinMap as map
 use Rattle.std.specs.FinMap.{FinMap}
 use Rattle.addr4.specs.Prefixes.{AddressPrefix, prefix_cmp}
-use Rattle.rib_route.specs.declared.rows.External.{External}
+use Rattle.rib_route.specs.Rows.{External}
 
 -- at its prefix the row after it
 abbrev pub kept_after : FinMap prefix_cmp External → AddressPrefix → Option External → FinMap prefix_cmp External

@@ -2,11 +2,11 @@
 use Rattle.std.specs.Prelude.{◌≡◌, ◌⊎◌}
 use Rattle.std.specs.FinMap as map
 use Rattle.addr4.specs.Prefixes.{AddressPrefix}
-use Rattle.bgp_attr.specs.declared.route.Route.{Route}
-use Rattle.rib_route.specs.declared.rows.External.{External}
+use Rattle.bgp_attr.specs.Routes.{Route}
+use Rattle.rib_route.specs.Rows.{External}
 use Rattle.rib_route.specs.Distances.{distance, external_proto}
 use Rattle.link_change.specs.Rows.{Rows, no_rows}
-use Rattle.link_change.specs.declared.change.Change.{Change}
+use Rattle.link_change.specs.Changes.{Change}
 use Rattle.rib_merge.specs.Merging.{merged}
 use Rattle.rib_split.specs.declared.split.BgpLink.{BgpLink}
 use Rattle.rib_split.specs.declared.split.BgpLink.TheVariants.{Ebgp, Ibgp}

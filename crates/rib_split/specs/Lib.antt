@@ -1,3 +1,4 @@
+pub mod Splits
 pub mod Splitting
 pub mod Kept
 pub mod Tables

@@ -1,15 +1,15 @@
 -- BGP's best routes on the two links above the RIB (NSDI 2005, section 5.2).
 use Rattle.std.specs.Prelude.{◌≡◌, ℕ, Bool, not, if◌then◌else◌, Option, Some, None}
 use Rattle.addr4.specs.Prefixes.{AddressPrefix}
-use Rattle.bgp_attr.specs.declared.route.Route.{Route}
+use Rattle.bgp_attr.specs.Routes.{Route}
 use Rattle.bgp_attr.specs.declared.speaker.Neighbour.{Neighbour}
-use Rattle.rib_route.specs.declared.rows.External.{External}
+use Rattle.rib_route.specs.Rows.{External}
 use Rattle.link_change.specs.Rows.{Rows}
 use Rattle.link_change.specs.Changes.{IsSent, IsChangeOf}
-use Rattle.link_change.specs.declared.change.Change.{Change}
+use Rattle.link_change.specs.Changes.{Change}
 use Rattle.rib_split.specs.declared.split.BgpLink.{BgpLink}
 use Rattle.rib_split.specs.declared.split.BgpLink.TheVariants.{Ebgp, Ibgp}
-use Rattle.rib_split.specs.declared.split.Split.{Split}
+use Rattle.rib_split.specs.Splits.{Split}
 use Rattle.rib_split.specs.declared.split.Split.TheVariants.{Neither, One, Moved}
 
 -- what forwarding needs of a route that a peer sent; nothing of one of this speaker's own

@@ -3,8 +3,8 @@
 ghost use Rattle.std.specs.Prelude.{◌≡◌, Some, None};
 ghost use Rattle.rib_split.specs.Splitting.{external_of, external_row, link_of, on_link, other, adding, deleting, IsSplitOf};
 
-use addr4::{Addr, Prefix};
-use bgp_attr::{Neighbour, Route};
+use addr4::{Addr, Family, Prefix};
+use bgp_attr::{Neighbour, Route, SharedAttrs};
 use link_change::Change;
 use rib_route::External;
 
@@ -29,19 +29,22 @@ impl BgpLink {
     }
 }
 
-/// What goes on below.
+/// What goes on below. `A` and `P` are the family's address and prefix.
 #[derive(Drop)]
-pub enum Split {
+pub enum Split<A = Addr, P = Prefix> {
     /// Both links stay as they are.
     Neither,
     /// One link changes.
-    One(BgpLink, Change<External>),
+    One(BgpLink, Change<External<A>, P>),
     /// The route moves to this link from the other: first an add on this one, and then a delete on the other.
-    Moved(BgpLink, Change<External>, Change<External>),
+    Moved(BgpLink, Change<External<A>, P>, Change<External<A>, P>),
 }
 
 /// What forwarding needs of a route with this next hop, if a peer sent it.
-pub fn external_of(from: Option<Neighbour>, next_hop: Addr) -> Option<External>
+pub fn external_of<F: Family>(
+    from: Option<Neighbour>,
+    next_hop: Addr<F>,
+) -> Option<External<Addr<F>>>
     ensures { result ≡ external_of from next_hop }
 {
     match from {
@@ -54,7 +57,7 @@ pub fn external_of(from: Option<Neighbour>, next_hop: Addr) -> Option<External>
 }
 
 /// What forwarding needs of a best route, if there is one and a peer sent it: the row that it makes on one of the links.
-pub fn external_row(route: &Option<Route>) -> Option<External>
+pub fn external_row<F: Family>(route: &Option<Route<SharedAttrs<F>>>) -> Option<External<Addr<F>>>
     ensures { result ≡ external_row route.now }
 {
     match route {
@@ -64,7 +67,7 @@ pub fn external_row(route: &Option<Route>) -> Option<External>
 }
 
 // The link that the row stands on.
-fn link_of(row: &External) -> BgpLink
+fn link_of<F: Family>(row: &External<Addr<F>>) -> BgpLink
     ensures { result ≡ link_of row.now }
 {
     if row.internal {
@@ -75,7 +78,10 @@ fn link_of(row: &External) -> BgpLink
 }
 
 /// The row, if it is one of this link.
-pub fn on_link(link: BgpLink, row: Option<External>) -> Option<External>
+pub fn on_link<F: Family>(
+    link: BgpLink,
+    row: Option<External<Addr<F>>>,
+) -> Option<External<Addr<F>>>
     ensures { result ≡ on_link link row }
 {
     let row = row?;
@@ -87,7 +93,10 @@ pub fn on_link(link: BgpLink, row: Option<External>) -> Option<External>
 }
 
 // A row comes.
-fn adding(prefix: Prefix, row: External) -> Change<External>
+fn adding<F: Family>(
+    prefix: Prefix<F>,
+    row: External<Addr<F>>,
+) -> Change<External<Addr<F>>, Prefix<F>>
     ensures { result ≡ adding prefix row }
 {
     Change {
@@ -98,7 +107,10 @@ fn adding(prefix: Prefix, row: External) -> Change<External>
 }
 
 // A row goes.
-fn deleting(prefix: Prefix, row: External) -> Change<External>
+fn deleting<F: Family>(
+    prefix: Prefix<F>,
+    row: External<Addr<F>>,
+) -> Change<External<Addr<F>>, Prefix<F>>
     ensures { result ≡ deleting prefix row }
 {
     Change {
@@ -109,7 +121,11 @@ fn deleting(prefix: Prefix, row: External) -> Change<External>
 }
 
 // A row stands in place of another one, which may be of the other link.
-fn replacing(prefix: Prefix, before: External, after: External) -> Split
+fn replacing<F: Family>(
+    prefix: Prefix<F>,
+    before: External<Addr<F>>,
+    after: External<Addr<F>>,
+) -> Split<Addr<F>, Prefix<F>>
     ensures { IsSplitOf prefix (Some before) (Some after) result }
 {
     let link = link_of(&after);
@@ -123,7 +139,9 @@ fn replacing(prefix: Prefix, before: External, after: External) -> Split
 }
 
 /// What a change of the best routes comes to.
-pub(crate) fn split_change(change: &Change<Route>) -> Split
+pub(crate) fn split_change<F: Family>(
+    change: &Change<Route<SharedAttrs<F>>, Prefix<F>>,
+) -> Split<Addr<F>, Prefix<F>>
     ensures { IsSplitOf change.now.prefix (external_row change.now.before) (external_row change.now.after) result }
 {
     let before = external_row(&change.before);

@@ -6,11 +6,12 @@ ghost use Rattle.rib_split.specs.Tables.{kept_on, kept_all, SplitsOn};
 
 use crate::split::{BgpLink, Split, split_change};
 use crate::told::Told;
-use bgp_attr::Route;
+use addr4::{Addr, Family, Prefix};
+use bgp_attr::{Route, SharedAttrs};
 use link_change::Change;
 use rib_route::External;
 
-/// The splitter of the best routes. Contracts see a table of each link's rows; no row is kept.
+/// The splitter of the best routes. Contracts see a table of each link's rows; no row is kept. So it is the same for every family.
 #[derive(Drop)]
 pub struct Splitter {
     ebgp: Told,
@@ -29,7 +30,7 @@ impl Splitter {
     }
 
     // The tables after a change of a link.
-    fn keep(&mut self, link: BgpLink, change: &Change<External>)
+    fn keep<F: Family>(&mut self, link: BgpLink, change: &Change<External<Addr<F>>, Prefix<F>>)
         ensures { self.new ≡ kept_on self.old link change.now }
     {
         match link {
@@ -39,7 +40,7 @@ impl Splitter {
     }
 
     // The tables after a split.
-    fn keep_all(&mut self, split: &Split)
+    fn keep_all<F: Family>(&mut self, split: &Split<Addr<F>, Prefix<F>>)
         ensures { self.new ≡ kept_all self.old split.now }
     {
         match split {
@@ -54,7 +55,10 @@ impl Splitter {
 
     /// A change of the best routes, as it goes on below; the tables have the rows after it. Neither link changes exactly where
     /// the rows of both stay the same. Takes no memory.
-    pub fn take_in(&mut self, change: &Change<Route>) -> Split
+    pub fn take_in<F: Family>(
+        &mut self,
+        change: &Change<Route<SharedAttrs<F>>, Prefix<F>>,
+    ) -> Split<Addr<F>, Prefix<F>>
         ensures { SplitsOn self.old self.new change.now result }
     {
         let split = split_change(change);

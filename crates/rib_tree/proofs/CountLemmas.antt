@@ -1,5 +1,5 @@
 -- How many rows the tables have after turns, welds and losses.
-use Rattle.std.proofs.Common.{◌≡◌, ℕ, ◌+◌, ap, ◌∙◌, arith}
+use Rattle.std.proofs.Common.{◌≡◌, ℕ, ◌+◌, arith}
 use Rattle.rib_route.specs.declared.Proto.{Proto}
 use Rattle.rib_route.specs.declared.Proto.TheVariants.{Connected, Static, Ospf, Rip}
 use Rattle.loss_chain.proofs.TurnLemmas.{turn_takes_row as takes_row, weld_keeps_rows as weld_keeps, loss_keeps_rows as loss_keeps}

@@ -10,6 +10,7 @@ use Rattle.std.proofs.lemmas.List.Folds.{find-append}
 use Rattle.std.proofs.lemmas.List.Elements.{Contains-append_left, Contains-append_right}
 use Rattle.addr4.specs.Prefixes.{AddressPrefix, prefix_cmp, block}
 use Rattle.addr4.proofs.RankLemmas.{is_before}
+use Rattle.addr4.specs.Blocks.{width}
 use Rattle.journal_text.specs.declared.link.Task.{Task}
 use Rattle.journal_text.specs.declared.link.Task.TheVariants.{Rdel}
 use Rattle.link_change.specs.Rows.{IsNextCandidate, with_rows}
@@ -22,7 +23,7 @@ use Rattle.loss_chain.proofs.TableLemmas.{other_by, table_here}
 use Rattle.loss_chain.proofs.HeldLemmas.{live_where_none_is_lost, no_stage_has, no_stage_has_over, stage_is_listed}
 use Rattle.rib_route.specs.declared.Proto.{Proto}
 use Rattle.rib_route.specs.declared.Proto.TheVariants.{Connected, Static, Ospf, Rip}
-use Rattle.rib_route.specs.declared.rows.Interior.{Interior}
+use Rattle.rib_route.specs.Rows.{Interior}
 use Rattle.rib_tree.specs.BranchSteps.{branch_tasks, table_holds_up}
 use Rattle.rib_tree.specs.Steps.{tree_holds_up}
 use Rattle.rib_tree.specs.Trees.{Treed, branch_of, IsTree, tree_tasks}
@@ -61,8 +62,8 @@ no_more a x = omega arith
 
 -- where no prefix up to an address has a row, none has that holds it
 none_within : (t : FinMap prefix_cmp Interior) (a n : ℕ) → ((q : AddressPrefix) → q.address ≤ a → is_some (tables.get t q) ≡ false) → has_within (Some t) a n ≡ false
-none_within t a zero none = none (block 32 a 0) (no_more a _)
-none_within t a (suc n) none = ap (λ (b : Bool). b || has_within (Some t) a n) (none (block 32 a (suc n)) (no_more a _)) ∙ none_within t a n none
+none_within t a zero none = none (block width a 0) (no_more a _)
+none_within t a (suc n) none = ap (λ (b : Bool). b || has_within (Some t) a n) (none (block width a (suc n)) (no_more a _)) ∙ none_within t a n none
 
 -- a table without rows
 pub none_at_all : (t : FinMap prefix_cmp Interior) (p : AddressPrefix) (addresses : List ℕ) → IsNextCandidate (with_rows (tables.get t)) None None → table_holds_up (Some t) p addresses ≡ false
@@ -70,7 +71,7 @@ none_at_all t p addresses next = ap (λ (b : Bool). b || list_any (has_over (Som
   where
     none_any : (xs : List ℕ) → list_any (has_over (Some t)) xs ≡ false
     none_any [] = refl
-    none_any (a ∷ xs) = ap (λ (b : Bool). b || list_any (has_over (Some t)) xs) (none_within t a 32 (λ q _. next q tt)) ∙ none_any xs
+    none_any (a ∷ xs) = ap (λ (b : Bool). b || list_any (has_over (Some t)) xs) (none_within t a width (λ q _. next q tt)) ∙ none_any xs
 
 -- one whose least prefix begins behind an address
 module _ (t : FinMap prefix_cmp Interior) (a : ℕ) (p : AddressPrefix) (before : Bool) (next : IsNextCandidate (with_rows (tables.get t)) None (Some p)) (told : before ≡ nat_lt a p.address) (so : before ≡ true) where

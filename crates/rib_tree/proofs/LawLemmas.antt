@@ -3,7 +3,7 @@ use Rattle.std.proofs.Common.{◌≡◌, ◌≤◌, ◌⊎◌, Some, None, refl,
 use Rattle.addr4.specs.Prefixes.{AddressPrefix}
 use Rattle.rib_route.specs.declared.Proto.{Proto}
 use Rattle.rib_route.specs.declared.Proto.TheVariants.{Connected, Static, Ospf, Rip}
-use Rattle.rib_route.specs.declared.rows.Interior.{Interior}
+use Rattle.rib_route.specs.Rows.{Interior}
 use Rattle.rib_merge.specs.Merging.{merged}
 use Rattle.rib_merge.specs.Laws.{IsOfOneSide, IsLeastOfBoth, HasARow}
 use Rattle.link_change.specs.Rows.{Rows}

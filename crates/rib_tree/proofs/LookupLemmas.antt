@@ -1,7 +1,7 @@
 -- What is looked up on the links of a tree.
 use Rattle.std.proofs.Common.{◌≡◌, ℕ, Bool, true, false, ◌||◌, cond, Option, Some, None, is_some, refl}
 use Rattle.std.specs.Prelude.{nat_lt}
-use Rattle.rib_route.specs.declared.rows.Interior.{Interior}
+use Rattle.rib_route.specs.Rows.{Interior}
 use Rattle.rib_merge.specs.Merging.{row_of_both, merged}
 use Rattle.link_change.specs.Rows.{Rows, with_rows, together}
 use Rattle.link_change.proofs.RowLemmas.{same_function}

@@ -4,7 +4,7 @@ use Rattle.link_change.specs.Rows.{no_rows}
 use Rattle.link_change.proofs.RowLemmas.{empty_rows}
 use Rattle.rib_route.specs.declared.Proto.{Proto}
 use Rattle.rib_route.specs.declared.Proto.TheVariants.{Connected, Static, Ospf, Rip}
-use Rattle.rib_route.specs.declared.rows.Interior.{Interior}
+use Rattle.rib_route.specs.Rows.{Interior}
 use Rattle.rib_merge.specs.Merging.{merged}
 use Rattle.rib_tree.specs.Branches.{Branch, IsBranch, org_rows}
 use Rattle.rib_tree.specs.BranchSteps.{new_branch}

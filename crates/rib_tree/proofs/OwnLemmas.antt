@@ -1,12 +1,11 @@
 -- What holds of a branch holds after each call.
-use Rattle.std.proofs.Common.{◌≡◌, ℕ, ◌≤◌, ◌+◌, ◌++◌, Bool, true, false, cond, not, List, [], ◌∷◌, Option, IfSome, sym, subst, arith}
+use Rattle.std.proofs.Common.{◌≡◌, ℕ, ◌≤◌, ◌+◌, ◌++◌, Bool, true, false, cond, not, [], ◌∷◌, Option, IfSome, sym, subst, arith}
 use Rattle.std.specs.List.{AllByRecursion}
-use Rattle.std.specs.FinMap as tables
 use Rattle.addr4.specs.Prefixes.{AddressPrefix}
 use Rattle.rib_route.specs.declared.Proto.{Proto}
-use Rattle.rib_route.specs.declared.rows.Interior.{Interior}
+use Rattle.rib_route.specs.Rows.{Interior}
 use Rattle.link_change.specs.Rows.{is_empty_map}
-use Rattle.link_change.specs.declared.turn.Turn.{Turn}
+use Rattle.link_change.specs.Turns.{Turn}
 use Rattle.link_change.specs.declared.turn.Turn.TheVariants.{Nothing, Quiet, Sent}
 use Rattle.loss_chain.specs.Lost.{Lost}
 use Rattle.journal_text.specs.Journals.{Journaled}

@@ -16,7 +16,7 @@ use Rattle.loss_chain.specs.Tables.{rows_below, rows_above, NoneEmpty, lost_coun
 use Rattle.loss_chain.proofs.ListLemmas.{all_both}
 use Rattle.rib_route.specs.declared.Proto.{Proto}
 use Rattle.rib_route.specs.declared.Proto.TheVariants.{Connected, Static, Ospf, Rip}
-use Rattle.rib_route.specs.declared.rows.Interior.{Interior}
+use Rattle.rib_route.specs.Rows.{Interior}
 use Rattle.rib_tree.specs.BranchSteps.{branch_tasks}
 use Rattle.rib_tree.specs.Trees.{Treed, branch_of, tree_tasks}
 

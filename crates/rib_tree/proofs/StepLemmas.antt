@@ -2,15 +2,15 @@
 use Rattle.std.proofs.Common.{◌≡◌, ℕ, List, [], ◌∷◌, ◌++◌, Option, Some, None, is_some, sym, ap, subst, ◌∙◌}
 use Rattle.addr4.specs.Prefixes.{AddressPrefix}
 use Rattle.rib_route.specs.declared.Proto.{Proto}
-use Rattle.rib_route.specs.declared.rows.Interior.{Interior}
+use Rattle.rib_route.specs.Rows.{Interior}
 use Rattle.link_change.specs.Turns.{taken_turn}
-use Rattle.link_change.specs.declared.change.Change.{Change}
+use Rattle.link_change.specs.Changes.{Change}
 use Rattle.link_change.specs.declared.turn.Turn.TheVariants.{Nothing, Quiet, Sent}
 use Rattle.journal_text.specs.declared.link.Link.{Link}
 use Rattle.journal_text.specs.declared.link.Link.TheVariants.{Org, Int}
 use Rattle.journal_text.specs.declared.link.Task.TheVariants.{Rdel}
-use Rattle.journal_text.specs.declared.value.Value.{Value}
-use Rattle.journal_text.specs.declared.entry.Entry.{Entry}
+use Rattle.journal_text.specs.Lines.{Value}
+use Rattle.journal_text.specs.Lines.{Entry}
 use Rattle.journal_text.specs.Journals.{Journaled, Adds}
 use Rattle.loss_chain.specs.declared.owner.Owner.TheVariants.{Origin}
 use Rattle.loss_chain.specs.Tables.{NoneEmpty, OneEmptyAtMost}

@@ -3,7 +3,7 @@ use Rattle.std.proofs.Common.{◌≡◌, cond, length, Option, None, Some, refl,
 use Rattle.addr4.specs.Prefixes.{AddressPrefix}
 use Rattle.rib_route.specs.declared.Proto.{Proto}
 use Rattle.rib_route.specs.declared.Proto.TheVariants.{Connected, Static, Ospf, Rip}
-use Rattle.rib_route.specs.declared.rows.Interior.{Interior}
+use Rattle.rib_route.specs.Rows.{Interior}
 use Rattle.rib_tree.specs.Branches.{Branch}
 use Rattle.loss_chain.specs.Owners.{same_proto}
 use Rattle.loss_chain.specs.Steps.{without}

@@ -1,19 +1,17 @@
 -- What contracts see of the part of the RIB's tree that belongs to one interior protocol, down to `org.PROTO`: the protocol, how many
 -- of its losses made a stage, its live routes, and the tables of its losses whose deletes weren't sent yet (NSDI 2005, sections
 -- 5.1.2 and 5.2).
-use Rattle.std.specs.Prelude.{◌≡◌, ℕ, ◌≤◌, List, Option, Some, refl}
+use Rattle.std.specs.Prelude.{◌≡◌, ℕ, ◌≤◌, List, Option, refl}
 use Rattle.std.specs.List.{AllByRecursion}
 use Rattle.std.specs.Coded.{Coded, code_by, coded×, coded_ℕ}
-use Rattle.std.specs.FinMap as map
-use Rattle.std.specs.FinMap.{FinMap}
-use Rattle.addr4.specs.Prefixes.{AddressPrefix, prefix_cmp}
+use Rattle.addr4.specs.Prefixes.{AddressPrefix}
 use Rattle.rib_route.specs.declared.Proto.{Proto}
-use Rattle.rib_route.specs.declared.rows.Interior.{Interior}
+use Rattle.rib_route.specs.Rows.{Interior}
 use Rattle.link_change.specs.Rows.{Rows, Candidates, with_rows}
-use Rattle.link_change.specs.declared.change.Change.{Change}
+use Rattle.link_change.specs.Changes.{Change}
 use Rattle.journal_text.specs.declared.link.Link.{Link}
-use Rattle.journal_text.specs.declared.value.Value.{Value}
-use Rattle.journal_text.specs.declared.entry.Entry.{Entry}
+use Rattle.journal_text.specs.Lines.{Value}
+use Rattle.journal_text.specs.Lines.{Entry}
 use Rattle.journal_text.specs.Walk.{Links}
 use Rattle.journal_text.specs.Values.{interior_value}
 use Rattle.loss_chain.specs.declared.owner.Owner.TheVariants.{Origin}

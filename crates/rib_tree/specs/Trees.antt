@@ -1,17 +1,17 @@
 -- What contracts see of the RIB's tree down to `int`: the part of each interior protocol, and the links that merge them
 -- (NSDI 2005, section 5.2).
-use Rattle.std.specs.Prelude.{◌≡◌, ℕ, ◌+◌, ◌≤◌, cond, Bool, true, false, List, [], ◌∷◌, ◌++◌, Option, Some, None, option_map, refl}
+use Rattle.std.specs.Prelude.{◌≡◌, ℕ, ◌+◌, ◌≤◌, cond, Bool, true, false, List, ◌++◌, Some, None, option_map, refl}
 use Rattle.std.specs.Coded.{Coded, code_by, coded×}
 use Rattle.rib_route.specs.declared.Proto.{Proto}
 use Rattle.rib_route.specs.declared.Proto.TheVariants.{Connected, Static, Ospf, Rip}
-use Rattle.rib_route.specs.declared.rows.Interior.{Interior}
+use Rattle.rib_route.specs.Rows.{Interior}
 use Rattle.rib_route.specs.Distances.{distance, fib_proto}
 use Rattle.rib_merge.specs.Merging.{merged}
 use Rattle.link_change.specs.Rows.{Rows, Candidates, with_rows}
 use Rattle.journal_text.specs.declared.link.Link.{Link}
 use Rattle.journal_text.specs.declared.link.Link.TheVariants.{Org, Lost, Low, Dyn, Int}
 use Rattle.journal_text.specs.declared.link.Task.{Task}
-use Rattle.journal_text.specs.declared.value.Value.{Value}
+use Rattle.journal_text.specs.Lines.{Value}
 use Rattle.journal_text.specs.Walk.{Links}
 use Rattle.journal_text.specs.Values.{interior_rows}
 use Rattle.rib_tree.specs.Branches.{Branch, org_rows, IsBranch, branch_count}

@@ -7,7 +7,7 @@ ghost use Rattle.link_change.specs.Rows.{Rows, IsNextCandidate, with_rows};
 ghost use Rattle.link_change.specs.Changes.{IsSent};
 ghost use Rattle.journal_text.specs.declared.link.Link.TheVariants as names;
 ghost use Rattle.journal_text.specs.declared.link.Task.TheVariants as tasks;
-ghost use Rattle.journal_text.specs.declared.value.Value.{Value};
+ghost use Rattle.journal_text.specs.Lines.{Value as Valuation};
 ghost use Rattle.journal_text.specs.Walk.{HasRow};
 ghost use Rattle.journal_text.specs.Journals.{Adds, with_entries};
 ghost use Rattle.loss_chain.specs.declared.owner.Owner.TheVariants as owners;
@@ -18,7 +18,8 @@ ghost use Rattle.loss_chain.specs.Steps.{oldest_of};
 ghost use Rattle.rib_tree.specs.Branches.{branch_links, org_rows, branch_candidates, IsBranch, branch_count, LeadsBranch, FallsBranch};
 ghost use Rattle.rib_tree.specs.BranchSteps.{new_branch, fed_branch, lost_branch, loss_entries, with_tables, welded_branch, weld_entries, overdue_of, IsTakenBranch};
 
-use addr4::{Memory, Place, Prefix};
+use addr4::{Addr, Memory, Place, Prefix, Texts, V4};
+use bgp_attr::SharedAttrs;
 use journal_text::{Journal, Link, Task, Value};
 use link_change::{Change, Turn, Upstream};
 use loss_chain::{LossChain, Owner, Stage};
@@ -29,20 +30,21 @@ use std::marker::Model;
 /// The stages of one interior protocol, down to `org.PROTO`. Contracts see the protocol, how many of its losses made a stage,
 /// its live routes and the lost tables.
 #[derive(Drop)]
-pub struct Branch {
+pub struct Branch<F: Texts = V4> {
     proto: Proto,
     losses: u32,
-    stages: LossChain<Interior>,
+    stages: LossChain<Interior<Addr<F>>, F>,
 }
 
-impl Model for Branch {
+impl<F: Texts> Model for Branch<F> {
     ghost use Rattle.rib_tree.specs.Branches.{Branch, branch_code};
     ghost use Rattle.rib_route.specs.contracts.Proto as proto_row;
     ghost use Rattle.rib_route.specs.contracts.rows.Interior as interior_row;
+    ghost use Rattle.std.specs.Borrow.{u32 as word};
 
     ghost Value = { Branch };
 
-    ghost coded = { branch_code proto_row.the_row.coded interior_row.the_row.coded };
+    ghost coded = { branch_code proto_row.the_row.coded (interior_row.the_row word).coded };
 
     ghost view = { λ b. record { proto = b.proto; losses = b.losses; tables = b.stages } };
 }
@@ -55,10 +57,10 @@ fn counted(losses: u32, none: bool) -> u32
     if none { losses } else { losses + 1 }
 }
 
-impl Branch {
+impl<F: Texts> Branch<F> {
     /// A branch without routes and without deletion stages, which lost none yet. Takes no memory; what the stages hold later
     /// comes from `alloc`.
-    pub fn new(alloc: Global, proto: Proto) -> Branch
+    pub fn new(alloc: Global, proto: Proto) -> Branch<F>
         ensures fresh { result ≡ new_branch proto }
         ensures chain { IsBranch result }
     {
@@ -78,7 +80,7 @@ impl Branch {
 
     /// The lowest of the protocol's stages, the one above `org.PROTO`. A deletion stage holds the stage above it in its box,
     /// up to the live routes.
-    pub fn lowest(&self) -> &Stage<Interior>
+    pub fn lowest(&self) -> &Stage<Interior<Addr<F>>, F>
         ensures { tables_of result.now ≡ self.now.tables }
     {
         self.stages.lowest()
@@ -89,10 +91,10 @@ impl Branch {
     /// one: weld then. Memory comes only for want of memory.
     pub fn feed(
         &mut self,
-        p: Prefix,
-        new: Option<Interior>,
-        journal: &mut Journal,
-    ) -> Result<Option<Change<Interior>>, Memory>
+        p: Prefix<F>,
+        new: Option<Interior<Addr<F>>>,
+        journal: &mut Journal<F>,
+    ) -> Result<Option<Change<Interior<Addr<F>>, Prefix<F>>>, Memory>
         requires chain { IsBranch self.old }
         requires full { NoneEmpty self.old.tables.deletions }
         requires own { IfSome new (λ row. row.proto ≡ self.old.proto) }
@@ -108,14 +110,14 @@ impl Branch {
     }
 
     /// The row of `org.PROTO` at a prefix. Takes no memory.
-    pub fn row(&self, p: Prefix) -> Option<Interior>
+    pub fn row(&self, p: Prefix<F>) -> Option<Interior<Addr<F>>>
         ensures { result ≡ org_rows self.now p }
     {
         self.stages.row(p).copied()
     }
 
     /// Whether a route of the protocol is live at the prefix.
-    pub fn has(&self, p: Prefix) -> bool
+    pub fn has(&self, p: Prefix<F>) -> bool
         ensures { result ≡ is_some (map.get self.now.tables.live p) }
     {
         self.stages.has(p)
@@ -139,7 +141,7 @@ impl Branch {
     /// The protocol's routes are lost: if there are any, they go to a deletion stage directly below the top, whose number is
     /// one more than that of the loss before, and the link `org.PROTO.N` above it begins. The map of `org.PROTO` stays the
     /// same.
-    pub fn lose(&mut self, journal: &mut Journal) -> Result<(), Memory>
+    pub fn lose(&mut self, journal: &mut Journal<F>) -> Result<(), Memory>
         requires chain { IsBranch self.old }
         requires full { NoneEmpty self.old.tables.deletions }
         requires room { overdue_of self.old ≡ None }
@@ -159,7 +161,7 @@ impl Branch {
     }
 
     /// Takes out the stage that a feed or a turn emptied, if there is one: the link above it is welded into the one below.
-    pub fn weld(&mut self, journal: &mut Journal) -> Result<(), Memory>
+    pub fn weld(&mut self, journal: &mut Journal<F>) -> Result<(), Memory>
         requires chain { IsBranch self.old }
         requires one_empty { OneEmptyAtMost self.old.tables.deletions }
         ensures after { OnOk result (self.new ≡ welded_branch self.old) }
@@ -176,7 +178,11 @@ impl Branch {
     /// One turn of the deletion stage of a loss: its least row, by address and then length, goes, and its delete goes down.
     /// Nothing exactly where no such stage stands; Quiet where no change comes out on `org.PROTO`. A turn may empty the
     /// stage: weld then.
-    pub fn unit(&mut self, loss: u32, journal: &mut Journal) -> Result<Turn<Interior>, Memory>
+    pub fn unit(
+        &mut self,
+        loss: u32,
+        journal: &mut Journal<F>,
+    ) -> Result<Turn<Interior<Addr<F>>, Prefix<F>>, Memory>
         requires chain { IsBranch self.old }
         requires full { NoneEmpty self.old.tables.deletions }
         ensures kept { self.new ≡ with_tables self.old self.new.tables }
@@ -196,7 +202,11 @@ impl Branch {
     }
 
     /// The row at a prefix of a link of the branch; None where it has none.
-    pub fn asked(&self, link: Link, p: Prefix) -> Result<Option<Value>, Memory>
+    pub fn asked(
+        &self,
+        link: Link,
+        p: Prefix<F>,
+    ) -> Result<Option<Value<SharedAttrs<F>, Addr<F>>>, Memory>
         requires { IsSome (branch_links self.now link) }
         ensures { IfOk result (HasRow (branch_links self.now) link p) }
     {
@@ -204,9 +214,9 @@ impl Branch {
     }
 
     /// The least prefix beyond a place that has a row on a link of the branch.
-    pub fn next_candidate(&self, link: Link, after: Place) -> Option<Prefix>
+    pub fn next_candidate(&self, link: Link, after: Place<Prefix<F>>) -> Option<Prefix<F>>
         requires { IsSome (branch_links self.now link) }
-        ensures { (rows : Rows Value) → branch_links self.now link ≡ Some rows → IsNextCandidate (with_rows rows) (key_of after) result }
+        ensures { (rows : Rows Valuation) → branch_links self.now link ≡ Some rows → IsNextCandidate (with_rows rows) (key_of after) result }
     {
         self.stages
             .next_candidate(Owner::Origin(self.proto), link, after)
@@ -221,18 +231,18 @@ impl Branch {
     }
 }
 
-impl Upstream for Branch {
-    type Row = Interior;
+impl<F: Texts> Upstream<F> for Branch<F> {
+    type Row = Interior<Addr<F>>;
 
     ghost rows = { org_rows };
 
     ghost candidates = { branch_candidates };
 
-    fn asked(&self, p: &Prefix) -> Result<Option<Interior>, Memory> {
+    fn asked(&self, p: &Prefix<F>) -> Result<Option<Interior<Addr<F>>>, Memory> {
         Upstream::asked(&self.stages, p)
     }
 
-    fn next_candidate(&self, after: &Place) -> Option<Prefix> {
+    fn next_candidate(&self, after: &Place<Prefix<F>>) -> Option<Prefix<F>> {
         Upstream::next_candidate(&self.stages, after)
     }
 }

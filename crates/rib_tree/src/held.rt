@@ -13,15 +13,15 @@ ghost use Rattle.rib_tree.specs.Trees.{IsTree, tree_tasks};
 
 use crate::branch::Branch;
 use crate::tree::Tree;
-use addr4::{Addr, Place, Prefix};
+use addr4::{Addr, Place, Prefix, Texts};
 use journal_text::Task;
 use loss_chain::{Deletion, Stage};
 use rib_route::Interior;
 
-impl Tree {
+impl<F: Texts> Tree<F> {
     /// The first task, by protocol (connected, static, ospf, rip) and loss, whose lost table still has a prefix, or one that
     /// holds one of these addresses.
-    pub fn first_loss_at(&self, p: Prefix, addresses: &[Addr]) -> Option<Task>
+    pub fn first_loss_at(&self, p: Prefix<F>, addresses: &[Addr<F>]) -> Option<Task>
         requires { IsTree self.now }
         ensures { result ≡ find (tree_holds_up self.now p addresses.now) (tree_tasks self.now) }
     {
@@ -33,9 +33,9 @@ impl Tree {
     }
 }
 
-impl Branch {
+impl<F: Texts> Branch<F> {
     /// The first task of a protocol, the longest standing first.
-    fn first_loss_at(&self, p: Prefix, addresses: &[Addr]) -> Option<Task>
+    fn first_loss_at(&self, p: Prefix<F>, addresses: &[Addr<F>]) -> Option<Task>
         ensures { result ≡ option_map (λ d. tasks.Rdel self.now.proto d.number) (find (λ d. table_holds_up (Some d.rows) p addresses.now) self.now.tables.deletions) }
     {
         let loss = first_lost(self.lowest(), p, addresses)?;
@@ -44,7 +44,11 @@ impl Branch {
 }
 
 // The number of the first loss, from this stage upward.
-fn first_lost(stage: &Stage<Interior>, p: Prefix, addresses: &[Addr]) -> Option<u32>
+fn first_lost<F: Texts>(
+    stage: &Stage<Interior<Addr<F>>, F>,
+    p: Prefix<F>,
+    addresses: &[Addr<F>],
+) -> Option<u32>
     ensures { result ≡ option_map (λ d. d.number) (find (λ d. table_holds_up (Some d.rows) p addresses.now) (deletions_of stage.now)) }
 {
     match stage {
@@ -59,7 +63,11 @@ fn first_lost(stage: &Stage<Interior>, p: Prefix, addresses: &[Addr]) -> Option<
 }
 
 // Whether a lost table still has a prefix, or one that holds one of the addresses.
-fn holds_up(deletion: &Deletion<Interior>, p: Prefix, addresses: &[Addr]) -> bool
+fn holds_up<F: Texts>(
+    deletion: &Deletion<Interior<Addr<F>>, F>,
+    p: Prefix<F>,
+    addresses: &[Addr<F>],
+) -> bool
     ensures { result ≡ table_holds_up (Some deletion.now.rows) p addresses.now }
 {
     match deletion.next_held(Place::Before) {
@@ -69,7 +77,7 @@ fn holds_up(deletion: &Deletion<Interior>, p: Prefix, addresses: &[Addr]) -> boo
 }
 
 // Whether a lost table, whose least prefix this is, has a prefix.
-fn has(deletion: &Deletion<Interior>, least: Prefix, p: Prefix) -> bool
+fn has<F: Texts>(deletion: &Deletion<Interior<Addr<F>>, F>, least: Prefix<F>, p: Prefix<F>) -> bool
     requires { IsNextCandidate (with_rows (map.get deletion.now.rows)) None (Some least) }
     ensures { result ≡ has_row (Some deletion.now.rows) p }
 {
@@ -80,7 +88,11 @@ fn has(deletion: &Deletion<Interior>, least: Prefix, p: Prefix) -> bool
 }
 
 // Whether it has one that holds one of the addresses.
-fn is_over_any(deletion: &Deletion<Interior>, least: Prefix, addresses: &[Addr]) -> bool
+fn is_over_any<F: Texts>(
+    deletion: &Deletion<Interior<Addr<F>>, F>,
+    least: Prefix<F>,
+    addresses: &[Addr<F>],
+) -> bool
     requires { IsNextCandidate (with_rows (map.get deletion.now.rows)) None (Some least) }
     ensures { result ≡ list_any (has_over (Some deletion.now.rows)) addresses.now }
 {
@@ -92,14 +104,20 @@ fn is_over_any(deletion: &Deletion<Interior>, least: Prefix, addresses: &[Addr])
     false
 }
 
-// Whether it has one that holds an address. The 33 prefixes that hold it ascend in the table's order: so those before the
-// next row that the table has are passed over, and none is left where that row begins behind the address.
-fn is_over(deletion: &Deletion<Interior>, least: Prefix, address: Addr) -> bool
+// Whether it has one that holds an address. The prefixes of the family that hold it ascend in the table's order: so those before
+// the next row that the table has are passed over, and none is left where that row begins behind the address, as the row behind the
+// longest of them does.
+fn is_over<F: Texts>(
+    deletion: &Deletion<Interior<Addr<F>>, F>,
+    least: Prefix<F>,
+    address: Addr<F>,
+) -> bool
     requires { IsNextCandidate (with_rows (map.get deletion.now.rows)) None (Some least) }
     ensures { result ≡ has_over (Some deletion.now.rows) address }
 {
+    address.known();
     let mut next = least;
-    for bits in 0..33 {
+    for bits in 0..F::WIDTH + 1 {
         if is_before(address, next) {
             return false;
         }
@@ -117,12 +135,13 @@ fn is_over(deletion: &Deletion<Interior>, least: Prefix, address: Addr) -> bool
             None => return false,
         };
     }
+    next.known();
     false
 }
 
 // Whether an address comes before all that a prefix holds.
-fn is_before(address: Addr, p: Prefix) -> bool
+fn is_before<F: Texts>(address: Addr<F>, p: Prefix<F>) -> bool
     ensures { result ≡ nat_lt address p.address }
 {
-    address.number() < p.address().number()
+    address < p.address()
 }

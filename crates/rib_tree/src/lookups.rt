@@ -5,20 +5,23 @@ ghost use Rattle.rib_route.specs.declared.Proto.{Proto};
 ghost use Rattle.journal_text.specs.declared.link.Link.TheVariants as names;
 ghost use Rattle.addr4.specs.Places.{key_of};
 ghost use Rattle.link_change.specs.Rows.{Rows, IsNextCandidate, with_rows};
-ghost use Rattle.journal_text.specs.declared.value.Value.{Value};
+ghost use Rattle.journal_text.specs.Lines.{Value as Valuation};
 ghost use Rattle.journal_text.specs.declared.value.Value.TheVariants as values;
 ghost use Rattle.journal_text.specs.Walk.{HasRow};
 ghost use Rattle.rib_tree.specs.Trees.{branch_of, low_rows, dyn_rows, int_rows, int_candidates, tree_links};
 
 use crate::tree::Tree;
-use addr4::{Memory, Place, Prefix};
+use addr4::{Addr, Memory, Place, Prefix, Texts, V4};
+use bgp_attr::SharedAttrs;
 use journal_text::{Link, Value};
 use link_change::{Upstream, nearer};
 use rib_merge::preferred;
 use rib_route::{Interior, Proto};
 
 // The value of a route, if there is one.
-fn interior_value(row: Option<Interior>) -> Option<Value>
+fn interior_value<F: Texts>(
+    row: Option<Interior<Addr<F>>>,
+) -> Option<Value<SharedAttrs<F>, Addr<F>>>
     ensures { result ≡ option_map (λ r. values.Interior r) row }
 {
     match row {
@@ -27,7 +30,7 @@ fn interior_value(row: Option<Interior>) -> Option<Value>
     }
 }
 
-impl Tree {
+impl<F: Texts> Tree<F> {
     /// Whether the link is one of the tree's: `org.PROTO`, `org.PROTO.N` above the deletion stage of a protocol's
     /// Nth loss, `low`, `dyn` and `int`.
     pub fn live(&self, link: Link) -> bool
@@ -44,7 +47,11 @@ impl Tree {
     }
 
     /// The row at a prefix of a link of the tree; None where it has none. Memory only for want of memory.
-    pub fn asked(&self, link: Link, p: Prefix) -> Result<Option<Value>, Memory>
+    pub fn asked(
+        &self,
+        link: Link,
+        p: Prefix<F>,
+    ) -> Result<Option<Value<SharedAttrs<F>, Addr<F>>>, Memory>
         requires { IsSome (tree_links self.now link) }
         ensures { IfOk result (HasRow (tree_links self.now) link p) }
     {
@@ -62,7 +69,7 @@ impl Tree {
     }
 
     // The row at a prefix of a link of the tree, except those of losses.
-    fn interior_row(&self, link: Link, p: Prefix) -> Result<Option<Interior>, Memory>
+    fn interior_row(&self, link: Link, p: Prefix<F>) -> Result<Option<Interior<Addr<F>>>, Memory>
         requires some { IsSome (tree_links self.now link) }
         requires no_loss { (proto : Proto) (loss : ℕ) → link ≡ names.Lost proto loss → ⊥ }
         ensures { IfOk result (λ row. HasRow (tree_links self.now) link p (option_map (λ r. values.Interior r) row)) }
@@ -77,7 +84,7 @@ impl Tree {
     }
 
     // The row of `int` at a prefix.
-    fn int_row(&self, p: Prefix) -> Result<Option<Interior>, Memory>
+    fn int_row(&self, p: Prefix<F>) -> Result<Option<Interior<Addr<F>>>, Memory>
         ensures { IfOk result (λ row. row ≡ int_rows self.now p) }
     {
         let low = self.low_row(p)?;
@@ -86,7 +93,7 @@ impl Tree {
     }
 
     /// The row of `int` at a prefix. Takes no memory.
-    pub fn row(&self, p: Prefix) -> Option<Interior>
+    pub fn row(&self, p: Prefix<F>) -> Option<Interior<Addr<F>>>
         ensures { result ≡ int_rows self.now p }
     {
         let low = preferred(self.connected.row(p), self.statics.row(p));
@@ -95,9 +102,9 @@ impl Tree {
     }
 
     /// The least prefix beyond a place that has a row on a link of the tree.
-    pub fn next_candidate(&self, link: Link, after: Place) -> Option<Prefix>
+    pub fn next_candidate(&self, link: Link, after: Place<Prefix<F>>) -> Option<Prefix<F>>
         requires { IsSome (tree_links self.now link) }
-        ensures { (rows : Rows Value) → tree_links self.now link ≡ Some rows → IsNextCandidate (with_rows rows) (key_of after) result }
+        ensures { (rows : Rows Valuation) → tree_links self.now link ≡ Some rows → IsNextCandidate (with_rows rows) (key_of after) result }
     {
         match link {
             Link::Org(proto) => Upstream::next_candidate(self.branch(proto), &after),
@@ -113,21 +120,21 @@ impl Tree {
     }
 
     // The next row of `low` beyond a place.
-    fn low_next(&self, after: &Place) -> Option<Prefix>
+    fn low_next(&self, after: &Place<Prefix<F>>) -> Option<Prefix<F>>
         ensures { IsNextCandidate (with_rows (low_rows self.now)) (key_of after.now) result }
     {
         rib_merge::next_candidate(&self.connected, &self.statics, *after)
     }
 
     // The next row of `dyn` beyond a place.
-    fn dyn_next(&self, after: &Place) -> Option<Prefix>
+    fn dyn_next(&self, after: &Place<Prefix<F>>) -> Option<Prefix<F>>
         ensures { IsNextCandidate (with_rows (dyn_rows self.now)) (key_of after.now) result }
     {
         rib_merge::next_candidate(&self.ospf, &self.rip, *after)
     }
 
     // The next row of `int` beyond a place.
-    fn int_next(&self, after: &Place) -> Option<Prefix>
+    fn int_next(&self, after: &Place<Prefix<F>>) -> Option<Prefix<F>>
         ensures { IsNextCandidate (with_rows (int_rows self.now)) (key_of after.now) result }
     {
         let low = self.low_next(after);
@@ -136,18 +143,18 @@ impl Tree {
     }
 }
 
-impl Upstream for Tree {
-    type Row = Interior;
+impl<F: Texts> Upstream<F> for Tree<F> {
+    type Row = Interior<Addr<F>>;
 
     ghost rows = { int_rows };
 
     ghost candidates = { int_candidates };
 
-    fn asked(&self, p: &Prefix) -> Result<Option<Interior>, Memory> {
+    fn asked(&self, p: &Prefix<F>) -> Result<Option<Interior<Addr<F>>>, Memory> {
         self.int_row(*p)
     }
 
-    fn next_candidate(&self, after: &Place) -> Option<Prefix> {
+    fn next_candidate(&self, after: &Place<Prefix<F>>) -> Option<Prefix<F>> {
         self.int_next(after)
     }
 }

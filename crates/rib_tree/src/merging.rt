@@ -8,7 +8,7 @@ ghost use Rattle.rib_tree.specs.Falls.{merge_below};
 ghost use Rattle.rib_tree.specs.Merges.{partner_of, side_of, side_below, rows_beside, MergesInto, MergesBelow, IsPassedDown};
 
 use crate::tree::Tree;
-use addr4::{Memory, Prefix};
+use addr4::{Addr, Memory, Prefix, Texts};
 use journal_text::{Journal, Link};
 use link_change::{Change, Upstream};
 use rib_merge::{Side, take_in};
@@ -56,23 +56,23 @@ fn merged_link(proto: Proto) -> Link
     }
 }
 
-impl Tree {
+impl<F: Texts> Tree<F> {
     /// The row of `low` at a prefix.
-    pub(crate) fn low_row(&self, p: Prefix) -> Result<Option<Interior>, Memory>
+    pub(crate) fn low_row(&self, p: Prefix<F>) -> Result<Option<Interior<Addr<F>>>, Memory>
         ensures { IfOk result (λ row. row ≡ low_rows self.now p) }
     {
         rib_merge::asked(&self.connected, &self.statics, p)
     }
 
     /// The row of `dyn` at a prefix.
-    pub(crate) fn dyn_row(&self, p: Prefix) -> Result<Option<Interior>, Memory>
+    pub(crate) fn dyn_row(&self, p: Prefix<F>) -> Result<Option<Interior<Addr<F>>>, Memory>
         ensures { IfOk result (λ row. row ≡ dyn_rows self.now p) }
     {
         rib_merge::asked(&self.ospf, &self.rip, p)
     }
 
     // The row at a prefix of the other link that comes into `int` beside the protocol's.
-    fn row_beside(&self, proto: Proto, p: Prefix) -> Result<Option<Interior>, Memory>
+    fn row_beside(&self, proto: Proto, p: Prefix<F>) -> Result<Option<Interior<Addr<F>>>, Memory>
         ensures { IfOk result (λ row. row ≡ rows_beside proto self.now p) }
     {
         match proto {
@@ -85,8 +85,8 @@ impl Tree {
     fn merge_into(
         &self,
         proto: Proto,
-        change: Change<Interior>,
-    ) -> Result<Option<Change<Interior>>, Memory>
+        change: Change<Interior<Addr<F>>, Prefix<F>>,
+    ) -> Result<Option<Change<Interior<Addr<F>>, Prefix<F>>>, Memory>
         ensures { IfOk result (MergesInto proto self.now change) }
     {
         let other = Upstream::asked(self.branch(partner(proto)), &change.prefix)?;
@@ -97,8 +97,8 @@ impl Tree {
     fn merge_below(
         &self,
         proto: Proto,
-        change: Change<Interior>,
-    ) -> Result<Option<Change<Interior>>, Memory>
+        change: Change<Interior<Addr<F>>, Prefix<F>>,
+    ) -> Result<Option<Change<Interior<Addr<F>>, Prefix<F>>>, Memory>
         ensures { IfOk result (MergesBelow proto self.now change) }
     {
         let other = self.row_beside(proto, change.prefix)?;
@@ -109,9 +109,9 @@ impl Tree {
     pub(crate) fn pass_down(
         &self,
         proto: Proto,
-        change: Change<Interior>,
-        journal: &mut Journal,
-    ) -> Result<Option<Change<Interior>>, Memory>
+        change: Change<Interior<Addr<F>>, Prefix<F>>,
+        journal: &mut Journal<F>,
+    ) -> Result<Option<Change<Interior<Addr<F>>, Prefix<F>>>, Memory>
         ensures { IfOk result (IsPassedDown proto self.now change journal.old journal.new) }
     {
         let Some(middle) = self.merge_into(proto, change)? else {

@@ -14,20 +14,20 @@ ghost use Rattle.rib_tree.specs.Trees.{branch_of};
 ghost use Rattle.rib_tree.specs.Merges.{DifferAt};
 
 use crate::tree::Tree;
-use addr4::{Memory, Prefix};
+use addr4::{Addr, Memory, Prefix, Texts};
 use journal_text::Journal;
 use link_change::{Change, Turn};
 use rib_route::{Interior, Proto};
 
-impl Tree {
+impl<F: Texts> Tree<F> {
     /// A route of a protocol is set or taken away. Answers the change on `org.PROTO`.
     pub(crate) fn feed_branch(
         &mut self,
         proto: Proto,
-        p: Prefix,
-        new: Option<Interior>,
-        journal: &mut Journal,
-    ) -> Result<Option<Change<Interior>>, Memory>
+        p: Prefix<F>,
+        new: Option<Interior<Addr<F>>>,
+        journal: &mut Journal<F>,
+    ) -> Result<Option<Change<Interior<Addr<F>>, Prefix<F>>>, Memory>
         requires branch { IsBranch (branch_of proto self.old) }
         requires full { NoneEmpty (branch_of proto self.old).tables.deletions }
         requires own { IfSome new (λ row. row.proto ≡ (branch_of proto self.old).proto) }
@@ -47,7 +47,11 @@ impl Tree {
     }
 
     /// A protocol's routes are lost.
-    pub(crate) fn lose_branch(&mut self, proto: Proto, journal: &mut Journal) -> Result<(), Memory>
+    pub(crate) fn lose_branch(
+        &mut self,
+        proto: Proto,
+        journal: &mut Journal<F>,
+    ) -> Result<(), Memory>
         requires branch { IsBranch (branch_of proto self.old) }
         requires full { NoneEmpty (branch_of proto self.old).tables.deletions }
         requires room { overdue_of (branch_of proto self.old) ≡ None }
@@ -69,7 +73,11 @@ impl Tree {
     }
 
     /// The stage of a protocol that stands empty goes.
-    pub(crate) fn weld_branch(&mut self, proto: Proto, journal: &mut Journal) -> Result<(), Memory>
+    pub(crate) fn weld_branch(
+        &mut self,
+        proto: Proto,
+        journal: &mut Journal<F>,
+    ) -> Result<(), Memory>
         requires branch { IsBranch (branch_of proto self.old) }
         requires one_empty { OneEmptyAtMost (branch_of proto self.old).tables.deletions }
         ensures others { DifferAt proto self.old self.new }
@@ -93,8 +101,8 @@ impl Tree {
         &mut self,
         proto: Proto,
         loss: u32,
-        journal: &mut Journal,
-    ) -> Result<Turn<Interior>, Memory>
+        journal: &mut Journal<F>,
+    ) -> Result<Turn<Interior<Addr<F>>, Prefix<F>>, Memory>
         requires branch { IsBranch (branch_of proto self.old) }
         requires full { NoneEmpty (branch_of proto self.old).tables.deletions }
         ensures others { DifferAt proto self.old self.new }

@@ -11,7 +11,7 @@ ghost use Rattle.rib_tree.specs.Falls.{FallsTree, LeadsTree, way_of_route};
 ghost use Rattle.rib_tree.specs.Steps.{new_tree, fed_tree, lost_tree, tree_loss_entries, welded_tree, tree_weld_entries, tree_overdue, IsTakenTree, IsFullAfter};
 
 use crate::branch::Branch;
-use addr4::{Memory, Prefix};
+use addr4::{Addr, Memory, Prefix, Texts, V4};
 use journal_text::{Journal, Task};
 use link_change::{Change, Turn};
 use rib_route::{Interior, Proto};
@@ -20,30 +20,31 @@ use std::marker::Model;
 
 /// The interior routes of all protocols. Contracts see the branch of each.
 #[derive(Drop)]
-pub struct Tree {
-    pub(crate) connected: Branch,
-    pub(crate) statics: Branch,
-    pub(crate) ospf: Branch,
-    pub(crate) rip: Branch,
+pub struct Tree<F: Texts = V4> {
+    pub(crate) connected: Branch<F>,
+    pub(crate) statics: Branch<F>,
+    pub(crate) ospf: Branch<F>,
+    pub(crate) rip: Branch<F>,
 }
 
-impl Model for Tree {
+impl<F: Texts> Model for Tree<F> {
     ghost use Rattle.rib_tree.specs.Branches.{branch_code};
     ghost use Rattle.rib_route.specs.contracts.Proto as proto_row;
     ghost use Rattle.rib_route.specs.contracts.rows.Interior as interior_row;
     ghost use Rattle.rib_tree.specs.Trees.{Treed, treed_code};
+    ghost use Rattle.std.specs.Borrow.{u32 as word};
 
     ghost Value = { Treed };
 
-    ghost coded = { treed_code (branch_code proto_row.the_row.coded interior_row.the_row.coded) };
+    ghost coded = { treed_code (branch_code proto_row.the_row.coded (interior_row.the_row word).coded) };
 
     ghost view = { λ t. record { connected = t.connected; statics = t.statics; ospf = t.ospf; rip = t.rip } };
 }
 
-impl Tree {
+impl<F: Texts> Tree<F> {
     /// A tree without routes, whose protocols lost none yet. Takes no memory; what the branches hold later comes from
     /// `alloc`.
-    pub fn new(alloc: Global) -> Tree
+    pub fn new(alloc: Global) -> Tree<F>
         ensures { result ≡ new_tree }
     {
         Tree {
@@ -55,7 +56,7 @@ impl Tree {
     }
 
     /// The branch of a protocol.
-    pub fn branch(&self, proto: Proto) -> &Branch
+    pub fn branch(&self, proto: Proto) -> &Branch<F>
         ensures { result.now ≡ branch_of proto self.now }
     {
         match proto {
@@ -67,7 +68,7 @@ impl Tree {
     }
 
     /// Whether a route of a protocol is live at the prefix.
-    pub fn has(&self, proto: Proto, p: Prefix) -> bool
+    pub fn has(&self, proto: Proto, p: Prefix<F>) -> bool
         ensures { result ≡ is_some (map.get (branch_of proto self.now).tables.live p) }
     {
         self.branch(proto).has(p)
@@ -79,10 +80,10 @@ impl Tree {
     pub fn feed(
         &mut self,
         proto: Proto,
-        p: Prefix,
-        new: Option<Interior>,
-        journal: &mut Journal,
-    ) -> Result<Option<Change<Interior>>, Memory>
+        p: Prefix<F>,
+        new: Option<Interior<Addr<F>>>,
+        journal: &mut Journal<F>,
+    ) -> Result<Option<Change<Interior<Addr<F>>, Prefix<F>>>, Memory>
         requires tree { IsTree self.old }
         requires full { IsFull self.old }
         requires own { IfSome new (λ row. row.proto ≡ proto) }
@@ -120,7 +121,7 @@ impl Tree {
 
     /// A protocol's routes are lost: if there are any, they go to a deletion stage directly below its live routes, and the
     /// link `org.PROTO.N` above it begins. The maps of `org.PROTO`, and of the links below it, stay the same.
-    pub fn lose(&mut self, proto: Proto, journal: &mut Journal) -> Result<(), Memory>
+    pub fn lose(&mut self, proto: Proto, journal: &mut Journal<F>) -> Result<(), Memory>
         requires tree { IsTree self.old }
         requires full { IsFull self.old }
         requires room { tree_overdue proto self.old ≡ None }
@@ -138,7 +139,7 @@ impl Tree {
 
     /// Takes out the stage of a protocol that a feed or a turn emptied, if there is one: the link above it is welded into
     /// the one below.
-    pub fn weld(&mut self, proto: Proto, journal: &mut Journal) -> Result<(), Memory>
+    pub fn weld(&mut self, proto: Proto, journal: &mut Journal<F>) -> Result<(), Memory>
         requires tree { IsTree self.old }
         requires full { IsFullBut proto self.old }
         ensures after { OnOk result (self.new ≡ welded_tree proto self.old) }
@@ -155,7 +156,11 @@ impl Tree {
     /// One turn of a task. Of `rdel.PROTO.N`: the least row of that stage, by address and then length, goes, and its delete
     /// goes down; a turn may empty the stage: weld then. Nothing exactly where the task isn't one of the tree's or has no
     /// work; Quiet where no change comes out on `int`.
-    pub fn unit(&mut self, task: Task, journal: &mut Journal) -> Result<Turn<Interior>, Memory>
+    pub fn unit(
+        &mut self,
+        task: Task,
+        journal: &mut Journal<F>,
+    ) -> Result<Turn<Interior<Addr<F>>, Prefix<F>>, Memory>
         requires tree { IsTree self.old }
         requires full { IsFull self.old }
         ensures taken { IfOk result (IsTakenTree self.old self.new task journal.old journal.new) }
@@ -180,8 +185,8 @@ impl Tree {
         &mut self,
         proto: Proto,
         loss: u32,
-        journal: &mut Journal,
-    ) -> Result<Turn<Interior>, Memory>
+        journal: &mut Journal<F>,
+    ) -> Result<Turn<Interior<Addr<F>>, Prefix<F>>, Memory>
         requires tree { IsTree self.old }
         requires full { IsFull self.old }
         ensures taken { IfOk result (IsTakenTree self.old self.new (tasks.Rdel proto loss) journal.old journal.new) }

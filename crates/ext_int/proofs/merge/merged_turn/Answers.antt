@@ -1,7 +1,7 @@
 use Rattle.std.proofs.Common.{◌≡◌, option_map, ◌∙◌, ap, subst, sym}
-use Rattle.rib_route.specs.declared.rows.FibRow.{FibRow}
+use Rattle.rib_route.specs.Rows.{FibRow}
 use Rattle.rib_route.specs.Forwarding.{fib_row}
-use Rattle.link_change.specs.declared.turn.Turn.{Turn}
+use Rattle.link_change.specs.Turns.{Turn}
 use Rattle.rib_merge.specs.Forwards.{forwarded}
 use Rattle.ext_int.specs.Fibs.{FollowsTurn}
 use Rattle.ext_int.proofs.FibLemmas.{follows_ext}

@@ -14,4 +14,4 @@ invariant-routes g l = record {
 }
 
 abbrev pub decreases-routes : goal.decreases-routes
-decreases-routes g l = 2 ^ 40 + 1 - beyond (key_of l.place)
+decreases-routes g l = 2 ^ 136 + 1 - beyond (key_of l.place)

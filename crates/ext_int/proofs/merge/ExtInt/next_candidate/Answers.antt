@@ -1,7 +1,7 @@
 use Rattle.std.proofs.Common.{subst}
 use Rattle.addr4.specs.Places.{key_of}
 use Rattle.link_change.specs.Rows.{CoversRows, together}
-use Rattle.nexthop_resolver.specs.declared.rows.Way.{Way}
+use Rattle.nexthop_resolver.specs.Ways.{Way}
 use Rattle.nexthop_resolver.specs.Resolving.{Resolving}
 use Rattle.ext_int.specs.Fibs.{resolved_rows, fib_table}
 use Rattle.ext_int.proofs.FibLemmas.{table_covered}

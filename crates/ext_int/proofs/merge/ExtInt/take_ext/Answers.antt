@@ -1,9 +1,9 @@
 use Rattle.std.proofs.Common.{◌≡◌, Option, None, option_map, ◌∙◌, ap, subst}
-use Rattle.rib_route.specs.declared.rows.FibRow.{FibRow}
+use Rattle.rib_route.specs.Rows.{FibRow}
 use Rattle.rib_route.specs.Forwarding.{fib_row}
-use Rattle.link_change.specs.declared.change.Change.{Change}
+use Rattle.link_change.specs.Changes.{Change}
 use Rattle.rib_merge.specs.Forwards.{forwarded}
-use Rattle.nexthop_resolver.specs.declared.rows.Way.{Way}
+use Rattle.nexthop_resolver.specs.Ways.{Way}
 use Rattle.nexthop_resolver.specs.Kept.{external_hop, over}
 use Rattle.nexthop_resolver.specs.Resolving.{Resolving}
 use Rattle.nexthop_resolver.specs.Takes.{TakesIn}

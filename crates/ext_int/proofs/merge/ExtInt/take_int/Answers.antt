@@ -1,5 +1,5 @@
 use Rattle.std.proofs.Common.{◌≡◌, ◌∙◌, ap}
-use Rattle.nexthop_resolver.specs.declared.rows.Way.{Way}
+use Rattle.nexthop_resolver.specs.Ways.{Way}
 use Rattle.nexthop_resolver.specs.Resolving.{Resolving}
 use Rattle.ext_int.specs.Fibs.{resolved_rows}
 use Rattle.ext_int.proofs.FibLemmas.{silent_int, follows_int}

@@ -6,7 +6,7 @@ use Rattle.rib_tree.proofs.LookupLemmas.{both_are}
 use Rattle.rib_tree.proofs.tree.Tree.int_next.Goals as goal
 
 pub returns : goal.returns
-returns c =
+returns g c =
     let low = low_rows c.args.self.now in
     let dynamic = dyn_rows c.args.self.now in
     let P : Candidates → Type 0 = λ k. IsNextCandidate k (key_of c.args.after.now) c.nearer.result in

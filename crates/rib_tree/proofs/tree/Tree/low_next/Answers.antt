@@ -6,6 +6,6 @@ use Rattle.rib_tree.proofs.LookupLemmas.{both_are}
 use Rattle.rib_tree.proofs.tree.Tree.low_next.Goals as goal
 
 pub returns : goal.returns
-returns c =
+returns g c =
     let P : Candidates → Type 0 = λ k. IsNextCandidate k (key_of c.args.after.now) c.next_candidate.result in
     rw (← c.self.view_is) (subst P (both_are (org_rows c.self.inside.connected) (org_rows c.self.inside.statics)) c.next_candidate.ensures.next)

@@ -9,7 +9,7 @@ use Rattle.rib_tree.proofs.MergeLemmas.{merges_into}
 use Rattle.rib_tree.proofs.tree.Tree.merge_into.Goals as goal
 
 pub returns : goal.returns
-returns c =
+returns g c =
     let branch : c.branch-self.result.now ≡ branch_of (partner_of c.args.proto) c.args.self.now = c.branch-self.ensures ∙ ap (λ (k : Proto). branch_of k c.args.self.now) c.partner.ensures in
     let other : c.in_ok-other.other ≡ org_rows (branch_of (partner_of c.args.proto) c.args.self.now) c.args.change.prefix = c.in_ok-other.ensures ∙ ap (λ (b : Branch). org_rows b c.args.change.prefix) branch in
     let P : Side → Type 0 = λ s. MergesOn interior_distance s c.args.change c.in_ok-other.other c.take_in.result in

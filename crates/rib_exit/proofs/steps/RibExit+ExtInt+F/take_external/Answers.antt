@@ -1,8 +1,8 @@
 use Rattle.std.proofs.Common.{subst}
-use Rattle.rib_split.specs.declared.split.Split.{Split}
+use Rattle.rib_split.specs.Splits.{Split}
 use Rattle.rib_split.specs.Tables.{SplitsOn}
 use Rattle.rib_exit.proofs.FallLemmas.{if_ok, agreed, takes_neither, takes_one, takes_both}
-use Rattle.rib_exit.proofs.exit.RibExit.take_external.Goals as goal
+use Rattle.rib_exit.proofs.steps.RibExit+ExtInt+F.take_external.Goals as goal
 
 pub returns-in-Neither-clause-taken : goal.returns-in-Neither-clause-taken
 returns-in-Neither-clause-taken g c =

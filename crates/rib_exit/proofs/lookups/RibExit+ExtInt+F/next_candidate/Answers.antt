@@ -1,7 +1,7 @@
 use Rattle.addr4.specs.Places.{key_of}
 use Rattle.rib_split.specs.declared.split.BgpLink.TheVariants as sides
 use Rattle.rib_exit.proofs.LentLemmas.{next_on_side, next_on_ext, next_on_fib, covers_fib}
-use Rattle.rib_exit.proofs.exit.RibExit.next_candidate.Goals as goal
+use Rattle.rib_exit.proofs.lookups.RibExit+ExtInt+F.next_candidate.Goals as goal
 
 pub returns-in-Ebgp-clause-next : goal.returns-in-Ebgp-clause-next
 returns-in-Ebgp-clause-next g c =

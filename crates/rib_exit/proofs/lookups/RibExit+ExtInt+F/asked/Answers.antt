@@ -1,6 +1,6 @@
 use Rattle.rib_split.specs.declared.split.BgpLink.TheVariants as sides
 use Rattle.rib_exit.proofs.LentLemmas.{has_on, has_ext, has_fib}
-use Rattle.rib_exit.proofs.exit.RibExit.asked.Goals as goal
+use Rattle.rib_exit.proofs.lookups.RibExit+ExtInt+F.asked.Goals as goal
 
 pub returns-in-Ebgp : goal.returns-in-Ebgp
 returns-in-Ebgp g c =

@@ -1,15 +1,15 @@
 use Rattle.std.proofs.Common.{List, take, ◌++◌, ◌∷◌, [], sym, ap, subst, ◌∙◌}
 use Rattle.std.proofs.lemmas.List.{take_all, take_more}
-use Rattle.register_interest.specs.declared.interests.Interest.{Interest}
+use Rattle.register_interest.specs.Interests.{Interest}
 use Rattle.rib_exit.proofs.ReachLemmas.{Reaching, reaching_first, reaching_own, reaching_other, reaches_exit}
-use Rattle.rib_exit.proofs.exit.RibExit.reach.Goals.{then-own+in_ok-invalidate, else-own}
-use Rattle.rib_exit.proofs.exit.RibExit.reach.Goals as goal
+use Rattle.rib_exit.proofs.steps.RibExit+ExtInt+F.reach.Goals.{then-own+in_ok-invalidate, else-own}
+use Rattle.rib_exit.proofs.steps.RibExit+ExtInt+F.reach.Goals as goal
 
 pub loop-interest-init : goal.loop-interest-init
-loop-interest-init c = reaching_first c.args.self.now c.requires.sound
+loop-interest-init g c = reaching_first c.args.self.now c.requires.sound
 
 pub loop-interest-preserved : goal.loop-interest-preserved
-loop-interest-preserved c =
+loop-interest-preserved g c =
     let out = c.args.reached.now in
     let n = c.loop-interest.interest-index in
     let i = c.interest-item.result in
@@ -24,7 +24,7 @@ loop-interest-preserved c =
     ]
 
 pub returns-clause-stale : goal.returns-clause-stale
-returns-clause-stale c =
+returns-clause-stale g c =
     let out = c.args.reached.now in
     let a = c.args.self.now in
     let now = c.loop-interest.self in

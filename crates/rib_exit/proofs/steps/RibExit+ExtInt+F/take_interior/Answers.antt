@@ -1,5 +1,5 @@
 use Rattle.rib_exit.proofs.TurnLemmas.{follows_lent, takes_interior}
-use Rattle.rib_exit.proofs.exit.RibExit.take_interior.Goals as goal
+use Rattle.rib_exit.proofs.steps.RibExit+ExtInt+F.take_interior.Goals as goal
 
 pub returns : goal.returns
 returns g c =

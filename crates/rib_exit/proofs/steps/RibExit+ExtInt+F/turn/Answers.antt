@@ -1,5 +1,5 @@
 use Rattle.rib_exit.proofs.TurnLemmas.{takes_lent, rests_out, quiet_out, sent_out}
-use Rattle.rib_exit.proofs.exit.RibExit.turn.Goals as goal
+use Rattle.rib_exit.proofs.steps.RibExit+ExtInt+F.turn.Goals as goal
 
 pub returns-in-Nothing-clause-taken : goal.returns-in-Nothing-clause-taken
 returns-in-Nothing-clause-taken g c =

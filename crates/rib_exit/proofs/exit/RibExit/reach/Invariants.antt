@@ -1,6 +1,0 @@
-use Rattle.std.proofs.Common.{take}
-use Rattle.rib_exit.proofs.ReachLemmas.{Reaching}
-use Rattle.rib_exit.proofs.exit.RibExit.reach.Given as goal
-
-abbrev pub invariant-loop-interest : goal.invariant-loop-interest
-invariant-loop-interest l = Reaching (take l.interest-index l.reached) l.fn.self l.self
