@@ -7,15 +7,15 @@ use Rattle.std.specs.FinMap.{get-empty, contains_key-keys, nat_cmp-IsAntisymmetr
 use Rattle.std.specs.Ordering.{nat_cmp}
 use Rattle.std.specs.Cmp.{nat_cmp_total}
 use Rattle.std.proofs.lemmas.Map.Views.{Contains-from_any, tells_apart}
-use Rattle.bgp_attr.specs.declared.route.Route.{Route}
+use Rattle.bgp_attr.specs.Routes.{Route}
 use Rattle.bgp_attr.specs.declared.speaker.Profile.{Profile}
 use Rattle.link_change.proofs.RowLemmas.{same_function}
 use Rattle.link_change.proofs.MapLemmas.{no_entries, one_of_sum}
 use Rattle.fanout_queue.specs.Queues.{Queued}
 use Rattle.fanout_queue.specs.Readers.{unread_by, read_rows}
 use Rattle.fanout_queue.proofs.Cases.{by_bool}
-use Rattle.journal_text.specs.declared.value.Value.{Value}
-use Rattle.journal_text.specs.declared.entry.Entry.{Entry}
+use Rattle.journal_text.specs.Lines.{Value}
+use Rattle.journal_text.specs.Lines.{Entry}
 use Rattle.journal_text.specs.Links.{owner_of}
 use Rattle.journal_text.specs.Walk.{Links, Leads}
 use Rattle.out_chain.specs.Chains.{OutChained}

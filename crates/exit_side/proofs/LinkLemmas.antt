@@ -1,12 +1,12 @@
 -- From the links of one chain to those of all exits.
 use Rattle.std.proofs.Common.{◌≡◌, ◌≢◌, ℕ, cond, List, nat_eq, refl, sym, ap, subst}
-use Rattle.bgp_attr.specs.declared.route.Route.{Route}
+use Rattle.bgp_attr.specs.Routes.{Route}
 use Rattle.link_change.specs.Rows.{Rows}
 use Rattle.link_change.proofs.RowLemmas.{same_function}
 use Rattle.journal_text.specs.declared.link.Link.{Link}
 use Rattle.journal_text.specs.declared.link.Link.TheVariants.{Read, Outf, Adv}
-use Rattle.journal_text.specs.declared.entry.Entry.{Entry}
-use Rattle.journal_text.specs.declared.value.Value.{Value}
+use Rattle.journal_text.specs.Lines.{Entry}
+use Rattle.journal_text.specs.Lines.{Value}
 use Rattle.journal_text.specs.Walk.{Links, Leads}
 use Rattle.journal_text.specs.Links.{owner_of}
 use Rattle.out_chain.specs.Chains.{beside_out}

@@ -1,11 +1,11 @@
 -- Lookups on the links of the exits.
 use Rattle.std.proofs.Common.{◌≡◌, Option, Some, subst}
-use Rattle.bgp_attr.specs.declared.route.Route.{Route}
+use Rattle.bgp_attr.specs.Routes.{Route}
 use Rattle.link_change.specs.Rows.{Rows, Candidates, CoversRows}
 use Rattle.fanout_queue.specs.Queues.{Queued}
 use Rattle.fanout_queue.specs.Readers.{read_rows, read_candidates}
 use Rattle.journal_text.specs.declared.link.Link.{Link}
-use Rattle.journal_text.specs.declared.value.Value.{Value}
+use Rattle.journal_text.specs.Lines.{Value}
 use Rattle.journal_text.specs.Links.{owner_of}
 use Rattle.out_chain.specs.Chains.{OutChained, out_links, out_candidates}
 use Rattle.exit_side.specs.Exits.{Exited, chain_at, links_by, exit_links, candidates_by, exit_candidates}

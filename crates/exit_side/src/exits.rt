@@ -8,11 +8,12 @@ ghost use Rattle.journal_text.specs.Journals.{Adds};
 ghost use Rattle.exit_side.specs.Exits.{no_exits, chain_at, IsExits};
 ghost use Rattle.exit_side.specs.Steps.{BeginsExit, EndsExit, EditsExit};
 
-use addr4::Memory;
-use bgp_attr::{Neighbour, Profile, Route, Speaker};
+use addr4::{Addr, Family, Memory, V4};
+use bgp_attr::{Neighbour, Profile, Route, SharedAttrs, Speaker};
 use fanout_queue::Queue;
 use journal_text::Journal;
 use out_chain::{OutChain, a_session_stands};
+use peer_out::Writes;
 use policy_rules::Rules;
 use std::alloc::Global;
 use std::collections::BTreeMap;
@@ -22,33 +23,36 @@ use std::marker::Model;
 /// messages are written, what each reader of the queue hasn't taken, and a finite map from the
 /// peers' numbers to their chains.
 #[derive(Drop)]
-pub struct Exits {
+pub struct Exits<F: Family = V4> {
     alloc: Global,
     profile: Profile,
-    pub(crate) queue: Queue<Route>,
-    pub(crate) chains: BTreeMap<u32, OutChain>,
+    pub(crate) queue: Queue<Route<SharedAttrs<F>>, F>,
+    pub(crate) chains: BTreeMap<u32, OutChain<F>>,
 }
 
-impl Model for Exits {
+impl<F: Family> Model for Exits<F> {
     ghost use Rattle.std.specs.Coded.{coded_ℕ};
     ghost use Rattle.std.specs.FinMap as map;
+    ghost use Rattle.addr4.specs.contracts.family.V4 as family_row;
     ghost use Rattle.bgp_attr.specs.contracts.route.Route as route_row;
     ghost use Rattle.bgp_attr.specs.contracts.speaker.Profile as profile_row;
     ghost use Rattle.fanout_queue.specs.Queues.{queued_code};
     ghost use Rattle.out_chain.specs.contracts.chain.OutChain as chain_row;
     ghost use Rattle.exit_side.specs.Exits.{Exited, exited_code};
+    ghost use Rattle.std.specs.Borrow.{u32 as word};
+    ghost use Rattle.bgp_attr.specs.contracts.attrs.Attrs as attrs_row;
 
     ghost Value = { Exited };
 
-    ghost coded = { exited_code profile_row.the_row.coded (queued_code route_row.the_row.coded) (map.code coded_ℕ chain_row.the_row.coded) };
+    ghost coded = { exited_code profile_row.the_row.coded (queued_code (route_row.the_row (attrs_row.the_row word)).coded) (map.code coded_ℕ (chain_row.the_row family_row.the_row ⟦<V4 as Family>⟧).coded) };
 
     ghost view = { λ e. record { profile = e.profile; queue = e.queue; chains = map.from_entries e.chains.entries } };
 }
 
-impl Exits {
+impl<F: Writes> Exits<F> {
     /// No peer is up, and the queue has no reader. Messages are written by this profile. Takes no
     /// memory.
-    pub fn new(alloc: Global, profile: Profile) -> Exits
+    pub fn new(alloc: Global, profile: Profile) -> Exits<F>
         ensures { result ≡ no_exits profile }
     {
         Exits {
@@ -60,7 +64,7 @@ impl Exits {
     }
 
     /// The chain of a peer; None where the peer isn't up.
-    pub fn chain(&self, number: u32) -> Option<&OutChain>
+    pub fn chain(&self, number: u32) -> Option<&OutChain<F>>
         ensures { option_copied result ≡ chain_at number self.now }
     {
         self.chains.get(&number)
@@ -70,11 +74,11 @@ impl Exits {
     /// without rows. Nothing is sent, until the walk to these rules comes by.
     pub fn begin(
         &mut self,
-        me: &Speaker,
+        me: &Speaker<Addr<F>>,
         peer: &Neighbour,
         session: u32,
-        rules: Rules,
-        journal: &mut Journal,
+        rules: Rules<F>,
+        journal: &mut Journal<F>,
     ) -> Result<(), Memory>
         requires sound { IsExits self.old }
         requires sender { IsSender self.old.profile me.now }
@@ -97,7 +101,7 @@ impl Exits {
     }
 
     /// The session of a peer is lost: its links end, whatever its reader hasn't taken.
-    pub fn end(&mut self, number: u32, journal: &mut Journal) -> Result<(), Memory>
+    pub fn end(&mut self, number: u32, journal: &mut Journal<F>) -> Result<(), Memory>
         requires sound { IsExits self.old }
         requires there { IsSome (chain_at number self.old) }
         ensures { OnOk result (Adds (EndsExit number self.old self.new) journal.old journal.new) }
@@ -111,7 +115,7 @@ impl Exits {
 
     /// The outgoing filter of a peer's session has new rules. They hold nowhere at first: turns
     /// bring them into force. Nothing changes where the peer isn't up. Takes no memory.
-    pub fn edit(&mut self, number: u32, rules: Rules)
+    pub fn edit(&mut self, number: u32, rules: Rules<F>)
         requires sound { IsExits self.old }
         ensures { EditsExit number rules self.old self.new }
     {

@@ -13,9 +13,10 @@ use crate::exits::Exits;
 use addr4::Memory;
 use journal_text::Journal;
 use out_chain::OutChain;
+use peer_out::Writes;
 use std::collections::BTreeMap;
 
-impl Exits {
+impl<F: Writes> Exits<F> {
     /// A peer asks for all rows again: a walk over what it was sent begins before all prefixes,
     /// whether or not one was on. Nothing changes where the peer isn't up, and no walk begins where
     /// nothing was sent. Takes no memory.
@@ -31,7 +32,7 @@ impl Exits {
     /// One turn of the task `ref.J` (`OutChain::resend`): the least row beyond the place of the walk
     /// is announced once more, and the place moves there. No row changes on any link. False exactly
     /// where no walk of the peer is on; then nothing changes.
-    pub fn resend(&mut self, number: u32, journal: &mut Journal) -> Result<bool, Memory>
+    pub fn resend(&mut self, number: u32, journal: &mut Journal<F>) -> Result<bool, Memory>
         requires chains { AreOutChains self.old }
         ensures { IfOk result (ComesAgain number self.old self.new journal.old journal.new) }
     {
@@ -62,7 +63,7 @@ impl Exits {
 }
 
 /// The first peer of whom the walk of a refresh is on.
-fn first_refreshing(chains: &BTreeMap<u32, OutChain>) -> Option<u32>
+fn first_refreshing<F: Writes>(chains: &BTreeMap<u32, OutChain<F>>) -> Option<u32>
     ensures first { result ≡ first_refreshing chains.now.entries }
     ensures ordered { IsOrdered nat_cmp chains.now }
 {

@@ -5,17 +5,17 @@ ghost use Rattle.exit_side.specs.Exits.{IsExits, AllStand};
 ghost use Rattle.exit_side.specs.Steps.{PutsExit, ComesOut};
 
 use crate::exits::Exits;
-use addr4::Memory;
-use bgp_attr::Route;
+use addr4::{Memory, Prefix};
+use bgp_attr::{Route, SharedAttrs};
 use journal_text::Journal;
 use link_change::{Change, Turn, Upstream};
 use out_chain::a_session_stands;
-use peer_out::SentRoute;
+use peer_out::{SentRoute, Writes};
 
-impl Exits {
+impl<F: Writes> Exits<F> {
     /// A change of `best` joins the queue, once for all readers. No link of the exits changes yet.
     /// For want of memory nothing changes.
-    pub fn put(&mut self, change: Change<Route>) -> Result<(), Memory>
+    pub fn put(&mut self, change: Change<Route<SharedAttrs<F>>, Prefix<F>>) -> Result<(), Memory>
         requires sound { IsExits self.old }
         ensures put { OnOk result (PutsExit change self.old self.new) }
         ensures memory { OnErr result (self.new ≡ self.old) }
@@ -35,12 +35,12 @@ impl Exits {
     /// One turn of the task `out.J` (`OutChain::unit`): where the reader has something to take, its
     /// first change goes down; else the walk of the filter goes to the next candidate of `best`, or
     /// ends. Nothing exactly where there is no work; Quiet where no change comes out on `adv.J.S`.
-    pub fn turn<U: Upstream<Row = Route>>(
+    pub fn turn<U: Upstream<F, Row = Route<SharedAttrs<F>>>>(
         &mut self,
         number: u32,
         best: &U,
-        journal: &mut Journal,
-    ) -> Result<Turn<SentRoute>, Memory>
+        journal: &mut Journal<F>,
+    ) -> Result<Turn<SentRoute<F>, Prefix<F>>, Memory>
         requires sound { IsExits self.old }
         requires stand { AllStand (U.rows best.now) self.old }
         ensures { IfOk result (ComesOut number (U.candidates best.now) (U.rows best.now) self.old self.new journal.old journal.new) }

@@ -5,7 +5,7 @@ ghost use Rattle.std.specs.Prelude.{◌≡◌, IfOk, OnErr, IfSome, IsSome, leng
 ghost use Rattle.std.specs.Option.{option_copied};
 ghost use Rattle.std.specs.FinMap as map;
 ghost use Rattle.addr4.specs.Places.{key_of};
-ghost use Rattle.bgp_attr.specs.declared.route.Route.{Route};
+ghost use Rattle.bgp_attr.specs.Routes.{Route as Routed};
 ghost use Rattle.link_change.specs.Rows.{Rows, IsNextCandidate, CoversRows};
 ghost use Rattle.fanout_queue.specs.Queues.{Takes, AllBelowRead};
 ghost use Rattle.fanout_queue.specs.Readers.{read_rows, read_candidates, row_before};
@@ -13,11 +13,12 @@ ghost use Rattle.exit_side.specs.Exits.{with_queue};
 
 use crate::exits::Exits;
 use addr4::{Memory, Place, Prefix};
-use bgp_attr::Route;
+use bgp_attr::{Route, SharedAttrs};
 use fanout_queue::Reader;
 use link_change::{Change, Upstream};
+use peer_out::Writes;
 
-impl Exits {
+impl<F: Writes> Exits<F> {
     /// A reader joins at the end of the queue, under the least number that none has. For want of memory nothing changes.
     pub fn join(&mut self) -> Result<Reader, Memory>
         ensures fresh { IfOk result (λ reader. map.get self.old.queue reader ≡ None) }
@@ -30,7 +31,10 @@ impl Exits {
 
     /// Takes the first change that the reader hasn't taken. None exactly where there is none. For
     /// want of memory nothing changes.
-    pub fn take(&mut self, reader: &mut Reader) -> Result<Option<Change<Route>>, Memory>
+    pub fn take(
+        &mut self,
+        reader: &mut Reader,
+    ) -> Result<Option<Change<Route<SharedAttrs<F>>, Prefix<F>>>, Memory>
         requires { IsSome (map.get self.old.queue reader.old) }
         ensures same { reader.new ≡ reader.old }
         ensures ok { IfOk result (Takes self.old.queue self.new.queue reader.old) }
@@ -49,12 +53,12 @@ impl Exits {
     }
 
     /// What the reader has at a prefix.
-    pub fn read<U: Upstream<Row = Route>>(
+    pub fn read<U: Upstream<F, Row = Route<SharedAttrs<F>>>>(
         &self,
         reader: &Reader,
         best: &U,
-        prefix: Prefix,
-    ) -> Result<Option<Route>, Memory>
+        prefix: Prefix<F>,
+    ) -> Result<Option<Route<SharedAttrs<F>>>, Memory>
         requires { IsSome (map.get self.now.queue reader.now) }
         ensures { IfOk result (λ row. row ≡ read_rows self.now.queue reader.now (U.rows best.now) prefix) }
     {
@@ -63,20 +67,24 @@ impl Exits {
 
     /// The first change at a prefix that the reader hasn't taken, if there is one. What the reader has there is the row before it,
     /// or else the best one.
-    pub fn first_unread(&self, reader: &Reader, prefix: Prefix) -> Option<&Change<Route>>
+    pub fn first_unread(
+        &self,
+        reader: &Reader,
+        prefix: Prefix<F>,
+    ) -> Option<&Change<Route<SharedAttrs<F>>, Prefix<F>>>
         requires { IsSome (map.get self.now.queue reader.now) }
-        ensures { (best : Rows Route) → read_rows self.now.queue reader.now best prefix ≡ row_before (option_copied result) (best prefix) }
+        ensures { (best : Rows Routed) → read_rows self.now.queue reader.now best prefix ≡ row_before (option_copied result) (best prefix) }
     {
         self.queue.first_unread(reader, prefix)
     }
 
     /// Where the reader's next row may stand, beyond a place.
-    pub fn next_read<U: Upstream<Row = Route>>(
+    pub fn next_read<U: Upstream<F, Row = Route<SharedAttrs<F>>>>(
         &self,
         reader: &Reader,
         best: &U,
-        after: Place,
-    ) -> Option<Prefix>
+        after: Place<Prefix<F>>,
+    ) -> Option<Prefix<F>>
         requires { IsSome (map.get self.now.queue reader.now) }
         ensures next { IsNextCandidate (read_candidates self.now.queue reader.now (U.candidates best.now)) (key_of after) result }
         ensures covers { CoversRows (read_candidates self.now.queue reader.now (U.candidates best.now)) (read_rows self.now.queue reader.now (U.rows best.now)) }

@@ -15,7 +15,7 @@ use Rattle.addr4.specs.Prefixes.{AddressPrefix, prefix_cmp, ComesBefore}
 use Rattle.addr4.specs.Places.{IsBeyond}
 use Rattle.addr4.proofs.PrefixOrder.{prefixes_total, exact_prefixes, one_prefix}
 use Rattle.addr4.proofs.RankLemmas.{before_is, further}
-use Rattle.bgp_attr.specs.declared.attrs.Attrs.{Attrs}
+use Rattle.bgp_attr.specs.Attributes.{Attrs}
 use Rattle.link_change.specs.Rows.{Candidates, IsNextCandidate, with_rows}
 use Rattle.link_change.proofs.MapLemmas.{all_entries}
 use Rattle.pass_core.specs.Passed.{is_beyond}

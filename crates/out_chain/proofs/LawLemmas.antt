@@ -3,8 +3,8 @@ use Rattle.std.proofs.Common.{◌≡◌, ℕ, Bool, true, false, ◌||◌, ◌&&
 use Rattle.std.specs.Option.{option_map, ForSome}
 use Rattle.std.specs.FinMap as map
 use Rattle.addr4.specs.Prefixes.{AddressPrefix}
-use Rattle.bgp_attr.specs.declared.attrs.Attrs.{Attrs}
-use Rattle.bgp_attr.specs.declared.route.Route.{Route}
+use Rattle.bgp_attr.specs.Attributes.{Attrs}
+use Rattle.bgp_attr.specs.Routes.{Route}
 use Rattle.bgp_attr.specs.declared.speaker.Profile.{Profile}
 use Rattle.link_change.specs.Rows.{Rows, with_row}
 use Rattle.link_change.specs.Changes.{IsSent}
@@ -12,8 +12,8 @@ use Rattle.link_change.specs.InOrder.{ChangesLead, rows_before, with_last, chang
 use Rattle.addr4.proofs.PrefixOrder.{by_prefix}
 use Rattle.link_change.proofs.InOrderLemmas.{put_keeps_before, put_leads, unchanged_stays}
 use Rattle.link_change.proofs.RowLemmas.{not_first as first_false, not_second as second_false}
-use Rattle.link_change.specs.declared.change.Change.{Change}
-use Rattle.policy_rules.specs.declared.rule.Rule.{Rule}
+use Rattle.link_change.specs.Changes.{Change}
+use Rattle.policy_rules.specs.Rules.{Rule}
 use Rattle.pass_core.specs.Passed.{Passed, Walked, present, holds_up}
 use Rattle.pass_core.specs.Left.{walk_turns}
 use Rattle.pass_core.specs.Turns.{row_lags}

@@ -3,17 +3,17 @@ use Rattle.std.proofs.Common.{◌≡◌, ℕ, ◌==◌, ◌&&◌, List, Option, 
 use Rattle.std.specs.Option.{option_map}
 use Rattle.std.specs.FinMap as tables
 use Rattle.addr4.specs.Prefixes.{AddressPrefix}
-use Rattle.bgp_attr.specs.declared.attrs.Attrs.{Attrs}
-use Rattle.bgp_attr.specs.declared.route.Route.{Route}
+use Rattle.bgp_attr.specs.Attributes.{Attrs}
+use Rattle.bgp_attr.specs.Routes.{Route}
 use Rattle.link_change.specs.Rows.{Rows}
 use Rattle.link_change.specs.InOrder.{rows_before}
-use Rattle.link_change.specs.declared.change.Change.{Change}
+use Rattle.link_change.specs.Changes.{Change}
 use Rattle.pass_core.specs.Turns.{passed}
 use Rattle.fanout_queue.specs.Queues.{Queued}
 use Rattle.fanout_queue.specs.Readers.{unread_or_none, read_rows}
 use Rattle.journal_text.specs.declared.link.Link.{Link}
 use Rattle.journal_text.specs.declared.link.Link.TheVariants.{Read, Outf, Adv}
-use Rattle.journal_text.specs.declared.value.Value.{Value}
+use Rattle.journal_text.specs.Lines.{Value}
 use Rattle.journal_text.specs.Walk.{HasRow}
 use Rattle.journal_text.specs.Values.{route_value, attrs_value, route_rows, attrs_rows}
 use Rattle.out_chain.specs.Chains.{OutChained, made_by, outf_rows, out_links}

@@ -7,12 +7,12 @@ use Rattle.std.specs.FinMap as tables
 use Rattle.std.specs.FinMap.{FinMap}
 use Rattle.addr4.specs.Prefixes.{AddressPrefix, prefix_cmp}
 use Rattle.addr4.specs.Places.{key_of}
-use Rattle.addr4.specs.declared.place.Place.{Place}
+use Rattle.addr4.specs.Places.{Place}
 use Rattle.addr4.proofs.PrefixOrder.{by_prefix}
-use Rattle.bgp_attr.specs.declared.attrs.Attrs.{Attrs}
-use Rattle.bgp_attr.specs.declared.route.Route.{Route}
+use Rattle.bgp_attr.specs.Attributes.{Attrs}
+use Rattle.bgp_attr.specs.Routes.{Route}
 use Rattle.link_change.specs.Rows.{Rows, IsNextCandidate, with_row, with_rows as rows_of}
-use Rattle.link_change.specs.declared.change.Change.{Change}
+use Rattle.link_change.specs.Changes.{Change}
 use Rattle.link_change.specs.InOrder.{rows_before}
 use Rattle.link_change.proofs.RowLemmas.{rows_inserted, rows_removed, empty_rows, not_first}
 use Rattle.pass_core.specs.Passed.{function_at}

@@ -6,21 +6,21 @@ use Rattle.std.specs.Cmp.{nat_cmp_total}
 use Rattle.std.specs.FinMap as tables
 use Rattle.std.specs.FinMap.{FinMap, get-insert, get-remove}
 use Rattle.addr4.specs.Prefixes.{AddressPrefix, prefix_cmp}
-use Rattle.bgp_attr.specs.declared.attrs.Attrs.{Attrs}
-use Rattle.bgp_attr.specs.declared.route.Route.{Route}
+use Rattle.bgp_attr.specs.Attributes.{Attrs}
+use Rattle.bgp_attr.specs.Routes.{Route}
 use Rattle.bgp_attr.specs.declared.speaker.Profile.{Profile}
-use Rattle.bgp_attr.specs.declared.speaker.Speaker.{Speaker}
+use Rattle.bgp_attr.specs.Speakers.{Speaker}
 use Rattle.bgp_attr.specs.declared.speaker.Neighbour.{Neighbour}
 use Rattle.link_change.specs.Rows.{Rows, Candidates, no_rows}
 use Rattle.link_change.specs.Changes.{IsSent}
 use Rattle.link_change.specs.InOrder.{ChangesLead, rows_before}
 use Rattle.link_change.specs.Turns.{IsTurned, taken_turn}
-use Rattle.link_change.specs.declared.change.Change.{Change}
-use Rattle.link_change.specs.declared.turn.Turn.{Turn}
+use Rattle.link_change.specs.Changes.{Change}
+use Rattle.link_change.specs.Turns.{Turn}
 use Rattle.link_change.specs.declared.turn.Turn.TheVariants.{Nothing, Quiet, Sent}
 use Rattle.link_change.proofs.InOrderLemmas.{take_sends, take_leads}
 use Rattle.link_change.proofs.RowLemmas.{empty_rows}
-use Rattle.policy_rules.specs.declared.rule.Rule.{Rule}
+use Rattle.policy_rules.specs.Rules.{Rule}
 use Rattle.pass_core.specs.Passed.{Passed}
 use Rattle.pass_core.specs.Turns.{Walks}
 use Rattle.pass_core.specs.Left.{turns_left}
@@ -29,17 +29,17 @@ use Rattle.pass_core.proofs.LeftLemmas.{walk_is_spent}
 use Rattle.filter_bank.specs.Outgoing.{first_walk}
 use Rattle.filter_bank.proofs.OutLemmas.{nothing_at_first}
 use Rattle.peer_out.specs.Forms.{Exit}
-use Rattle.peer_out.specs.Changes.{IsSender, message_octets}
+use Rattle.peer_out.specs.Changes.{IsSender, IsReadAs, saying, message_octets}
 use Rattle.cache_stage.specs.Caches.{kept_after}
 use Rattle.cache_stage.proofs.KeptLemmas.{keeps}
 use Rattle.fanout_queue.specs.Queues.{Queued, Takes}
 use Rattle.fanout_queue.specs.Readers.{unread_or_none, unread_by, read_rows, ReaderLeads, KeepsOtherReaders}
 use Rattle.fanout_queue.proofs.Cases.{same_number, other_number}
 use Rattle.fanout_queue.proofs.LeadLemmas.{take_keeps_readers}
-use Rattle.journal_text.specs.declared.line.Line.{Line}
+use Rattle.journal_text.specs.Lines.{Line}
 use Rattle.journal_text.specs.declared.line.Line.TheVariants as lines
-use Rattle.journal_text.specs.declared.value.Value.{Value}
-use Rattle.journal_text.specs.declared.entry.Entry.{Entry}
+use Rattle.journal_text.specs.Lines.{Value}
+use Rattle.journal_text.specs.Lines.{Entry}
 use Rattle.journal_text.specs.Journals.{Journaled, with_lines, with_entries}
 use Rattle.journal_text.specs.Walk.{Leads, no_links}
 use Rattle.journal_text.specs.Values.{attrs_value, route_value, route_rows, attrs_rows, sent_entries, valued_change}
@@ -103,6 +103,12 @@ said_lines c v is sent n octets j mid now number told both out = subst (λ (x : 
     out ∙ ap (λ (m : Journaled). with_lines m (lines.Out n octets ∷ [])) both ∙ with_lines_append j (as_lines (Entries n)) (lines.Out n octets ∷ [])
     ∙ ap (λ (m : ℕ). with_lines j (map (λ e. lines.Journal e) (Entries m) ++ lines.Out m octets ∷ [])) number
     ∙ ap (λ (o : List ℕ). with_lines j (map (λ e. lines.Journal e) (Entries v.peer.number) ++ lines.Out v.peer.number o ∷ [])) told)
+
+-- the peer reads these octets as the change
+pub said_told : (c v : OutChained) → v ≡ c → (sent : Change Attrs) (octets : List ℕ) → octets ≡ message_octets v.exit.profile.as4 sent
+    → IsReadAs v.exit.profile v.exit.external octets (saying sent.prefix sent.after) → IsTold c.exit sent
+said_told c v is sent octets written reads = subst (λ (x : OutChained). IsTold x.exit sent) is
+    (subst (λ (o : List ℕ). IsReadAs v.exit.profile v.exit.external o (saying sent.prefix sent.after)) written reads)
 
 -- ---- what the reader hasn't taken, before and after a turn
 module _ (queued left : Queued Route) (reader : ℕ) where
@@ -338,6 +344,10 @@ starts_leading exit peer session reader rules best others at =
 -- ---- new rules
 pub same_rows : (c : OutChained) (rules : List Rule) (read : Rows Route) → outf_rows (with_rules rules c) read ≡ outf_rows c read
 same_rows c rules read = an_edit_keeps_the_rows (made_by c) c.filter (Some rules) read
+
+pub edit_links : (c : OutChained) (rules : List Rule) (read : Rows Route) → out_links (with_rules rules c) read ≡ out_links c read
+edit_links c rules read =
+    ap (λ (rows : Rows Attrs). session_links c.peer.number c.session (route_rows read) (attrs_rows rows) (attrs_rows (tables.get c.sent))) (same_rows c rules read)
 
 pub edit_stands : (c : OutChained) (rules : List Rule) (queued : Queued Route) (best : Rows Route) → OutStands c queued best → OutStands (with_rules rules c) queued best
 edit_stands c rules queued best was = record {

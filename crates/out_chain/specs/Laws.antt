@@ -5,17 +5,17 @@ use Rattle.std.specs.FinMap as map
 use Rattle.std.specs.FinMap.{FinMap}
 use Rattle.addr4.specs.Prefixes.{AddressPrefix, prefix_cmp}
 use Rattle.addr4.specs.Places.{IsBeyond}
-use Rattle.bgp_attr.specs.declared.attrs.Attrs.{Attrs}
-use Rattle.bgp_attr.specs.declared.route.Route.{Route}
+use Rattle.bgp_attr.specs.Attributes.{Attrs}
+use Rattle.bgp_attr.specs.Routes.{Route}
 use Rattle.link_change.specs.Rows.{Rows, Candidates, CoversRows}
 use Rattle.link_change.specs.Changes.{IsSent}
-use Rattle.link_change.specs.declared.change.Change.{Change}
+use Rattle.link_change.specs.Changes.{Change}
 use Rattle.pass_core.specs.Passed.{present}
 use Rattle.pass_core.specs.Left.{CountsBeyond}
 use Rattle.peer_out.specs.Changes.{MayBeHeard}
 use Rattle.fanout_queue.specs.Queues.{Queued, AppendsToAll}
 use Rattle.fanout_queue.specs.Readers.{unread_by, read_rows, KeepsOtherReaders}
-use Rattle.journal_text.specs.declared.line.Line.{Line}
+use Rattle.journal_text.specs.Lines.{Line}
 use Rattle.out_chain.specs.Chains.{OutChained, made_by, out_links, IsOutChain, HasSent, OutStands, has_out_work, out_lags, out_turns_left, walk_on, refreshed, refresh_left, has_refresh_work}
 use Rattle.out_chain.specs.Steps.{Resends}
 

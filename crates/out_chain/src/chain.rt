@@ -4,12 +4,12 @@ ghost use Rattle.std.specs.Prelude.{◌≡◌, ◌≢◌, [], length, IfOk, OnOk
 ghost use Rattle.std.specs.Option.{ForSome};
 ghost use Rattle.std.specs.FinMap as map;
 ghost use Rattle.addr4.specs.Places.{key_of};
-ghost use Rattle.bgp_attr.specs.declared.route.Route.{Route};
+ghost use Rattle.bgp_attr.specs.Routes.{Route as Routed};
 ghost use Rattle.link_change.specs.Rows.{Rows, IsNextCandidate, CoversRows};
 ghost use Rattle.peer_out.specs.Changes.{IsSender, IsSentOf, MayBeHeard};
 ghost use Rattle.fanout_queue.specs.Queues.{Queued, AllBelowRead};
 ghost use Rattle.fanout_queue.specs.Readers.{unread_by, read_rows, read_candidates, KeepsOtherReaders};
-ghost use Rattle.journal_text.specs.declared.value.Value.{Value};
+ghost use Rattle.journal_text.specs.Lines.{Value as Valuation};
 ghost use Rattle.journal_text.specs.Walk.{HasRow, no_links};
 ghost use Rattle.journal_text.specs.Journals.{with_entries, with_lines};
 ghost use Rattle.journal_text.specs.Values.{route_value};
@@ -18,14 +18,14 @@ ghost use Rattle.out_chain.specs.Steps.{exit_to, new_out, start_entries, stop_en
 
 use crate::refresh::still_on;
 use crate::to_peer::ToPeer;
-use addr4::{Memory, Place, Prefix};
-use bgp_attr::{Neighbour, Octets, Profile, Route, Speaker};
+use addr4::{Addr, Family, Memory, Place, Prefix, Texts, V4};
+use bgp_attr::{Neighbour, Octets, Profile, Route, SharedAttrs, Speaker};
 use cache_stage::Cache;
 use fanout_queue::{Queue, Reader};
 use filter_bank::OutFilter;
 use journal_text::{Entry, Journal, Line, Link, Value, value_of};
 use link_change::{Change, Turn, Upstream};
-use peer_out::{PeerOut, SentRoute};
+use peer_out::{PeerOut, SentRoute, Writes};
 use policy_rules::Rules;
 use std::alloc::Global;
 use std::marker::Model;
@@ -33,50 +33,53 @@ use std::marker::Model;
 /// The outgoing chain of a session. Contracts see who sends to whom, the session, the reader's number in the queue, the rules of the
 /// outgoing filter, what was sent, and the place of the walk of a refresh.
 #[derive(Drop)]
-pub struct OutChain {
+pub struct OutChain<F: Family = V4> {
     pub(crate) peer: Neighbour,
     session: u32,
     reader: Reader,
-    filter: OutFilter,
-    pub(crate) sent: Cache<SentRoute>,
-    pub(crate) to_peer: ToPeer,
+    filter: OutFilter<F>,
+    pub(crate) sent: Cache<SentRoute<F>, F>,
+    pub(crate) to_peer: ToPeer<F>,
     /// The place of the walk of a refresh, if one is on.
-    pub(crate) refresh: Option<Place>,
+    pub(crate) refresh: Option<Place<Prefix<F>>>,
 }
 
-impl Model for OutChain {
+impl<F: Family> Model for OutChain<F> {
     ghost use Rattle.std.specs.Prelude.{option_map};
     ghost use Rattle.std.specs.Coded.{coded_list, coded_option};
     ghost use Rattle.addr4.specs.Places.{key_of};
     ghost use Rattle.out_chain.specs.Chains.{OutChained, out_chained_code, exit_code};
     ghost use Rattle.pass_core.specs.Passed.{passed_code};
+    ghost use Rattle.addr4.specs.contracts.family.V4 as family_row;
+    ghost use Rattle.addr4.specs.contracts.prefix.Prefix as prefix_row;
     ghost use Rattle.bgp_attr.specs.contracts.attrs.Attrs as attrs_row;
     ghost use Rattle.bgp_attr.specs.contracts.speaker.Profile as profile_row;
     ghost use Rattle.bgp_attr.specs.contracts.speaker.Speaker as speaker_row;
     ghost use Rattle.bgp_attr.specs.contracts.speaker.Neighbour as neighbour_row;
     ghost use Rattle.policy_rules.specs.contracts.rule.Rule as rule_row;
+    ghost use Rattle.std.specs.Borrow.{u32 as word};
 
     ghost Value = { OutChained };
 
-    ghost coded = { out_chained_code (exit_code profile_row.the_row.coded speaker_row.the_row.coded) neighbour_row.the_row.coded (passed_code (coded_option (coded_list rule_row.the_row.coded))) attrs_row.the_row.coded };
+    ghost coded = { out_chained_code (exit_code profile_row.the_row.coded (speaker_row.the_row word).coded) neighbour_row.the_row.coded (passed_code (coded_option (coded_list (rule_row.the_row (prefix_row.the_row family_row.the_row ⟦<V4 as Family>⟧)).coded))) (attrs_row.the_row word).coded };
 
     ghost view = { λ c. record { exit = c.to_peer.out; peer = c.peer; session = c.session; reader = c.reader; filter = c.filter; sent = c.sent; refresh = option_map key_of c.refresh } };
 }
 
-impl OutChain {
+impl<F: Writes> OutChain<F> {
     /// A session of a peer begins: a reader joins the queue, with nothing to take yet, `read.J.S` inherits `best`, and `outf.J.S` and
     /// `adv.J.S` begin without rows. Nothing is sent, until the walk to these rules comes by. What is sent later comes from `alloc`. For want
     /// of memory the queue stays as it is.
     pub fn start(
         alloc: Global,
         profile: Profile,
-        queue: &mut Queue<Route>,
-        me: &Speaker,
+        queue: &mut Queue<Route<SharedAttrs<F>>, F>,
+        me: &Speaker<Addr<F>>,
         peer: &Neighbour,
         session: u32,
-        rules: Rules,
-        journal: &mut Journal,
-    ) -> Result<OutChain, Memory>
+        rules: Rules<F>,
+        journal: &mut Journal<F>,
+    ) -> Result<OutChain<F>, Memory>
         requires sender { IsSender profile me.now }
         ensures fresh { IfOk result (λ chain. map.get queue.old chain.reader ≡ None) }
         ensures least { IfOk result (λ chain. AllBelowRead queue.old chain.reader) }
@@ -84,8 +87,8 @@ impl OutChain {
         ensures joined { IfOk result (λ chain. queue.new ≡ map.insert queue.old chain.reader []) }
         ensures others { IfOk result (λ chain. KeepsOtherReaders chain.reader queue.old queue.new) }
         ensures lines { OnOk result (journal.new ≡ with_entries journal.old (start_entries peer.now.number session)) }
-        ensures leads { IfOk result (λ chain. (best : Rows Route) → LeadsFromBest peer.now.number best no_links (start_entries peer.now.number session) (out_links chain best)) }
-        ensures stands { IfOk result (λ chain. (best : Rows Route) → RowsMayBeHeard profile best → OutStands chain queue.new best) }
+        ensures leads { IfOk result (λ chain. (best : Rows Routed) → LeadsFromBest peer.now.number best no_links (start_entries peer.now.number session) (out_links chain best)) }
+        ensures stands { IfOk result (λ chain. (best : Rows Routed) → RowsMayBeHeard profile best → OutStands chain queue.new best) }
         ensures memory { OnErr result (queue.new ≡ queue.old) }
     {
         let number = u32::from(peer.number);
@@ -120,10 +123,10 @@ impl OutChain {
     }
 
     /// New rules for the outgoing filter. They hold nowhere at first: turns bring them into force. Takes no memory.
-    pub fn edit(&mut self, rules: Rules)
+    pub fn edit(&mut self, rules: Rules<F>)
         ensures after { self.new ≡ with_rules rules self.old }
-        ensures links { (read : Rows Route) → out_links self.new read ≡ out_links self.old read }
-        ensures stands { (queued : Queued Route) (best : Rows Route) → OutStands self.old queued best → OutStands self.new queued best }
+        ensures links { (read : Rows Routed) → out_links self.new read ≡ out_links self.old read }
+        ensures stands { (queued : Queued Routed) (best : Rows Routed) → OutStands self.old queued best → OutStands self.new queued best }
     {
         self.filter.edit(rules);
     }
@@ -131,12 +134,12 @@ impl OutChain {
     /// One turn of the session's task. Where the reader has something to take, its first change goes down; else the walk of the
     /// filter goes to the next candidate of the best rows, or ends. Nothing exactly where neither is to be done; Quiet where no
     /// change comes out on `adv.J.S`.
-    pub fn unit<U: Upstream<Row = Route>>(
+    pub fn unit<U: Upstream<F, Row = Route<SharedAttrs<F>>>>(
         &mut self,
-        queue: &mut Queue<Route>,
+        queue: &mut Queue<Route<SharedAttrs<F>>, F>,
         best: &U,
-        journal: &mut Journal,
-    ) -> Result<Turn<SentRoute>, Memory>
+        journal: &mut Journal<F>,
+    ) -> Result<Turn<SentRoute<F>, Prefix<F>>, Memory>
         requires stands { OutStands self.old queue.old (U.rows best.now) }
         ensures taken { IfOk result (IsOutTurn self.old self.new queue.old queue.new (U.candidates best.now) (U.rows best.now) journal.old journal.new) }
         ensures others { KeepsOtherReaders self.old.reader queue.old queue.new }
@@ -154,9 +157,9 @@ impl OutChain {
     // A change that the reader took goes through the filter.
     fn pass_on(
         &mut self,
-        change: Change<Route>,
-        journal: &mut Journal,
-    ) -> Result<Option<Change<SentRoute>>, Memory>
+        change: Change<Route<SharedAttrs<F>>, Prefix<F>>,
+        journal: &mut Journal<F>,
+    ) -> Result<Option<Change<SentRoute<F>, Prefix<F>>>, Memory>
         requires chain { IsOutChain self.old }
         requires differs { change.after ≢ change.before }
         requires heard { ForSome change.after (λ r. MayBeHeard self.old.exit.profile r.attrs) }
@@ -172,11 +175,11 @@ impl OutChain {
     }
 
     // One turn of the filter's walk over the best rows, which are those that the reader has.
-    fn walk<U: Upstream<Row = Route>>(
+    fn walk<U: Upstream<F, Row = Route<SharedAttrs<F>>>>(
         &mut self,
         best: &U,
-        journal: &mut Journal,
-    ) -> Result<Turn<SentRoute>, Memory>
+        journal: &mut Journal<F>,
+    ) -> Result<Turn<SentRoute<F>, Prefix<F>>, Memory>
         requires chain { IsOutChain self.old }
         requires heard { RowsMayBeHeard self.old.exit.profile (U.rows best.now) }
         ensures { IfOk result (IsWalkedOut self.old self.new (U.candidates best.now) (U.rows best.now) journal.old journal.new) }
@@ -190,7 +193,11 @@ impl OutChain {
 
     // A change of what the filter makes is kept, and said to the peer. The walk of a refresh ends where no row lies beyond its place
     // any more.
-    fn send(&mut self, change: &Change<SentRoute>, journal: &mut Journal) -> Result<(), Memory>
+    fn send(
+        &mut self,
+        change: &Change<SentRoute<F>, Prefix<F>>,
+        journal: &mut Journal<F>,
+    ) -> Result<(), Memory>
         requires { ForSome change.now.after (IsSentOf self.old.exit.profile self.old.exit.external change.now.prefix) }
         ensures after { OnOk result (self.new ≡ with_sent self.old (Some change.now)) }
         ensures lines { OnOk result (journal.new ≡ with_lines journal.old (said_of self.old [] (Some change.now))) }
@@ -202,7 +209,11 @@ impl OutChain {
     }
 
     // A change goes out on `outf.J.S` and `adv.J.S`, and is said to the peer.
-    fn say(&self, sent: &Change<SentRoute>, journal: &mut Journal) -> Result<(), Memory>
+    fn say(
+        &self,
+        sent: &Change<SentRoute<F>, Prefix<F>>,
+        journal: &mut Journal<F>,
+    ) -> Result<(), Memory>
         requires { ForSome sent.now.after (IsSentOf self.now.exit.profile self.now.exit.external sent.now.prefix) }
         ensures lines { OnOk result (journal.new ≡ with_lines journal.old (said_of self.now [] (Some sent.now))) }
         ensures told { OnOk result (IsTold self.now.exit sent.now) }
@@ -217,12 +228,16 @@ impl OutChain {
     }
 
     /// The session ends: its links end, whatever its reader hasn't taken, and the reader leaves the queue, also for want of memory.
-    pub fn stop(self, queue: &mut Queue<Route>, journal: &mut Journal) -> Result<(), Memory>
+    pub fn stop(
+        self,
+        queue: &mut Queue<Route<SharedAttrs<F>>, F>,
+        journal: &mut Journal<F>,
+    ) -> Result<(), Memory>
         requires live { IsSome (map.get queue.old self.reader) }
         ensures left { queue.new ≡ map.remove queue.old self.reader }
         ensures others { KeepsOtherReaders self.reader queue.old queue.new }
         ensures lines { OnOk result (journal.new ≡ with_entries journal.old (stop_entries self.peer.number self.session)) }
-        ensures leads { (read : Rows Route) → LeadsOut self.peer.number (out_links self read) (stop_entries self.peer.number self.session) no_links }
+        ensures leads { (read : Rows Routed) → LeadsOut self.peer.number (out_links self read) (stop_entries self.peer.number self.session) no_links }
     {
         let number = u32::from(self.peer.number);
         let session = self.session;
@@ -249,7 +264,7 @@ impl OutChain {
 
     /// Whether the link is one of the chain's: `read.J.S`, `outf.J.S` or `adv.J.S`.
     pub fn live(&self, link: Link) -> bool
-        ensures { (read : Rows Route) → result ≡ is_some (out_links self.now read link) }
+        ensures { (read : Rows Routed) → result ≡ is_some (out_links self.now read link) }
     {
         match link {
             Link::Read(number, session)
@@ -260,13 +275,13 @@ impl OutChain {
     }
 
     /// The row at a prefix of a link of the chain; None where it has none. Memory only for want of memory.
-    pub fn asked<U: Upstream<Row = Route>>(
+    pub fn asked<U: Upstream<F, Row = Route<SharedAttrs<F>>>>(
         &self,
         link: Link,
-        queue: &Queue<Route>,
+        queue: &Queue<Route<SharedAttrs<F>>, F>,
         best: &U,
-        p: Prefix,
-    ) -> Result<Option<Value>, Memory>
+        p: Prefix<F>,
+    ) -> Result<Option<Value<SharedAttrs<F>, Addr<F>>>, Memory>
         requires live { IsSome (map.get queue.now self.now.reader) }
         requires own { IsSome (out_links self.now (read_rows queue.now self.now.reader (U.rows best.now)) link) }
         ensures { IfOk result (HasRow (out_links self.now (read_rows queue.now self.now.reader (U.rows best.now))) link p) }
@@ -291,17 +306,17 @@ impl OutChain {
 
     /// The least candidate of a link of the chain that lies beyond a place: of `read.J.S` and `outf.J.S` one of the best rows, or
     /// the prefix of a change that the reader hasn't taken, some of which may have no row; of `adv.J.S` its rows.
-    pub fn next_candidate<U: Upstream<Row = Route>>(
+    pub fn next_candidate<U: Upstream<F, Row = Route<SharedAttrs<F>>>>(
         &self,
         link: Link,
-        queue: &Queue<Route>,
+        queue: &Queue<Route<SharedAttrs<F>>, F>,
         best: &U,
-        after: Place,
-    ) -> Option<Prefix>
+        after: Place<Prefix<F>>,
+    ) -> Option<Prefix<F>>
         requires live { IsSome (map.get queue.now self.now.reader) }
         requires own { IsSome (out_links self.now (read_rows queue.now self.now.reader (U.rows best.now)) link) }
         ensures next { IsNextCandidate (out_candidates self.now (read_candidates queue.now self.now.reader (U.candidates best.now)) link) (key_of after) result }
-        ensures covers { (rows : Rows Value) → out_links self.now (read_rows queue.now self.now.reader (U.rows best.now)) link ≡ Some rows → CoversRows (out_candidates self.now (read_candidates queue.now self.now.reader (U.candidates best.now)) link) rows }
+        ensures covers { (rows : Rows Valuation) → out_links self.now (read_rows queue.now self.now.reader (U.rows best.now)) link ≡ Some rows → CoversRows (out_candidates self.now (read_candidates queue.now self.now.reader (U.candidates best.now)) link) rows }
     {
         match link {
             Link::Adv(_, _) => Upstream::next_candidate(&self.sent, &after),
@@ -310,7 +325,7 @@ impl OutChain {
     }
 
     /// How many changes the reader hasn't taken.
-    pub fn waiting(&self, queue: &Queue<Route>) -> u128
+    pub fn waiting(&self, queue: &Queue<Route<SharedAttrs<F>>, F>) -> u128
         requires { IsSome (map.get queue.now self.now.reader) }
         ensures { result ≡ length (unread_by queue.now self.now.reader) }
     {
@@ -321,7 +336,12 @@ impl OutChain {
     /// to the row that it has there, or other rules wait for the end of the walk. Takes no memory. Whether the best rows have one
     /// there is lent; where the reader has taken all, that is whether it has one
     /// ([`the_best_row_tells`](crate::the_best_row_tells)).
-    pub fn holds_up(&self, queue: &Queue<Route>, has_best: bool, p: Prefix) -> bool
+    pub fn holds_up(
+        &self,
+        queue: &Queue<Route<SharedAttrs<F>>, F>,
+        has_best: bool,
+        p: Prefix<F>,
+    ) -> bool
         requires { IsSome (map.get queue.now self.now.reader) }
         ensures { result ≡ out_lags self.now (unread_by queue.now self.now.reader) p has_best }
     {
@@ -329,7 +349,7 @@ impl OutChain {
     }
 
     /// Whether the session's task has work: the reader hasn't taken all, or the walk of the filter is on.
-    pub fn busy(&self, queue: &Queue<Route>) -> bool
+    pub fn busy(&self, queue: &Queue<Route<SharedAttrs<F>>, F>) -> bool
         requires { IsSome (map.get queue.now self.now.reader) }
         ensures { result ≡ has_out_work self.now (unread_by queue.now self.now.reader) }
     {
@@ -345,7 +365,7 @@ impl OutChain {
 }
 
 // The links of a session end.
-fn end_links(number: u32, session: u32, journal: &mut Journal) -> Result<(), Memory>
+fn end_links<F: Texts>(number: u32, session: u32, journal: &mut Journal<F>) -> Result<(), Memory>
     ensures { OnOk result (journal.new ≡ with_entries journal.old (stop_entries number session)) }
 {
     journal.push_entry(Entry::End(Link::Read(number, session)))?;
@@ -354,7 +374,9 @@ fn end_links(number: u32, session: u32, journal: &mut Journal) -> Result<(), Mem
 }
 
 // A row of `read.J.S`, as a value.
-fn route_value(row: Option<Route>) -> Option<Value>
+fn route_value<F: Family>(
+    row: Option<Route<SharedAttrs<F>>>,
+) -> Option<Value<SharedAttrs<F>, Addr<F>>>
     ensures { result ≡ option_map route_value row }
 {
     match row {

@@ -10,15 +10,18 @@ ghost use Rattle.journal_text.specs.Journals.{with_lines};
 ghost use Rattle.out_chain.specs.Steps.{message_lines, IsTold, announcing, IsResent};
 
 use crate::chain::OutChain;
-use addr4::{Memory, Place, Prefix};
+use addr4::{Family, Memory, Place, Prefix};
 use bgp_attr::Octets;
 use cache_stage::Cache;
 use journal_text::{Journal, Line};
 use link_change::Upstream;
-use peer_out::SentRoute;
+use peer_out::{SentRoute, Writes};
 
 // A walk at a place is on where a row lies beyond it.
-fn walk_on(sent: &Cache<SentRoute>, place: Place) -> Option<Place>
+fn walk_on<F: Family>(
+    sent: &Cache<SentRoute<F>, F>,
+    place: Place<Prefix<F>>,
+) -> Option<Place<Prefix<F>>>
     ensures { option_map key_of result ≡ walk_on sent.now (key_of place) }
 {
     match Upstream::next_candidate(sent, &place) {
@@ -28,7 +31,10 @@ fn walk_on(sent: &Cache<SentRoute>, place: Place) -> Option<Place>
 }
 
 // Whether the walk that was on goes on. It looks only where one was.
-pub(crate) fn still_on(sent: &Cache<SentRoute>, walk: Option<Place>) -> Option<Place>
+pub(crate) fn still_on<F: Family>(
+    sent: &Cache<SentRoute<F>, F>,
+    walk: Option<Place<Prefix<F>>>,
+) -> Option<Place<Prefix<F>>>
     ensures { option_map key_of result ≡ still_on sent.now (option_map key_of walk) }
 {
     match walk {
@@ -37,7 +43,7 @@ pub(crate) fn still_on(sent: &Cache<SentRoute>, walk: Option<Place>) -> Option<P
     }
 }
 
-impl OutChain {
+impl<F: Writes> OutChain<F> {
     /// The peer asks for all rows again: a walk over what was sent begins before all prefixes, whether or not one was on; none
     /// where nothing was sent. Takes no memory.
     pub fn refresh(&mut self)
@@ -55,7 +61,7 @@ impl OutChain {
 
     /// One turn of the walk of a refresh: the least row beyond its place is announced once more, and the place moves there. No row
     /// changes on any link. False exactly where no walk is on; then nothing changes.
-    pub fn resend(&mut self, journal: &mut Journal) -> Result<bool, Memory>
+    pub fn resend(&mut self, journal: &mut Journal<F>) -> Result<bool, Memory>
         requires chain { IsOutChain self.old }
         ensures { IfOk result (IsResent self.old self.new journal.old journal.new) }
     {
@@ -71,7 +77,7 @@ impl OutChain {
     }
 
     // The row at a prefix is announced by the octets that announced it.
-    fn say_again(&self, prefix: Prefix, journal: &mut Journal) -> Result<(), Memory>
+    fn say_again(&self, prefix: Prefix<F>, journal: &mut Journal<F>) -> Result<(), Memory>
         requires there { IsSome (map.get self.now.sent prefix) }
         requires sayable { ForSome (map.get self.now.sent prefix) (IsSentOf self.now.exit.profile self.now.exit.external prefix) }
         ensures lines { OnOk result (ForSome (map.get self.now.sent prefix) (λ attrs. journal.new ≡ with_lines journal.old (message_lines self.now (Some (announcing prefix attrs))))) }

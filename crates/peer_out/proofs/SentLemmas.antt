@@ -4,24 +4,25 @@ use Rattle.std.specs.Prelude.{All, MatchOption, IsSome}
 use Rattle.std.specs.Option.{ForSome}
 use Rattle.std.proofs.lemmas.Bool.Decides.{nat_tests}
 use Rattle.addr4.specs.Prefixes.{AddressPrefix}
-use Rattle.bgp_attr.specs.declared.attrs.Attrs.{Attrs}
+use Rattle.bgp_attr.specs.Attributes.{Attrs}
 use Rattle.bgp_attr.specs.declared.attrs.Origin.{Origin}
-use Rattle.bgp_attr.specs.declared.route.Route.{Route}
+use Rattle.bgp_attr.specs.Routes.{Route}
 use Rattle.bgp_attr.specs.declared.speaker.Profile.{Profile}
-use Rattle.bgp_attr.specs.declared.speaker.Speaker.{Speaker}
+use Rattle.bgp_attr.specs.Speakers.{Speaker}
 use Rattle.bgp_attr.specs.Reflections.{Reflected, not_reflected}
 use Rattle.bgp_wire.specs.declared.message.Update.{Update}
 use Rattle.bgp_wire.specs.declared.message.Message.TheVariants as messages
 use Rattle.bgp_wire.specs.Grammar.{Reads}
 use Rattle.bgp_wire.specs.Lengths.{announcement_length}
-use Rattle.bgp_wire.specs.Readable.{IsReadable, IsHost, IsAddressPrefix, AreOctets, announcement}
+use Rattle.addr4.specs.Families.{IsIpv4Prefix}
+use Rattle.bgp_wire.specs.Readable.{IsReadable, IsHost, AreOctets, announcement, withdrawal}
 use Rattle.bgp_wire.specs.Spelling.{FitsAttrs, update_octets}
 use Rattle.bgp_wire.proofs.MessageLaws.{one_message}
 use Rattle.bgp_wire.proofs.ReadableMessages.{read_is_readable}
 use Rattle.wire_laws.proofs.Prepended.{prepended_is_readable, readable_fits}
 use Rattle.wire_laws.proofs.SaidAgain.{internal_reads}
 use Rattle.wire_laws.proofs.SpelledMessages.{announcement_is_read, withdrawal_is_read}
-use Rattle.link_change.specs.declared.change.Change.{Change}
+use Rattle.link_change.specs.Changes.{Change}
 use Rattle.peer_out.specs.Forms.{reflected_from, sent_form}
 use Rattle.peer_out.specs.Changes.{saying, message_octets, IsReadAs, MayBeHeard, IsSender, IsSentOf, HasNumbers, CanBeRead}
 use Rattle.peer_out.specs.Laws.{bare_attrs}
@@ -75,12 +76,12 @@ sent_is_readable profile external p a is numbers =
     subst C by.0 (record { readable = form_readable profile external is.me is.row is.sender is.heard (subst HasNumbers (sym by.0) numbers); short = by.1 })
 
 -- the octets of a change, by the row after it
-change_by : (profile : Profile) (external : Bool) (p : AddressPrefix) (after : Option Attrs) → IsAddressPrefix p → ForSome after (CanBeRead profile external p) → (before : Option Attrs)
+change_by : (profile : Profile) (external : Bool) (p : AddressPrefix) (after : Option Attrs) → IsIpv4Prefix p → ForSome after (CanBeRead profile external p) → (before : Option Attrs)
     → Reads profile external (message_octets profile.as4 (record { prefix = p; before = before; after = after })) (messages.Update (saying p after))
 change_by profile external p None network can before = withdrawal_is_read profile external p network
 change_by profile external p (Some a) network can before = let c = can a refl in announcement_is_read profile external p a network c.readable c.short
 
-pub reads_change : (profile : Profile) (external : Bool) (change : Change Attrs) → IsAddressPrefix change.prefix → ForSome change.after (CanBeRead profile external change.prefix)
+pub reads_change : (profile : Profile) (external : Bool) (change : Change Attrs) → IsIpv4Prefix change.prefix → ForSome change.after (CanBeRead profile external change.prefix)
     → IsReadAs profile external (message_octets profile.as4 change) (saying change.prefix change.after)
 reads_change profile external change network can =
     let reads = change_by profile external change.prefix change.after network can change.before in
@@ -88,7 +89,7 @@ reads_change profile external change network can =
     record { reads = reads; only = λ m also. one_message profile external octets m (messages.Update (saying change.prefix change.after)) also reads }
 
 -- octets of a change, as the peer reads them
-pub said : (profile : Profile) (external : Bool) (change : Change Attrs) (octets : List ℕ) → IsAddressPrefix change.prefix → ForSome change.after (CanBeRead profile external change.prefix) → octets ≡ message_octets profile.as4 change
+pub said : (profile : Profile) (external : Bool) (change : Change Attrs) (octets : List ℕ) → IsIpv4Prefix change.prefix → ForSome change.after (CanBeRead profile external change.prefix) → octets ≡ message_octets profile.as4 change
     → IsReadAs profile external octets (saying change.prefix change.after)
 said profile external change octets network can is =
     subst (λ (bytes : List ℕ). IsReadAs profile external bytes (saying change.prefix change.after)) (sym is) (reads_change profile external change network can)
@@ -97,20 +98,17 @@ said profile external change octets network can is =
 pub no_longer : (profile : Profile) (external : Bool) (octets : List ℕ) (u : Update) → IsReadAs profile external octets u → length octets ≤ 4096
 no_longer profile external octets u is = is.reads.1.frame.top
 
--- attributes that are sent can be read, by their numbers, as the code knows them
-pub can_be_read : (profile : Profile) (external : Bool) (p : AddressPrefix) (a b : Attrs) → b ≡ a → HasNumbers b → IsSentOf profile external p a → CanBeRead profile external p b
-can_be_read profile external p a b is numbers sent = sent_is_readable profile external p b (subst (IsSentOf profile external p) (sym is) sent) numbers
-
 -- their octets are read as the announcement
-pub announcement_said : (profile : Profile) (external : Bool) (p : AddressPrefix) (a b : Attrs) (octets : List ℕ) → b ≡ a → IsAddressPrefix p → CanBeRead profile external p b → octets ≡ update_octets profile.as4 (announcement p b)
+pub announcement_said : (profile : Profile) (external : Bool) (p : AddressPrefix) (a : Attrs) (octets : List ℕ) → IsIpv4Prefix p → CanBeRead profile external p a → octets ≡ update_octets profile.as4 (announcement p a)
     → IsReadAs profile external octets (announcement p a)
-announcement_said profile external p a b octets is network can written =
-    subst (λ (x : Attrs). IsReadAs profile external octets (announcement p x)) is
-    (said profile external (record { prefix = p; before = None; after = Some b }) octets network (λ x e. let same : b ≡ x = cc in subst (CanBeRead profile external p) same can) written)
+announcement_said profile external p a octets network can written =
+    said profile external (record { prefix = p; before = None; after = Some a }) octets network (λ x e. let same : a ≡ x = cc in subst (CanBeRead profile external p) same can) written
 
--- without one there is nothing to be read
-pub none_can : (profile : Profile) (external : Bool) (p : AddressPrefix) (after : Option Attrs) → after ≡ None → ForSome after (CanBeRead profile external p)
-none_can profile external p after at b is = absurd (cc)
+-- or as the withdrawal
+pub withdrawal_said : (profile : Profile) (external : Bool) (p : AddressPrefix) (octets : List ℕ) → IsIpv4Prefix p → octets ≡ update_octets profile.as4 (withdrawal p)
+    → IsReadAs profile external octets (withdrawal p)
+withdrawal_said profile external p octets network written =
+    said profile external (record { prefix = p; before = None; after = None }) octets network (λ x e. absurd (cc)) written
 
 -- an announcement that fits is written
 pub is_there : {A : Type 0} (o : Option A) (n : ℕ) (P : A → Type 0) → MatchOption o (4096 < n) P → n ≤ 4096 → IsSome o

@@ -1,10 +1,10 @@
 -- The form in which a route is sent to a peer (RFC 4271, sections 5.1 and 9.1.3; RFC 4456, section 8).
 use Rattle.std.specs.Prelude.{◌+◌, nat_le, Bool, if◌then◌else◌, Option, Some, None}
 use Rattle.addr4.specs.Prefixes.{AddressPrefix}
-use Rattle.bgp_attr.specs.declared.attrs.Attrs.{Attrs}
-use Rattle.bgp_attr.specs.declared.route.Route.{Route}
+use Rattle.bgp_attr.specs.Attributes.{Attrs}
+use Rattle.bgp_attr.specs.Routes.{Route}
 use Rattle.bgp_attr.specs.declared.speaker.Profile.{Profile}
-use Rattle.bgp_attr.specs.declared.speaker.Speaker.{Speaker}
+use Rattle.bgp_attr.specs.Speakers.{Speaker}
 use Rattle.bgp_attr.specs.declared.speaker.Neighbour.{Neighbour}
 use Rattle.bgp_attr.specs.Reflections.{Reflected, not_reflected, reflected_by}
 use Rattle.bgp_attr.specs.Paths.{times_in_front}

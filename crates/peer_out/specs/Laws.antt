@@ -2,21 +2,22 @@
 use Rattle.std.specs.Prelude.{◌≡◌, ℕ, List, [], Bool, false, Some, None}
 use Rattle.std.specs.Option.{ForSome}
 use Rattle.addr4.specs.Prefixes.{AddressPrefix}
-use Rattle.bgp_attr.specs.declared.attrs.Attrs.{Attrs}
+use Rattle.bgp_attr.specs.Attributes.{Attrs}
 use Rattle.bgp_attr.specs.declared.attrs.Origin.{Origin}
 use Rattle.bgp_attr.specs.declared.speaker.Profile.{Profile}
 use Rattle.bgp_attr.specs.Reflections.{not_reflected}
 use Rattle.bgp_wire.specs.declared.message.Update.{Update}
 use Rattle.bgp_wire.specs.declared.message.Message.TheVariants as messages
 use Rattle.bgp_wire.specs.Grammar.{Reads}
-use Rattle.bgp_wire.specs.Readable.{AreOctets, IsHost, IsAddressPrefix}
-use Rattle.link_change.specs.declared.change.Change.{Change}
+use Rattle.addr4.specs.Families.{IsIpv4Prefix}
+use Rattle.bgp_wire.specs.Readable.{AreOctets, IsHost}
+use Rattle.link_change.specs.Changes.{Change}
 use Rattle.peer_out.specs.Changes.{saying, message_octets, IsReadAs, MayBeHeard, IsSentOf, HasNumbers, CanBeRead}
 
 -- The octets of a change are the UPDATE that announces or withdraws its prefix and nothing else, for the peer that reads them.
 abbrev pub PeerReadsChange : Type 0
 PeerReadsChange =
-    (profile : Profile) (external : Bool) (change : Change Attrs) → IsAddressPrefix change.prefix → ForSome change.after (CanBeRead profile external change.prefix)
+    (profile : Profile) (external : Bool) (change : Change Attrs) → IsIpv4Prefix change.prefix → ForSome change.after (CanBeRead profile external change.prefix)
     → IsReadAs profile external (message_octets profile.as4 change) (saying change.prefix change.after)
 
 -- What is sent of a route whose attributes may be heard, the peer reads as it is, and in one message.

@@ -1,11 +1,15 @@
 -- What is kept of a route that a peer is sent, and the attributes that the peer gets of it.
 use Rattle.std.specs.Prelude.{◌≡◌, ◌+◌, ℕ, List, Option, Some, None}
-use Rattle.bgp_attr.specs.declared.attrs.Attrs.{Attrs}
+use Rattle.bgp_attr.specs.Attributes.{Attrs}
 use Rattle.bgp_attr.specs.declared.path.Segment.{Segment}
 use Rattle.bgp_attr.specs.Paths.{times_in_front}
 use Rattle.bgp_attr.specs.Reflections.{Reflected, not_reflected, reflected_by}
-use Rattle.peer_out.specs.declared.sent_route.Terms.{Terms}
+use Rattle.peer_out.specs.declared.sent_route.Terms as declared
 use Rattle.peer_out.specs.declared.sent_route.Terms.TheVariants.{External, Internal, Inside}
+
+-- by an address's number, whatever the family
+abbrev pub Terms : Type 0
+Terms = declared.Terms ℕ
 
 abbrev pub path_by : Terms → List Segment → List Segment
 path_by (External outside) path = times_in_front (1 + outside.prepend) outside.asn path

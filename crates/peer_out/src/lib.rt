@@ -12,7 +12,8 @@
 //! [`message`] gives the octets of a change of what a peer was sent, an announcement or a withdrawal of one prefix;
 //! [`announcement`] those of an announcement of a route that is lent, the same. What is kept true: a neighbour that reads these
 //! octets reads that change and nothing else ([`the_peer_reads_the_change`]). It holds for every route whose attributes some
-//! neighbour may have said (`MayBeHeard`), which is kept of all live routes.
+//! neighbour may have said (`MayBeHeard`), which is kept of all live routes. The octets are asked of the family of the routes
+//! ([`Writes`]).
 //!
 //! The outgoing filter of a peer asks what it is sent of each route, the cache below keeps what was sent, and the end of a peer's
 //! outgoing chain writes the messages.
@@ -23,6 +24,7 @@ mod laws;
 mod octets;
 mod peer;
 mod sent_route;
+mod writes;
 
 pub use form::as_sent;
 pub use laws::{
@@ -32,3 +34,4 @@ pub use laws::{
 pub use octets::{announcement, message};
 pub use peer::PeerOut;
 pub use sent_route::SentRoute;
+pub use writes::Writes;

@@ -10,22 +10,23 @@ ghost use Rattle.peer_out.specs.Changes.{IsSentOf, IsReadAs, saying, message_oct
 use crate::form::sent_route;
 use crate::octets::{announcement, message};
 use crate::sent_route::SentRoute;
-use addr4::{Memory, Prefix};
-use bgp_attr::{Profile, Route, Speaker};
+use crate::writes::Writes;
+use addr4::{Addr, Family, Memory, Prefix, V4};
+use bgp_attr::{Profile, Route, SharedAttrs, Speaker};
 use link_change::Change;
 use std::alloc::Global;
 use std::marker::Model;
 
 /// What one peer is sent. Contracts see who sends, and whether the peer is external.
 #[derive(Drop)]
-pub struct PeerOut {
+pub struct PeerOut<F: Family = V4> {
     alloc: Global,
     profile: Profile,
-    me: Speaker,
+    me: Speaker<Addr<F>>,
     external: bool,
 }
 
-impl Model for PeerOut {
+impl<F: Family> Model for PeerOut<F> {
     ghost use Rattle.peer_out.specs.Forms.{Exit};
 
     ghost Value = { Exit };
@@ -33,9 +34,9 @@ impl Model for PeerOut {
     ghost view = { λ p. record { profile = p.profile; me = p.me; external = p.external } };
 }
 
-impl PeerOut {
+impl<F: Writes> PeerOut<F> {
     /// Takes no memory; what is sent later comes from `alloc`.
-    pub fn new(alloc: Global, profile: Profile, me: Speaker, external: bool) -> PeerOut
+    pub fn new(alloc: Global, profile: Profile, me: Speaker<Addr<F>>, external: bool) -> PeerOut<F>
         ensures { result ≡ record { profile = profile; me = me; external = external } }
     {
         PeerOut {
@@ -48,7 +49,11 @@ impl PeerOut {
 
     /// What the peer is sent of a route at a prefix ([`crate::as_sent`]). Takes no memory: the attributes are shared, and how many
     /// octets they have in the peer's form is counted from what the route lends.
-    pub fn sent(&self, prefix: Prefix, row: &Route) -> Result<Option<SentRoute>, Memory>
+    pub fn sent(
+        &self,
+        prefix: Prefix<F>,
+        row: &Route<SharedAttrs<F>>,
+    ) -> Result<Option<SentRoute<F>>, Memory>
         ensures { IfOk result (λ sent. sent ≡ as_sent self.now.profile self.now.me self.now.external prefix row.now) }
     {
         sent_route(
@@ -62,7 +67,7 @@ impl PeerOut {
     }
 
     /// The octets that say a change to the peer ([`crate::message`]).
-    pub fn message(&self, change: &Change<SentRoute>) -> Result<Vec<u8>, Memory>
+    pub fn message(&self, change: &Change<SentRoute<F>, Prefix<F>>) -> Result<Vec<u8>, Memory>
         requires { ForSome change.now.after (IsSentOf self.now.profile self.now.external change.now.prefix) }
         ensures octets { IfOk result (λ octets. octets.items ≡ message_octets self.now.profile.as4 change.now) }
         ensures short { IfOk result (λ octets. length octets.items ≤ 4096) }
@@ -72,7 +77,7 @@ impl PeerOut {
     }
 
     /// The octets that announce a prefix to the peer with a route that is lent ([`crate::announcement`]).
-    pub fn announcement(&self, prefix: Prefix, sent: &SentRoute) -> Result<Vec<u8>, Memory>
+    pub fn announcement(&self, prefix: Prefix<F>, sent: &SentRoute<F>) -> Result<Vec<u8>, Memory>
         requires { IsSentOf self.now.profile self.now.external prefix sent.now }
         ensures octets { IfOk result (λ octets. octets.items ≡ update_octets self.now.profile.as4 (announcement prefix sent.now)) }
         ensures short { IfOk result (λ octets. length octets.items ≤ 4096) }

@@ -6,7 +6,7 @@ ghost use Rattle.peer_out.specs.Forms.{sent_form};
 ghost use Rattle.journal_text.specs.Values.{attrs_value};
 ghost use Rattle.peer_out.specs.Terms.{path_by, hop_by, pref_by, reflection_by, form_by, HaveOneWay, HaveOneRest};
 
-use addr4::{Addr, Memory, Row};
+use addr4::{Addr, Family, Memory, RouterId, Row, V4};
 use bgp_attr::{
     AsPath, Attrs, LentAttrs, LentPath, LentReflection, Profile, Reflection, Route, SharedAttrs,
     Speaker,
@@ -17,16 +17,16 @@ use std::marker::Model;
 
 /// What an external peer gets of this speaker.
 #[derive(Clone, Copy)]
-pub(crate) struct Outside {
+pub(crate) struct Outside<A = Addr> {
     /// The local AS.
     asn: u32,
     /// The local address.
-    addr: Addr,
+    addr: A,
     /// How often more than once the local AS is put in front of the path, 0 to 16.
     prepend: u8,
 }
 
-impl Outside {
+impl<F: Family> Outside<Addr<F>> {
     /// How often the local AS is put in front of the path.
     fn times(self) -> u16
         ensures { result ≡ 1 + self.prepend }
@@ -41,23 +41,28 @@ pub(crate) struct Passed {
     /// The degree of preference.
     pref: u32,
     /// The identifier of the peer that sent the route.
-    sender: Addr,
+    sender: RouterId,
     /// The reflector's cluster, which is its identifier.
-    cluster: Addr,
+    cluster: RouterId,
 }
 
 /// What a form takes from elsewhere than the route's attributes, by the kinds of the peers.
 #[derive(Clone, Copy)]
-pub(crate) enum Terms {
-    External(Outside),
+pub(crate) enum Terms<A = Addr> {
+    External(Outside<A>),
     /// With the degree of preference.
     Internal(u32),
     /// From an internal peer to another one.
     Inside(Passed),
 }
 
-impl Terms {
-    fn new(profile: Profile, me: &Speaker, external: bool, row: &Route) -> Terms
+impl<F: Family> Terms<Addr<F>> {
+    fn new(
+        profile: Profile,
+        me: &Speaker<Addr<F>>,
+        external: bool,
+        row: &Route<SharedAttrs<F>>,
+    ) -> Terms<Addr<F>>
         ensures { form_by result row.now.med row.now.attrs ≡ sent_form profile me.now external row.now }
     {
         if external {
@@ -71,7 +76,11 @@ impl Terms {
         }
     }
 
-    fn inside(profile: Profile, me: &Speaker, row: &Route) -> Terms
+    fn inside(
+        profile: Profile,
+        me: &Speaker<Addr<F>>,
+        row: &Route<SharedAttrs<F>>,
+    ) -> Terms<Addr<F>>
         ensures { form_by result row.now.med row.now.attrs ≡ sent_form profile me.now false row.now }
     {
         match row.from {
@@ -106,7 +115,7 @@ impl Terms {
         }
     }
 
-    fn next_hop(self, next_hop: Addr) -> Addr
+    fn next_hop(self, next_hop: Addr<F>) -> Addr<F>
         ensures { result ≡ hop_by self next_hop }
     {
         match self {
@@ -148,20 +157,20 @@ impl Terms {
 /// these attributes, so two are equal where the peer gets the same of both. A table keeps one for each prefix that was sent: so it
 /// has 32 octets and owns nothing but its share of the attributes.
 #[derive(Drop)]
-pub struct SentRoute {
+pub struct SentRoute<F: Family = V4> {
     /// Where its form is made, if it is.
     alloc: Global,
     /// As they were received, shared with the table in.
-    attrs: SharedAttrs,
+    attrs: SharedAttrs<F>,
     /// MULTI_EXIT_DISC, which rules may have set.
     med: Option<u32>,
-    terms: Terms,
+    terms: Terms<Addr<F>>,
 }
 
 const _: () = prove!(size_of::<SentRoute>() <= 32);
 
-impl Model for SentRoute {
-    ghost use Rattle.bgp_attr.specs.declared.attrs.Attrs.{Attrs};
+impl<F: Family> Model for SentRoute<F> {
+    ghost use Rattle.bgp_attr.specs.Attributes.{Attrs};
 
     ghost Value = { Attrs };
 
@@ -170,16 +179,16 @@ impl Model for SentRoute {
     ghost view = { λ s. form_by s.terms s.med s.attrs };
 }
 
-impl SentRoute {
+impl<F: Family> SentRoute<F> {
     /// A route as it is sent to a peer, external or internal to this speaker. Takes no memory: the attributes are shared. A form
     /// that is made of it comes from `alloc`.
     pub fn new(
         alloc: Global,
         profile: Profile,
-        me: &Speaker,
+        me: &Speaker<Addr<F>>,
         external: bool,
-        row: &Route,
-    ) -> Result<SentRoute, Memory>
+        row: &Route<SharedAttrs<F>>,
+    ) -> Result<SentRoute<F>, Memory>
         ensures { IfOk result (λ sent. sent ≡ sent_form profile me.now external row.now) }
     {
         let attrs = row.attrs.copy()?;
@@ -193,7 +202,7 @@ impl SentRoute {
     }
 
     /// The attributes that the peer gets, lent. Takes no memory.
-    pub fn lent(&self) -> LentAttrs<'_>
+    pub fn lent(&self) -> LentAttrs<'_, F>
         ensures { result ≡ self.now }
     {
         let attrs = self.attrs.attrs();
@@ -211,13 +220,13 @@ impl SentRoute {
     }
 
     /// The attributes that the peer gets, made: for what is printed of the route. Memory only for want of memory.
-    pub fn form(&self) -> Result<SharedAttrs, Memory>
+    pub fn form(&self) -> Result<SharedAttrs<F>, Memory>
         ensures { IfOk result (λ form. form ≡ self.now) }
     {
         SharedAttrs::new(self.alloc, self.made()?)
     }
 
-    fn made(&self) -> Result<Attrs, Memory>
+    fn made(&self) -> Result<Attrs<Addr<F>>, Memory>
         ensures { IfOk result (λ form. form ≡ self.now) }
     {
         let attrs = self.attrs.attrs();
@@ -238,9 +247,9 @@ impl SentRoute {
     }
 }
 
-impl Row for SentRoute {
+impl<F: Family> Row for SentRoute<F> {
     /// Takes no memory: the attributes are shared.
-    fn copy(&self) -> Result<SentRoute, Memory> {
+    fn copy(&self) -> Result<SentRoute<F>, Memory> {
         let attrs = self.attrs.copy()?;
         Ok(SentRoute {
             alloc: self.alloc,
@@ -251,7 +260,7 @@ impl Row for SentRoute {
     }
 
     /// Whether the peer gets the same of both, though they may differ in what it doesn't get. Takes no memory.
-    fn same(&self, other: &SentRoute) -> bool {
+    fn same(&self, other: &SentRoute<F>) -> bool {
         let attrs = self.attrs.attrs();
         let others = other.attrs.attrs();
         self.med == other.med
@@ -260,7 +269,7 @@ impl Row for SentRoute {
     }
 }
 
-impl Valued for SentRoute {
+impl<F: Family> Valued<F> for SentRoute<F> {
     ghost use Rattle.std.proofs.Common.{rules};
 
     ghost value = { attrs_value };
@@ -268,7 +277,7 @@ impl Valued for SentRoute {
     ghost told = { λ a b same. Prim.search rules };
 
     /// The form is made.
-    fn to_value(&self) -> Result<Value, Memory> {
+    fn to_value(&self) -> Result<Value<SharedAttrs<F>, Addr<F>>, Memory> {
         Ok(Value::Attrs(self.form()?))
     }
 }
@@ -276,7 +285,12 @@ impl Valued for SentRoute {
 /// Whether two forms have the same path, next hop and LOCAL_PREF, and the same of reflectors. An internal peer gets a LOCAL_PREF, an
 /// external one none; an external one gets the local AS in front of the path at least once; and a route that is passed on inside the
 /// AS has a cluster.
-fn has_one_way(terms: Terms, attrs: &Attrs, other: Terms, others: &Attrs) -> bool
+fn has_one_way<F: Family>(
+    terms: Terms<Addr<F>>,
+    attrs: &Attrs<Addr<F>>,
+    other: Terms<Addr<F>>,
+    others: &Attrs<Addr<F>>,
+) -> bool
     ensures { IsTrue result ↔ HaveOneWay terms attrs.now other others.now }
 {
     match (terms, other) {
@@ -313,7 +327,7 @@ fn has_one_reflection(one: Passed, added: &Reflection, two: Passed, others: &Ref
 }
 
 /// Whether two routes have the same of what every peer gets as it is.
-fn has_one_rest(attrs: &Attrs, others: &Attrs) -> bool
+fn has_one_rest<F: Family>(attrs: &Attrs<Addr<F>>, others: &Attrs<Addr<F>>) -> bool
     ensures { IsTrue result ↔ HaveOneRest attrs.now others.now }
 {
     attrs.origin == others.origin

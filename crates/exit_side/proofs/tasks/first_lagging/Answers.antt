@@ -4,7 +4,7 @@ use Rattle.exit_side.proofs.TaskLemmas.{AllLive, all_live}
 use Rattle.exit_side.proofs.tasks.first_lagging.Goals as goal
 
 pub loop-number-init : goal.loop-number-init
-loop-number-init c =
+loop-number-init g c =
     let gives = c.into_iter-number-iterator.ensures.into_iter_gives in
     record {
       first = ap (first_lagging c.args.queue.now c.args.has_best c.args.p) gives.0;

@@ -5,7 +5,7 @@ use Rattle.exit_side.proofs.StepLemmas.{begins_for}
 use Rattle.exit_side.proofs.exits.Exits.begin.Goals as goal
 
 pub returns : goal.returns
-returns c =
+returns g c =
     let v : Exited = seen c.self.inside.profile c.self.inside.queue c.self.inside.chains in
     let chain = c.in_ok-chain.chain in
     begins_for c.a_session_stands.ensures.others v c.args.me.now c.args.peer.now c.args.session c.args.rules chain c.start.new.queue (subst IsExits (sym c.self.view_is) c.requires.sound)

@@ -8,14 +8,14 @@ use Rattle.exit_side.proofs.StepLemmas.{edits_none, edits_for}
 use Rattle.exit_side.proofs.exits.Exits.edit.Goals as goal
 
 pub returns-in_default : goal.returns-in_default
-returns-in_default c =
+returns-in_default g c =
     let same = ap (λ x. record { profile = c.self.inside.profile; queue = c.self.inside.queue; chains = from_entries {R = nat_cmp} x.entries }) c.get_mut.follows.holds-at-none ∙ c.self.view_is in
     subst (EditsExit c.args.number c.args.rules c.args.self.now) (sym same)
     (edits_none c.args.self.now c.args.number c.args.rules
     (sym (c.in_default.ensures.value ∙ held c.self.inside.profile c.self.inside.queue c.self.inside.chains c.args.self.now c.self.view_is c.args.number)) c.requires.sound)
 
 pub returns : goal.returns
-returns c =
+returns g c =
     let v : Exited = seen c.self.inside.profile c.self.inside.queue c.self.inside.chains in
     edits_for c.a_session_stands.ensures.others v c.args.number c.in-Some.chain.now c.edit.new.self
     (sym (c.in-Some.ensures.value ∙ held c.self.inside.profile c.self.inside.queue c.self.inside.chains v refl c.args.number)) (subst IsExits (sym c.self.view_is) c.requires.sound)

@@ -7,16 +7,16 @@ use Rattle.exit_side.proofs.StepLemmas.{ends_for}
 use Rattle.exit_side.proofs.exits.Exits.end.Goals as goal
 
 pub unreachable-requires : goal.unreachable-requires
-unreachable-requires c = held_none c.self.inside.profile c.self.inside.queue c.self.inside.chains c.args.self.now c.self.view_is c.args.number (sym c.in_default.is ∙ c.remove.ensures.value) c.requires.there
+unreachable-requires g c = held_none c.self.inside.profile c.self.inside.queue c.self.inside.chains c.args.self.now c.self.view_is c.args.number (sym c.in_default.is ∙ c.remove.ensures.value) c.requires.there
 
 pub stop-requires : goal.stop-requires
-stop-requires c = record {
+stop-requires g c = record {
   live = live_in c.args.self.now c.self.inside.queue c.args.number c.in-Some.chain (ap (λ (e : Exited). e.queue) c.self.view_is) c.requires.sound
       (sym (c.in-Some.ensures.value ∙ held c.self.inside.profile c.self.inside.queue c.self.inside.chains c.args.self.now c.self.view_is c.args.number));
 }
 
 pub returns : goal.returns
-returns c =
+returns g c =
     let v : Exited = seen c.self.inside.profile c.self.inside.queue c.self.inside.chains in
     on_ok_weaker c.stop.result
     (λ lines.

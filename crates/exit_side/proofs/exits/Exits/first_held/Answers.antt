@@ -5,10 +5,10 @@ use Rattle.exit_side.proofs.TaskLemmas.{first_that_lags, have_readers, entries_o
 use Rattle.exit_side.proofs.exits.Exits.first_held.Goals as goal
 
 pub first_lagging-requires : goal.first_lagging-requires
-first_lagging-requires c = record { live = have_readers c.args.self.now c.self.inside.profile c.self.inside.queue c.self.inside.chains c.self.view_is c.requires.sound }
+first_lagging-requires g c = record { live = have_readers c.args.self.now c.self.inside.profile c.self.inside.queue c.self.inside.chains c.self.view_is c.requires.sound }
 
 pub returns : goal.returns
-returns c best is =
+returns g c best is =
     let m = c.self.inside.chains in
     c.first_lagging.ensures.first ∙ ap (λ (e : Exited). first_lagging e.queue c.args.has_best c.args.p m.entries) c.self.view_is
     ∙ first_that_lags c.args.self.now c.the_best_row_tells.ensures best c.args.p c.args.has_best is m.entries

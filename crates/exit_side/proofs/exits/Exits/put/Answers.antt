@@ -6,7 +6,7 @@ use Rattle.exit_side.proofs.PutLemmas.{puts_for}
 use Rattle.exit_side.proofs.exits.Exits.put.Goals as goal
 
 pub returns-clause-put : goal.returns-clause-put
-returns-clause-put c =
+returns-clause-put g c =
     let v : Exited = seen c.self.inside.profile c.self.inside.queue c.self.inside.chains in
     on_ok_weaker c.put.result
     (λ appends.

@@ -7,12 +7,12 @@ use Rattle.exit_side.proofs.RefreshLemmas.{refreshed_none, refreshed_some}
 use Rattle.exit_side.proofs.exits.Exits.refresh.Goals as goal
 
 pub returns-in_default : goal.returns-in_default
-returns-in_default c =
+returns-in_default g c =
     let same = ap (λ x. record { profile = c.self.inside.profile; queue = c.self.inside.queue; chains = from_entries {R = nat_cmp} x.entries }) c.get_mut.follows.holds-at-none ∙ c.self.view_is in
     same ∙ refreshed_none c.args.self.now c.args.number (sym (c.in_default.ensures.value ∙ held c.self.inside.profile c.self.inside.queue c.self.inside.chains c.args.self.now c.self.view_is c.args.number))
 
 pub returns : goal.returns
-returns c =
+returns g c =
     let v : Exited = seen c.self.inside.profile c.self.inside.queue c.self.inside.chains in
     refreshed_some c.args.self.now v _ c.self.view_is c.args.number c.in-Some.chain.now c.refresh.new.self
     (sym (c.in-Some.ensures.value ∙ held c.self.inside.profile c.self.inside.queue c.self.inside.chains v refl c.args.number)) c.refresh.ensures

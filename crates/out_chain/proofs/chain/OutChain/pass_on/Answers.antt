@@ -3,11 +3,11 @@ use Rattle.out_chain.proofs.chain.OutChain.pass_on.Goals as goal
 use Rattle.out_chain.proofs.chain.OutChain.pass_on.Goals.{in-Some+in_ok-send, in_default}
 
 pub send-requires : goal.send-requires
-send-requires c =
+send-requires g c =
     passed_may_be_said c.args.self.now _ c.self.view_is c.args.change c.in_ok-sent.sent c.in_ok-sent.ensures c.in-Some.sent c.in-Some.is c.requires.chain c.requires.differs c.requires.heard
 
 pub returns : goal.returns
-returns c =
+returns g c =
     let pushed = rw c.from.ensures at c.in_ok-push_change.ensures in
     elim c.match-sent.branch [
       | in-Some+in_ok-send w ↦

@@ -6,11 +6,11 @@ use Rattle.out_chain.specs.Steps.{IsTold}
 use Rattle.out_chain.proofs.chain.OutChain.send.Goals as goal
 
 pub say-requires : goal.say-requires
-say-requires c =
+say-requires g c =
     let P : OutChained → Type 0 = λ v. ForSome c.args.change.now.after (IsSentOf v.exit.profile v.exit.external c.args.change.now.prefix) in
     subst P (sym c.self.view_is) c.requires
 
 pub returns-clause-told : goal.returns-clause-told
-returns-clause-told c =
+returns-clause-told g c =
     let P : OutChained → Type 0 = λ v. OnOk c.say.result (IsTold v.exit c.args.change.now) in
     subst P c.self.view_is c.say.ensures.told

@@ -5,6 +5,6 @@ use Rattle.peer_out.specs.Changes.{IsSentOf}
 use Rattle.peer_out.proofs.peer.PeerOut.message.Goals as goal
 
 pub message-requires : goal.message-requires
-message-requires c =
+message-requires g c =
     let P : Exit → Type 0 = λ exit. ForSome c.args.change.now.after (IsSentOf exit.profile exit.external c.args.change.now.prefix) in
     subst P (sym c.self.view_is) c.requires

@@ -1,6 +1,6 @@
 use Rattle.bgp_wire.specs.Lengths.{announcement_length}
 use Rattle.peer_out.proofs.SentLemmas.{is_there}
-use Rattle.peer_out.proofs.octets.announce.Goals as goal
+use Rattle.peer_out.proofs.writes.announce.Goals as goal
 
 pub unwrap-requires : goal.unwrap-requires
 unfolding announcement_length
