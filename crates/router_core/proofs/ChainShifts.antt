@@ -8,7 +8,7 @@ use Rattle.decision.specs.Branches.{AllRows}
 use Rattle.decision.proofs.LineupLemmas.{by_number}
 use Rattle.decision.specs.Contests.{Knows, Counts, CoversAt}
 use Rattle.in_chain.specs.Steps.{FindsNextLost, lost, refiltered}
-use Rattle.policy_rules.specs.declared.rule.Rule.{Rule}
+use Rattle.policy_rules.specs.Rules.{Rule}
 use Rattle.in_chain.specs.Laws.{TakesCandidateAt}
 use Rattle.in_chain.proofs.CandidateLemmas.{candidates_cover_rows, feeds_keep_others, welds_keep_candidates, losses_keep_candidates, edits_keep_candidates, turns_take_the_next}
 use Rattle.peer_side.specs.Peers.{peer_of}

@@ -90,6 +90,25 @@ pub forgotten : (old new : Contested) (lost : Option AddressPrefix) (p : Address
     → (k : ℕ) (before now : ℕ → Candidates) → ShiftsAt lost k before now → Counts old before → Counts new now
 forgotten old new lost p is leaves k before now s counts = leaves k before now (subst (λ (o : Option AddressPrefix). ShiftsAt o k before now) is s) counts
 
+-- ---- where none came, and where none went
+module _ (contests : Contested) (p : AddressPrefix) (had has : Bool) (k : ℕ) (before now : ℕ → Candidates) (s : Shifts k p had has before now) where
+  pub one_was : had ≡ true → Counts contests before → Counts contests (shifted has before now)
+  one_was one counts = by_has has refl
+    where
+      by_has : (t : Bool) → has ≡ t → Counts contests (shifted t before now)
+      by_has true is = subst (Counts contests) (sym (none_shifted k p before now true (as_flags k p before now had has true true one is s))) counts
+      by_has false is = counts
+
+  pub none_is : has ≡ false → Counts contests before → Counts contests (shifted has before now)
+  none_is none counts = subst (λ t. Counts contests (shifted t before now)) (sym none) counts
+
+  pub one_is : has ≡ true → Counts contests (shifted has before now) → Counts contests now
+  one_is one counts = subst (λ t. Counts contests (shifted t before now)) one counts
+
+  pub none_was : had ≡ false → has ≡ false → Counts contests (shifted has before now) → Counts contests now
+  none_was was none counts =
+      subst (Counts contests) (sym (none_shifted k p before now false (as_flags k p before now had has false false was none s))) (subst (λ t. Counts contests (shifted t before now)) none counts)
+
 -- ---- where a change was sent, a candidate is counted
 -- a row that is sent stood before, or stands now
 module _ {R : Type 0} (old new : Rows R) (p : AddressPrefix) (change : Change R) (sent : IsSent old new p (Some change)) where

@@ -2,7 +2,7 @@
 use Rattle.router_moments.proofs.Common.{sym, ◌∙◌, ap, ◌≡◌, ◌≢◌, ℕ, refl, true, false, Bool, cond, zero, suc, AddressPrefix, Route, Speaker, Rows, Resolvers, resolver_at, rows_by, Resolving, Metric, Passed, Protos, Chained, filt_rows, Chains, filt_by, Interior, own_rows, lent_rows, function_at}
 use Rattle.std.proofs.Common.{Option, Some, None, is_some}
 use Rattle.std.specs.Prelude.{option_map, if◌then◌else◌}
-use Rattle.bgp_attr.specs.declared.attrs.Attrs.{Attrs}
+use Rattle.bgp_attr.specs.Attributes.{Attrs}
 use Rattle.filter_bank.specs.Filtered.{filtered, route_hop}
 use Rattle.filter_bank.proofs.LawLemmas.{filtered_keeps_attrs}
 use Rattle.in_chain.specs.Incomings.{in_rows}

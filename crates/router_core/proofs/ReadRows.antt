@@ -10,16 +10,10 @@ use Rattle.addr4.specs.Places.{IsBeyond}
 use Rattle.addr4.proofs.PrefixOrder.{prefixes_total, exact_prefixes}
 use Rattle.addr4.proofs.RankLemmas.{further}
 use Rattle.link_change.specs.Rows.{with_rows}
-use Rattle.rib_route.specs.declared.rows.External.{External}
+use Rattle.rib_route.specs.Rows.{External}
 use Rattle.rib_split.specs.Splitting.{external_row}
 use Rattle.fanout_queue.specs.Queues.{Queued}
 use Rattle.router_moments.specs.Moments.{read_rows_by}
-use Rattle.router_core.specs.declared.reads.ReadRoutes.{ReadRoutes}
-use Rattle.router_core.proofs.Lents.{best_lent}
-
--- the rows of what is lent
-abbrev pub rows_read : ReadRoutes → Rows Route
-rows_read s = read_rows_by s.exits.now.queue (option_copied s.reader) (best_lent s.best.now.all.now)
 
 -- those of the reader, where there is one
 pub read_by_one : (queued : Queued Route) (reader : Option (Bor ℕ)) (r : Bor ℕ) (best : Rows Route) → reader ≡ Some r → read_rows_by queued (option_copied reader) best ≡ read_rows queued r.now best

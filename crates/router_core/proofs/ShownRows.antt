@@ -211,6 +211,18 @@ res_rows_at m link k rows is at = by_resolver (resolver_at k m.hops) refl (ap (h
     by_resolver None was e = absurd (cc)
     by_resolver (Some s) was e = (s, was, sym (same_Some (route_rows (metric_rows s (filt_at m.chains k))) rows e))
 
+pub has_resolved : (m v : Moment) (link : Link) (k : ℕ) (p : AddressPrefix) (c : Chained) (row : Option Route) → v ≡ m → link ≡ Res k → Some c ≡ chain_at k v.chains → IsSome (hop_links m.hops (filt_at m.chains) link)
+    → row ≡ rows_by (resolver_at k v.hops) (filt_rows c) p → HasRow (hop_links m.hops (filt_at m.chains)) link p (option_map route_value row)
+has_resolved m v link k p c row view is there live row_is = by_rows (hop_links m.hops (filt_at m.chains) link) refl live
+  where
+    by_rows : (o : Option (Rows Value)) → hop_links m.hops (filt_at m.chains) link ≡ o → IsSome o → HasRow (hop_links m.hops (filt_at m.chains)) link p (option_map route_value row)
+    by_rows None at some = absurd (cc)
+    by_rows (Some rows) at some =
+        let own = res_rows_at m link k rows is at in
+        let upper : filt_rows c ≡ filt_at m.chains k = ap filt_by there ∙ ap (λ (n : Moment). filt_at n.chains k) view in
+        let same : rows_by (resolver_at k v.hops) (filt_rows c) ≡ metric_rows own.0 (filt_at m.chains k) = ap (λ (n : Moment). rows_by (resolver_at k n.hops) (filt_rows c)) view ∙ ap (λ (o : Option (Resolving Metric)). rows_by o (filt_rows c)) own.1 ∙ ap (metric_rows own.0) upper in
+        (rows, at, ap (λ (r : Rows Value). r p) own.2 ∙ ap (option_map route_value) (sym (row_is ∙ ap (λ (r : Rows Route). r p) same)))
+
 -- where no row stands above it
 pub none_resolved : (m v : Moment) (link : Link) (k : ℕ) (place : Option AddressPrefix) → v ≡ m → link ≡ Res k → None ≡ chain_at k v.chains → IsNextPlace (hop_links m.hops (filt_at m.chains) link) place None
 none_resolved m v link k place view is none = (

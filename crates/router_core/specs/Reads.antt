@@ -2,10 +2,10 @@
 use Rattle.std.specs.Prelude.{◌≡◌, ℕ, Option, Some, IsSome}
 use Rattle.std.specs.FinMap as tables
 use Rattle.link_change.specs.Rows.{Rows}
-use Rattle.link_change.specs.declared.change.Change.{Change}
+use Rattle.link_change.specs.Changes.{Change}
 use Rattle.journal_text.specs.Journals.{Journaled, Adds}
-use Rattle.rib_route.specs.declared.rows.Interior.{Interior}
-use Rattle.rib_route.specs.declared.rows.FibRow.{FibRow}
+use Rattle.rib_route.specs.Rows.{Interior}
+use Rattle.rib_route.specs.Rows.{FibRow}
 use Rattle.rib_exit.specs.Exits.{StandsOver}
 use Rattle.rib_exit.specs.Steps.{TakesInterior}
 use Rattle.router_moments.specs.Bests.{own_rows, best_at}

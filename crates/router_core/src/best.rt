@@ -13,17 +13,18 @@ ghost use Rattle.rib_split.specs.Splitting.{external_row};
 ghost use Rattle.peer_side.specs.Peers.{chain_at};
 ghost use Rattle.router_moments.specs.Moments.{best_of, candidates_of};
 ghost use Rattle.decision.specs.Contests.{Knows};
-ghost use Rattle.router_core.specs.Informed.{Informed, KnowsBut, KeepsCounts, branch_rows};
+ghost use Rattle.router_core.specs.Informed.{AreLent, IsLent, Informed, KnowsBut, KeepsCounts, branch_rows};
 
 use crate::network::Network;
-use addr4::{Addr, Memory, Place, Prefix};
-use bgp_attr::Route;
+use addr4::{Addr, Memory, Place, Prefix, Texts, V4};
+use bgp_attr::{Route, SharedAttrs};
 use decision::{Branches, Contests};
 use event_text::Declared;
 use hop_side::{Named, NextHops};
 use in_chain::Chain;
 use journal_text::Journal;
 use link_change::Change;
+use peer_out::Writes;
 use peer_side::Peers;
 use redist::Redist;
 use rib_route::External;
@@ -35,17 +36,36 @@ const MOST: u8 = 65;
 
 /// The links `res.K` of all peers, and as branch 0 the link `red`, as they are lent to the decision.
 #[derive(Drop)]
-pub(crate) struct Lent<'a> {
-    pub(crate) declared: &'a Declared,
-    pub(crate) tree: &'a Tree,
-    pub(crate) redist: &'a Redist,
-    pub(crate) chains: &'a Peers,
-    pub(crate) hops: &'a NextHops,
+pub(crate) struct Lent<'a, F: Texts = V4> {
+    pub(crate) declared: &'a Declared<F>,
+    pub(crate) tree: &'a Tree<F>,
+    pub(crate) redist: &'a Redist<F>,
+    pub(crate) chains: &'a Peers<F>,
+    pub(crate) hops: &'a NextHops<F>,
 }
 
-impl<'a> Lent<'a> {
+impl<'a, F: Texts> Lent<'a, F> {
+    /// These parts of a network, while others of it change.
+    pub(crate) fn of(
+        declared: &'a Declared<F>,
+        tree: &'a Tree<F>,
+        redist: &'a Redist<F>,
+        chains: &'a Peers<F>,
+        hops: &'a NextHops<F>,
+    ) -> Lent<'a, F>
+        ensures { AreLent result declared.now tree.now redist.now chains.now hops.now }
+    {
+        Lent {
+            declared,
+            tree,
+            redist,
+            chains,
+            hops,
+        }
+    }
+
     /// The chain of a branch, if there is one.
-    fn chain(&self, branch: u8) -> Option<&Chain>
+    fn chain(&self, branch: u8) -> Option<&Chain<F>>
         ensures { option_copied result ≡ lent_chain self.now.chains.now branch }
     {
         if branch < MOST {
@@ -55,7 +75,7 @@ impl<'a> Lent<'a> {
     }
 
     /// The row of `red` at a prefix; none before `local`.
-    pub(crate) fn own(&self, p: &Prefix) -> Result<Option<Route>, Memory>
+    pub(crate) fn own(&self, p: &Prefix<F>) -> Result<Option<Route<SharedAttrs<F>>>, Memory>
         ensures { IfOk result (λ row. row ≡ own_rows self.now.declared.now.speaker self.now.redist.now (int_rows self.now.tree.now) p.now) }
     {
         match self.declared.speaker() {
@@ -65,7 +85,7 @@ impl<'a> Lent<'a> {
     }
 
     /// The row of `res.K` of a peer at a prefix.
-    fn resolved(&self, branch: u8, p: &Prefix) -> Result<Option<Route>, Memory>
+    fn resolved(&self, branch: u8, p: &Prefix<F>) -> Result<Option<Route<SharedAttrs<F>>>, Memory>
         ensures { IfOk result (λ row. row ≡ lent_resolved self.now.chains.now self.now.hops.now branch p.now) }
     {
         let Some(chain) = self.chain(branch) else {
@@ -76,7 +96,7 @@ impl<'a> Lent<'a> {
 
     /// What forwarding needs of the row of a branch at a prefix, if a peer sent it: no route of this speaker's own does. No row is
     /// made. Takes no memory.
-    pub(crate) fn external(&self, branch: u8, p: &Prefix) -> Option<External>
+    pub(crate) fn external(&self, branch: u8, p: &Prefix<F>) -> Option<External<Addr<F>>>
         ensures { result ≡ external_row (lent_rows (own_rows self.now.declared.now.speaker self.now.redist.now (int_rows self.now.tree.now)) self.now.chains.now self.now.hops.now branch p.now) }
     {
         if branch == 0 {
@@ -91,7 +111,7 @@ impl<'a> Lent<'a> {
     }
 
     /// Whether `red` has a row at a prefix. Takes no memory.
-    fn has_own(&self, p: &Prefix) -> bool
+    fn has_own(&self, p: &Prefix<F>) -> bool
         ensures { result ≡ is_some (own_rows self.now.declared.now.speaker self.now.redist.now (int_rows self.now.tree.now) p.now) }
     {
         match self.declared.speaker() {
@@ -101,7 +121,7 @@ impl<'a> Lent<'a> {
     }
 
     /// Whether `res.K` of a peer has a row at a prefix. Takes no memory.
-    fn has_resolved(&self, branch: u8, p: &Prefix) -> bool
+    fn has_resolved(&self, branch: u8, p: &Prefix<F>) -> bool
         ensures { result ≡ is_some (lent_resolved self.now.chains.now self.now.hops.now branch p.now) }
     {
         let Some(chain) = self.chain(branch) else {
@@ -111,7 +131,7 @@ impl<'a> Lent<'a> {
     }
 }
 
-impl<'a> Branches for Lent<'a> {
+impl<'a, F: Texts> Branches<F> for Lent<'a, F> {
     ghost use Rattle.rib_tree.specs.Trees.{int_rows, int_candidates};
     ghost use Rattle.router_moments.specs.Bests.{own_rows, lent_rows, lent_candidates};
 
@@ -119,14 +139,14 @@ impl<'a> Branches for Lent<'a> {
 
     ghost candidates = { λ l. lent_candidates (int_candidates l.tree.now) l.chains.now };
 
-    fn asked(&self, branch: u8, p: &Prefix) -> Result<Option<Route>, Memory> {
+    fn asked(&self, branch: u8, p: &Prefix<F>) -> Result<Option<Route<SharedAttrs<F>>>, Memory> {
         if branch == 0 {
             return self.own(p);
         }
         self.resolved(branch, p)
     }
 
-    fn has(&self, branch: u8, p: &Prefix) -> bool {
+    fn has(&self, branch: u8, p: &Prefix<F>) -> bool {
         if branch == 0 {
             return self.has_own(p);
         }
@@ -134,19 +154,19 @@ impl<'a> Branches for Lent<'a> {
     }
 }
 
-impl<'a> Named for Lent<'a> {
+impl<'a, F: Texts> Named<F> for Lent<'a, F> {
     ghost use Rattle.peer_side.specs.Peers.{filt_at};
 
     ghost rows = { λ l. filt_at l.chains.now };
 
-    fn next_hop(&self, number: u32, p: Prefix) -> Option<Addr> {
-        self.chains.chain(number)?.next_hop(p)
+    fn next_hop(&self, number: u32, p: &Prefix<F>) -> Option<Addr<F>> {
+        self.chains.chain(number)?.next_hop(*p)
     }
 }
 
-impl Network {
+impl<F: Writes> Network<F> {
     /// Whether a peer has a candidate at a prefix: a row of its `in.K`. Takes no memory.
-    pub(crate) fn has_candidate(&self, number: u32, p: Prefix) -> bool
+    pub(crate) fn has_candidate(&self, number: u32, p: Prefix<F>) -> bool
         ensures { result ≡ candidates_by (chain_at number self.now.chains) p }
     {
         match self.chains.chain(number) {
@@ -159,9 +179,9 @@ impl Network {
     pub(crate) fn decide(
         &mut self,
         number: u32,
-        sent: Option<Change<Route>>,
-        contests: &mut Contests,
-        journal: &mut Journal,
+        sent: Option<Change<Route<SharedAttrs<F>>, Prefix<F>>>,
+        contests: &mut Contests<F>,
+        journal: &mut Journal<F>,
     ) -> Result<(), Memory>
         requires small { number ≤ 64 }
         requires exits { IsExits self.old.exits }
@@ -178,7 +198,11 @@ impl Network {
     }
 
     /// The best route at a prefix; None where neither a peer nor this speaker has one.
-    pub(crate) fn best(&self, p: Prefix, contests: &Contests) -> Result<Option<Route>, Memory>
+    pub(crate) fn best(
+        &self,
+        p: Prefix<F>,
+        contests: &Contests<F>,
+    ) -> Result<Option<Route<SharedAttrs<F>>>, Memory>
         requires informed { Informed contests.now self.now }
         ensures { IfOk result (λ row. row ≡ best_of self.now p) }
     {
@@ -186,7 +210,7 @@ impl Network {
     }
 
     /// Whether there is a best route at a prefix. Takes no memory.
-    pub(crate) fn has_best(&self, p: Prefix, contests: &Contests) -> bool
+    pub(crate) fn has_best(&self, p: Prefix<F>, contests: &Contests<F>) -> bool
         requires informed { Informed contests.now self.now }
         ensures { result ≡ is_some (best_of self.now p) }
     {
@@ -194,7 +218,11 @@ impl Network {
     }
 
     /// Where the next best route may stand, beyond a place.
-    pub(crate) fn next_best(&self, after: Place, contests: &Contests) -> Option<Prefix>
+    pub(crate) fn next_best(
+        &self,
+        after: Place<Prefix<F>>,
+        contests: &Contests<F>,
+    ) -> Option<Prefix<F>>
         requires informed { Informed contests.now self.now }
         ensures next { IsNextCandidate (candidates_of self.now) (key_of after) result }
         ensures covers { CoversRows (candidates_of self.now) (best_of self.now) }
@@ -202,19 +230,15 @@ impl Network {
         contests.next_candidate(&after)
     }
 
-    pub(crate) fn lent(&self) -> Lent<'_>
-        ensures declared { result.declared.now ≡ self.now.declared }
-        ensures tree { result.tree.now ≡ self.now.tree }
-        ensures redist { result.redist.now ≡ self.now.redist }
-        ensures chains { result.chains.now ≡ self.now.chains }
-        ensures hops { result.hops.now ≡ self.now.hops }
+    pub(crate) fn lent(&self) -> Lent<'_, F>
+        ensures { IsLent result self.now }
     {
-        Lent {
-            declared: &self.declared,
-            tree: &self.tree,
-            redist: &self.redist,
-            chains: &self.chains,
-            hops: &self.hops,
-        }
+        Lent::of(
+            &self.declared,
+            &self.tree,
+            &self.redist,
+            &self.chains,
+            &self.hops,
+        )
     }
 }

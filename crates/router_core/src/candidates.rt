@@ -9,13 +9,13 @@ ghost use Rattle.decision.specs.Branches.{AllRows};
 ghost use Rattle.decision.specs.Contests.{Knows, Counts, CoversAt};
 ghost use Rattle.router_core.specs.Informed.{Shifts, ShiftsAt, HasShift, HasShifted, shifted};
 
-use addr4::{Memory, Prefix};
+use addr4::{Family, Memory, Prefix};
 use decision::Contests;
 
 /// Before what a step of a branch does at a prefix is decided: a candidate that came there is counted.
-pub(crate) fn enter(
-    contests: &mut Contests,
-    prefix: Prefix,
+pub(crate) fn enter<F: Family>(
+    contests: &mut Contests<F>,
+    prefix: Prefix<F>,
     had: bool,
     has: bool,
 ) -> Result<(), Memory>
@@ -30,9 +30,9 @@ pub(crate) fn enter(
 }
 
 /// After that: one that went is counted no more.
-pub(crate) fn leave(
-    contests: &mut Contests,
-    prefix: Prefix,
+pub(crate) fn leave<F: Family>(
+    contests: &mut Contests<F>,
+    prefix: Prefix<F>,
     had: bool,
     has: bool,
 ) -> Result<(), Memory>
@@ -47,7 +47,10 @@ pub(crate) fn leave(
 }
 
 /// The same of a candidate that went, if one did.
-pub(crate) fn forget(contests: &mut Contests, lost: Option<Prefix>) -> Result<(), Memory>
+pub(crate) fn forget<F: Family>(
+    contests: &mut Contests<F>,
+    lost: Option<Prefix<F>>,
+) -> Result<(), Memory>
     requires { (prefix : AddressPrefix) → lost ≡ Some prefix → HasShifted prefix true false contests.old }
     ensures counts { OnOk result ((branch : ℕ) (before now : ℕ → Candidates) → ShiftsAt lost branch before now → Counts contests.old before → Counts contests.new now) }
     ensures known { OnOk result ((rows : AllRows) (now : ℕ → Candidates) → Counts contests.new now → ((prefix : AddressPrefix) → CoversAt now rows prefix) → Knows contests.old rows → Knows contests.new rows) }

@@ -16,23 +16,24 @@ ghost use Rattle.router_core.specs.Informed.{Informed, KnowsAbove, KeepsCounts, 
 
 use crate::candidates::forget;
 use crate::network::Network;
-use addr4::{Memory, Prefix};
-use bgp_attr::Route;
+use addr4::{Family, Memory, Prefix};
+use bgp_attr::{Route, SharedAttrs};
 use decision::Contests;
 use journal_text::{Journal, Task};
 use link_change::{Change, Turn};
+use peer_out::Writes;
 use peer_side::peer_of;
 use router_moments::Done;
 
-impl Network {
+impl<F: Writes> Network<F> {
     /// What follows a change in a peer's chain, by what came out on `filt.K`: its resolver takes that in, the best route is
     /// decided anew where `res.K` changes, and behind it the stage goes that the change emptied.
     pub(crate) fn settle_peer(
         &mut self,
         number: u32,
-        sent: Option<Change<Route>>,
-        contests: &mut Contests,
-        journal: &mut Journal,
+        sent: Option<Change<Route<SharedAttrs<F>>, Prefix<F>>>,
+        contests: &mut Contests<F>,
+        journal: &mut Journal<F>,
     ) -> Result<(), Memory>
         requires may { MaySettle number self.old }
         requires above { KnowsAbove number sent contests.old self.old }
@@ -49,9 +50,9 @@ impl Network {
     fn resolve(
         &mut self,
         number: u32,
-        sent: Option<Change<Route>>,
-        journal: &mut Journal,
-    ) -> Result<Option<Change<Route>>, Memory>
+        sent: Option<Change<Route<SharedAttrs<F>>, Prefix<F>>>,
+        journal: &mut Journal<F>,
+    ) -> Result<Option<Change<Route<SharedAttrs<F>>, Prefix<F>>>, Memory>
         requires hops { IsHops self.old.hops }
         requires resolver { IsSome (resolver_at number self.old.hops) }
         requires agree { AllAgree self.old.hops self.old.registry }
@@ -67,7 +68,7 @@ impl Network {
     }
 
     /// The prefix whose row of `in.K` the next turn of a peer's task takes; None where it takes none. Takes no memory.
-    fn next_lost(&self, task: Task) -> Option<Prefix>
+    fn next_lost(&self, task: Task) -> Option<Prefix<F>>
         ensures { (chain : Chained) → chain_at (peer_of task) self.now.chains ≡ Some chain → FindsNextLost chain task result }
     {
         match self.chains.chain(peer_of(task)) {
@@ -81,8 +82,8 @@ impl Network {
     pub(crate) fn turn_peer(
         &mut self,
         task: Task,
-        contests: &mut Contests,
-        journal: &mut Journal,
+        contests: &mut Contests<F>,
+        journal: &mut Journal<F>,
     ) -> Result<Done, Memory>
         requires stands { Stands self.old }
         requires peers { IsOfPeers task }
@@ -106,8 +107,8 @@ impl Network {
     pub(crate) fn turn_hops(
         &mut self,
         number: u32,
-        contests: &mut Contests,
-        journal: &mut Journal,
+        contests: &mut Contests<F>,
+        journal: &mut Journal<F>,
     ) -> Result<Done, Memory>
         requires stands { Stands self.old }
         requires informed { Informed contests.old self.old }
@@ -128,7 +129,9 @@ impl Network {
 }
 
 /// The change that a turn sent, if it sent one.
-pub(crate) fn sent_of(turn: Turn<Route>) -> Option<Change<Route>>
+pub(crate) fn sent_of<F: Family>(
+    turn: Turn<Route<SharedAttrs<F>>, Prefix<F>>,
+) -> Option<Change<Route<SharedAttrs<F>>, Prefix<F>>>
     ensures { result ≡ sent_of turn }
 {
     match turn {

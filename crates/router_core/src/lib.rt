@@ -22,6 +22,7 @@
 mod best;
 mod candidates;
 mod exits;
+mod forwarding;
 mod hops;
 mod lookups;
 mod network;

@@ -1,6 +1,6 @@
 //! Lookups, by the region of the link: the answer at one prefix, all rows, and how many.
 
-ghost use Rattle.std.specs.Prelude.{◌≡◌, ◌≤◌, OnOk, IfOk, IsSome, is_some, Some};
+ghost use Rattle.std.specs.Prelude.{◌≡◌, ◌≤◌, ◌<◌, ◌^◌, OnOk, IfOk, IsSome, is_some, Some};
 ghost use Rattle.addr4.specs.Places.{key_of};
 ghost use Rattle.journal_text.specs.Walk.{HasRow};
 ghost use Rattle.journal_text.specs.Journals.{with_lines};
@@ -15,13 +15,15 @@ ghost use Rattle.router_moments.specs.Lookups.{Counts, ShowsRow, IsCountOf, IsNe
 ghost use Rattle.router_moments.specs.Works.{Pushes};
 ghost use Rattle.router_core.specs.Informed.{Informed};
 
-use crate::network::Network;
-use addr4::{Memory, Place, Prefix};
+use crate::network::{Network, plus};
+use addr4::{Addr, Memory, Place, Prefix};
+use bgp_attr::SharedAttrs;
 use decision::Contests;
 use journal_text::{Entry, Journal, Line, Link, Value};
 use link_region::{Region, region_of};
+use peer_out::Writes;
 
-impl Network {
+impl<F: Writes> Network<F> {
     /// Whether a link is live.
     pub(crate) fn live(&self, link: Link) -> bool
         ensures { result ≡ is_some (router_links self.now link) }
@@ -69,7 +71,12 @@ impl Network {
     }
 
     /// The row at a prefix of a live link; None where it has none.
-    fn asked(&self, link: Link, p: Prefix, contests: &Contests) -> Result<Option<Value>, Memory>
+    fn asked(
+        &self,
+        link: Link,
+        p: Prefix<F>,
+        contests: &Contests<F>,
+    ) -> Result<Option<Value<SharedAttrs<F>, Addr<F>>>, Memory>
         requires readers { HaveReaders self.now }
         requires live { IsSome (router_links self.now link) }
         requires informed { Informed contests.now self.now }
@@ -88,7 +95,12 @@ impl Network {
     }
 
     /// Where the next row of a live link may stand, beyond a place.
-    fn next_candidate(&self, link: Link, after: Place, contests: &Contests) -> Option<Prefix>
+    fn next_candidate(
+        &self,
+        link: Link,
+        after: Place<Prefix<F>>,
+        contests: &Contests<F>,
+    ) -> Option<Prefix<F>>
         requires readers { HaveReaders self.now }
         requires live { IsSome (router_links self.now link) }
         requires informed { Informed contests.now self.now }
@@ -107,7 +119,11 @@ impl Network {
     }
 
     /// The row at a prefix of `res.K`; None where it has none.
-    fn resolved(&self, link: Link, p: Prefix) -> Result<Option<Value>, Memory>
+    fn resolved(
+        &self,
+        link: Link,
+        p: Prefix<F>,
+    ) -> Result<Option<Value<SharedAttrs<F>, Addr<F>>>, Memory>
         requires { IsSome (hop_links self.now.hops (filt_at self.now.chains) link) }
         ensures { IfOk result (HasRow (hop_links self.now.hops (filt_at self.now.chains)) link p) }
     {
@@ -134,7 +150,12 @@ impl Network {
     }
 
     /// The row at a prefix of `best`; None where it has none.
-    fn decided(&self, link: Link, p: Prefix, contests: &Contests) -> Result<Option<Value>, Memory>
+    fn decided(
+        &self,
+        link: Link,
+        p: Prefix<F>,
+        contests: &Contests<F>,
+    ) -> Result<Option<Value<SharedAttrs<F>, Addr<F>>>, Memory>
         requires live { IsSome (best_links self.now.declared.speaker (best_of self.now) link) }
         requires informed { Informed contests.now self.now }
         ensures { IfOk result (HasRow (best_links self.now.declared.speaker (best_of self.now)) link p) }
@@ -146,7 +167,11 @@ impl Network {
     }
 
     /// The row at a prefix of `red`; None where it has none.
-    fn own(&self, link: Link, p: Prefix) -> Result<Option<Value>, Memory>
+    fn own(
+        &self,
+        link: Link,
+        p: Prefix<F>,
+    ) -> Result<Option<Value<SharedAttrs<F>, Addr<F>>>, Memory>
         requires { IsSome (own_links self.now.declared.speaker (own_of self.now) link) }
         ensures { IfOk result (HasRow (own_links self.now.declared.speaker (own_of self.now)) link p) }
     {
@@ -157,7 +182,7 @@ impl Network {
     }
 
     /// Where the next row of `res.K` may stand, beyond a place: at the candidates of `filt.K`.
-    fn next_resolved(&self, link: Link, after: Place) -> Option<Prefix>
+    fn next_resolved(&self, link: Link, after: Place<Prefix<F>>) -> Option<Prefix<F>>
         requires { IsSome (hop_links self.now.hops (filt_at self.now.chains) link) }
         ensures { IsNextPlace (hop_links self.now.hops (filt_at self.now.chains) link) (key_of after) result }
     {
@@ -174,9 +199,9 @@ impl Network {
     pub(crate) fn ask(
         &self,
         link: Link,
-        p: Prefix,
-        contests: &Contests,
-        journal: &mut Journal,
+        p: Prefix<F>,
+        contests: &Contests<F>,
+        journal: &mut Journal<F>,
     ) -> Result<(), Memory>
         requires readers { HaveReaders self.now }
         requires informed { Informed contests.now self.now }
@@ -193,8 +218,8 @@ impl Network {
     pub(crate) fn show(
         &self,
         link: Link,
-        contests: &Contests,
-        journal: &mut Journal,
+        contests: &Contests<F>,
+        journal: &mut Journal<F>,
     ) -> Result<(), Memory>
         requires readers { HaveReaders self.now }
         requires informed { Informed contests.now self.now }
@@ -210,8 +235,8 @@ impl Network {
     fn show_rows(
         &self,
         link: Link,
-        contests: &Contests,
-        journal: &mut Journal,
+        contests: &Contests<F>,
+        journal: &mut Journal<F>,
     ) -> Result<(), Memory>
         requires readers { HaveReaders self.now }
         requires live { IsSome (router_links self.now link) }
@@ -223,9 +248,10 @@ impl Network {
         'rows: while let Some(p) = self.next_candidate(link, place, contests) {
             p.known();
             let shown = self.show_row(link, p, contests, journal)?;
-            count += shown;
+            count = plus(count, shown)?;
             place = Place::At(p);
         }
+        count_known(count);
         journal.push_line(Line::Rows(link, count))
     }
 
@@ -233,9 +259,9 @@ impl Network {
     fn show_row(
         &self,
         link: Link,
-        p: Prefix,
-        contests: &Contests,
-        journal: &mut Journal,
+        p: Prefix<F>,
+        contests: &Contests<F>,
+        journal: &mut Journal<F>,
     ) -> Result<u128, Memory>
         requires readers { HaveReaders self.now }
         requires live { IsSome (router_links self.now link) }
@@ -253,7 +279,7 @@ impl Network {
     }
 
     /// How many rows a link has; None where it isn't live.
-    pub(crate) fn count(&self, link: Link, contests: &Contests) -> Result<Option<u128>, Memory>
+    pub(crate) fn count(&self, link: Link, contests: &Contests<F>) -> Result<Option<u128>, Memory>
         requires readers { HaveReaders self.now }
         requires informed { Informed contests.now self.now }
         ensures { IfOk result (IsCountOf (router_links self.now link)) }
@@ -265,7 +291,7 @@ impl Network {
     }
 
     /// How many rows a live link has.
-    fn count_rows(&self, link: Link, contests: &Contests) -> Result<u128, Memory>
+    fn count_rows(&self, link: Link, contests: &Contests<F>) -> Result<u128, Memory>
         requires readers { HaveReaders self.now }
         requires live { IsSome (router_links self.now link) }
         requires informed { Informed contests.now self.now }
@@ -276,14 +302,14 @@ impl Network {
         'rows: while let Some(p) = self.next_candidate(link, place, contests) {
             p.known();
             let held = self.count_row(link, p, contests)?;
-            count += held;
+            count = plus(count, held)?;
             place = Place::At(p);
         }
         Ok(count)
     }
 
     /// How many rows stand at a prefix: one or none.
-    fn count_row(&self, link: Link, p: Prefix, contests: &Contests) -> Result<u128, Memory>
+    fn count_row(&self, link: Link, p: Prefix<F>, contests: &Contests<F>) -> Result<u128, Memory>
         requires readers { HaveReaders self.now }
         requires live { IsSome (router_links self.now link) }
         requires informed { Informed contests.now self.now }
@@ -296,3 +322,8 @@ impl Network {
         }
     }
 }
+
+/// A count is below 2^128, as its type says.
+fn count_known(count: u128)
+    ensures { count < 2 ^ 128 }
+{}

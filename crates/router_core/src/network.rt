@@ -4,11 +4,13 @@ ghost use Rattle.std.specs.Prelude.{◌≡◌, ◌+◌, ◌*◌, IfOk};
 ghost use Rattle.router_moments.specs.Moments.{first_moment, bound_of};
 
 use crate::exits::Policies;
-use addr4::Memory;
+use addr4::{Addr, Family, Memory, Texts, V4};
 use event_text::Declared;
 use exit_side::Exits;
+use ext_int::ExtInt;
 use fanout_queue::Reader;
 use hop_side::NextHops;
+use peer_out::Writes;
 use peer_side::Peers;
 use redist::Redist;
 use register_interest::Register;
@@ -20,26 +22,27 @@ use std::marker::Model;
 
 /// The part of the router that events and turns change.
 #[derive(Drop)]
-pub(crate) struct Network {
+pub(crate) struct Network<F: Texts = V4> {
     pub(crate) alloc: Global,
-    pub(crate) declared: Declared,
-    pub(crate) tree: Tree,
-    pub(crate) registry: Register<Interior>,
-    pub(crate) chains: Peers,
-    pub(crate) hops: NextHops,
-    pub(crate) outgoing: Policies,
-    pub(crate) exits: Exits,
+    pub(crate) declared: Declared<F>,
+    pub(crate) tree: Tree<F>,
+    pub(crate) registry: Register<Interior<Addr<F>>, F>,
+    pub(crate) chains: Peers<F>,
+    pub(crate) hops: NextHops<F>,
+    pub(crate) outgoing: Policies<F>,
+    pub(crate) exits: Exits<F>,
     pub(crate) reader: Option<Reader>,
-    pub(crate) redist: Redist,
-    pub(crate) rib: RibExit,
+    pub(crate) redist: Redist<F>,
+    pub(crate) rib: RibExit<ExtInt<F>>,
 }
 
-impl Model for Network {
+impl<F: Texts> Model for Network<F> {
     ghost use Rattle.router_moments.specs.Moments.{Moment, moment_code};
     ghost use Rattle.event_text.specs.Declarations.{declaration_code};
     ghost use Rattle.event_text.specs.contracts.declared.DeclaredPeer as peer_row;
     ghost use Rattle.bgp_attr.specs.contracts.speaker.Profile as profile_row;
     ghost use Rattle.bgp_attr.specs.contracts.speaker.Speaker as speaker_row;
+    ghost use Rattle.addr4.specs.contracts.family.V4 as family_row;
     ghost use Rattle.peer_side.specs.contracts.peers.Peers as peers_row;
     ghost use Rattle.hop_side.specs.contracts.hops.NextHops as hops_row;
     ghost use Rattle.rib_route.specs.contracts.Proto as proto_row;
@@ -52,18 +55,20 @@ impl Model for Network {
     ghost use Rattle.fanout_queue.specs.contracts.reader.Reader as reader_row;
     ghost use Rattle.std.specs.Coded.{coded_option};
     ghost use Rattle.redist.specs.contracts.stage.Redist as redist_row;
+    ghost use Rattle.ext_int.specs.contracts.merge.ExtInt as ext_row;
     ghost use Rattle.rib_exit.specs.contracts.exit.RibExit as rib_row;
+    ghost use Rattle.std.specs.Borrow.{u32 as word};
 
     ghost Value = { Moment };
 
-    ghost coded = { moment_code (declaration_code profile_row.the_row.coded speaker_row.the_row.coded peer_row.the_row.coded) (treed_code (branch_code proto_row.the_row.coded interior_row.the_row.coded)) (registry_code interior_row.the_row.coded) peers_row.the_row.coded hops_row.the_row.coded policies_row.the_row.coded exits_row.the_row.coded (coded_option reader_row.the_row.coded) redist_row.the_row.coded rib_row.the_row.coded };
+    ghost coded = { moment_code (declaration_code profile_row.the_row.coded (speaker_row.the_row word).coded peer_row.the_row.coded) (treed_code (branch_code proto_row.the_row.coded (interior_row.the_row word).coded)) (registry_code (interior_row.the_row word).coded) (peers_row.the_row family_row.the_row ⟦<V4 as Family>⟧).coded (hops_row.the_row family_row.the_row ⟦<V4 as Family>⟧ ⟦<V4 as Clone>⟧).coded (policies_row.the_row family_row.the_row ⟦<V4 as Family>⟧).coded (exits_row.the_row family_row.the_row ⟦<V4 as Family>⟧ ⟦<V4 as Clone>⟧).coded (coded_option reader_row.the_row.coded) (redist_row.the_row family_row.the_row ⟦<V4 as Family>⟧).coded (rib_row.the_row (ext_row.the_row family_row.the_row ⟦<V4 as Family>⟧ ⟦<V4 as Clone>⟧)).coded };
 
     ghost view = { λ n. record { declared = n.declared; tree = n.tree; registry = n.registry; chains = n.chains; hops = n.hops; outgoing = n.outgoing; exits = n.exits; reader = n.reader; redist = n.redist; rib = n.rib } };
 }
 
-impl Network {
+impl<F: Writes> Network<F> {
     /// Nothing is declared, and no chain stands. Takes no memory.
-    pub(crate) fn new(alloc: Global) -> Network
+    pub(crate) fn new(alloc: Global) -> Network<F>
         ensures { result ≡ first_moment }
     {
         let declared = Declared::new(alloc);

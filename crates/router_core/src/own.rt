@@ -15,15 +15,16 @@ ghost use Rattle.router_core.specs.Informed.{Informed, KnowsBut, KnowsOver, Keep
 
 use crate::hops::sent_of;
 use crate::network::Network;
-use addr4::Memory;
-use bgp_attr::Route;
+use addr4::{Addr, Memory, Prefix};
+use bgp_attr::{Route, SharedAttrs};
 use decision::Contests;
 use journal_text::{Journal, Link, Task};
 use link_change::{Change, Turn};
+use peer_out::Writes;
 use rib_route::{Interior, Proto};
 use router_moments::Done;
 
-impl Network {
+impl<F: Writes> Network<F> {
     /// A protocol's routes are redistributed from now on, or aren't; a walk brings that into force. Takes no memory.
     pub(crate) fn edit_own(&mut self, proto: Proto, on: bool)
         requires admitted { refusal self.old.declared (events.Redist proto on) ≡ None }
@@ -36,9 +37,9 @@ impl Network {
     /// A change of `int` goes on through redistribution; where `red` changes, the best route is decided anew.
     pub(crate) fn redistribute(
         &mut self,
-        change: &Change<Interior>,
-        contests: &mut Contests,
-        journal: &mut Journal,
+        change: &Change<Interior<Addr<F>>, Prefix<F>>,
+        contests: &mut Contests<F>,
+        journal: &mut Journal<F>,
     ) -> Result<(), Memory>
         requires exits { IsExits self.old.exits }
         requires since { IsSome self.old.declared.speaker }
@@ -57,9 +58,9 @@ impl Network {
     /// What redistribution sends, if it sends something: its entry is pushed, and the best route is decided anew.
     fn send_own(
         &mut self,
-        sent: Option<Change<Route>>,
-        contests: &mut Contests,
-        journal: &mut Journal,
+        sent: Option<Change<Route<SharedAttrs<F>>, Prefix<F>>>,
+        contests: &mut Contests<F>,
+        journal: &mut Journal<F>,
     ) -> Result<(), Memory>
         requires exits { IsExits self.old.exits }
         requires known { KnowsBut 0 sent contests.old self.old }
@@ -75,8 +76,8 @@ impl Network {
     #[inline(never)]
     pub(crate) fn turn_own(
         &mut self,
-        contests: &mut Contests,
-        journal: &mut Journal,
+        contests: &mut Contests<F>,
+        journal: &mut Journal<F>,
     ) -> Result<Done, Memory>
         requires stands { Stands self.old }
         requires informed { Informed contests.old self.old }

@@ -15,7 +15,7 @@ ghost use Rattle.bgp_wire.specs.Notices.{HasShortNotice};
 ghost use Rattle.router_moments.specs.Works.{Pushes, HasStepped};
 
 use crate::network::Network;
-use addr4::Memory;
+use addr4::{Addr, Memory, Texts};
 use bgp_attr::{Profile, Speaker};
 use bgp_wire::{Message, read_message};
 use event_text::DeclaredPeer;
@@ -23,11 +23,12 @@ use exit_side::Exits;
 use exit_side::laws::a_stranger_reads;
 use in_chain::Chain;
 use journal_text::{Entry, Journal, Line, Link};
+use peer_out::Writes;
 use policy_rules::Rules;
 use rib_route::Proto;
 use std::alloc::Global;
 
-impl Network {
+impl<F: Writes> Network<F> {
     /// How messages are read and written.
     pub(crate) fn profile(&self) -> Profile
         ensures { result ≡ self.now.declared.profile }
@@ -47,8 +48,8 @@ impl Network {
     /// `local` was declared: the links of the interior routes begin.
     pub(crate) fn declare_speaker(
         &mut self,
-        words: Speaker,
-        journal: &mut Journal,
+        words: Speaker<Addr<F>>,
+        journal: &mut Journal<F>,
     ) -> Result<(), Memory>
         requires admitted { refusal self.old.declared (events.Local words) ≡ None }
         requires stands { Stands self.old }
@@ -68,7 +69,7 @@ impl Network {
         number: u32,
         words: Speaker,
         client: bool,
-        journal: &mut Journal,
+        journal: &mut Journal<F>,
     ) -> Result<(), Memory>
         requires admitted { refusal self.old.declared (events.Peer number words client) ≡ None }
         requires stands { Stands self.old }
@@ -88,7 +89,11 @@ impl Network {
     }
 
     /// A peer's session begins; `ignored` where one is up.
-    pub(crate) fn begin_session(&mut self, number: u32, journal: &mut Journal) -> Result<(), Memory>
+    pub(crate) fn begin_session(
+        &mut self,
+        number: u32,
+        journal: &mut Journal<F>,
+    ) -> Result<(), Memory>
         requires admitted { refusal self.old.declared (events.Up number) ≡ None }
         requires stands { Stands self.old }
         ensures { OnOk result (Pushes (HasStepped self.old (events.Up number) 0 self.new) journal.old journal.new) }
@@ -101,7 +106,7 @@ impl Network {
     }
 
     /// A peer's incoming filter has new rules. Takes no memory.
-    pub(crate) fn edit_incoming(&mut self, number: u32, rules: Rules)
+    pub(crate) fn edit_incoming(&mut self, number: u32, rules: Rules<F>)
         requires admitted { refusal self.old.declared (events.FilterIn number rules) ≡ None }
         requires stands { Stands self.old }
         ensures { HasStepped self.old (events.FilterIn number rules) 0 self.new [] }
@@ -120,7 +125,7 @@ impl Network {
     }
 
     /// The chain of a declared peer.
-    pub(crate) fn chain(&self, number: u32) -> &Chain
+    pub(crate) fn chain(&self, number: u32) -> &Chain<F>
         requires { IsSome (chain_at number self.now.chains) }
         ensures { Some result.now ≡ chain_at number self.now.chains }
     {
@@ -129,7 +134,7 @@ impl Network {
 }
 
 /// The links of interior routes, `red` and `best`.
-fn begin_rib(journal: &mut Journal) -> Result<(), Memory>
+fn begin_rib<F: Texts>(journal: &mut Journal<F>) -> Result<(), Memory>
     ensures { OnOk result (journal.new ≡ with_lines journal.old first_begins) }
 {
     let links = [
@@ -147,7 +152,7 @@ fn begin_rib(journal: &mut Journal) -> Result<(), Memory>
 }
 
 /// Links begin.
-fn begin_all(links: &[Link], journal: &mut Journal) -> Result<(), Memory>
+fn begin_all<F: Texts>(links: &[Link], journal: &mut Journal<F>) -> Result<(), Memory>
     ensures { OnOk result (journal.new ≡ with_lines journal.old (map begin_line links.now)) }
 {
     for link in links {

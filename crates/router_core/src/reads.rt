@@ -6,14 +6,14 @@ ghost use Rattle.std.specs.Option.{option_copied};
 ghost use Rattle.std.specs.FinMap as map;
 ghost use Rattle.decision.specs.Branches.{best_rows};
 ghost use Rattle.rib_split.specs.Splitting.{external_row};
-ghost use Rattle.rib_tree.specs.Trees.{int_rows};
-ghost use Rattle.router_moments.specs.Bests.{own_rows, lent_rows};
+ghost use Rattle.router_core.specs.Informed.{rows_lent};
 
 use crate::best::Lent;
-use addr4::{Place, Prefix};
-use decision::Best;
+use addr4::{Addr, Place, Prefix, Texts, V4};
+use decision::{Best, Branches};
 use exit_side::Exits;
 use fanout_queue::Reader;
+use peer_out::Writes;
 use rib_exit::Reading;
 use rib_route::External;
 use rib_split::external_row;
@@ -21,31 +21,32 @@ use rib_split::external_row;
 /// The best routes as the reader has them, if there is one: the row before the first change at a prefix that it hasn't taken, or
 /// else the best one.
 #[derive(Drop)]
-pub(crate) struct ReadRoutes<'a> {
-    pub(crate) exits: &'a Exits,
+pub(crate) struct ReadRoutes<'a, B: Branches<F>, F: Texts = V4> {
+    pub(crate) exits: &'a Exits<F>,
     pub(crate) reader: Option<&'a Reader>,
-    pub(crate) best: &'a Best<'a, Lent<'a>>,
+    pub(crate) best: &'a Best<'a, B, F>,
+    /// The branches, as they were lent to the best routes.
+    pub(crate) lent: &'a Lent<'a, F>,
     ghost live: { (r : ℕ) → option_copied reader ≡ Some r → IsSome (map.get exits.now.queue r) },
+    ghost own: { B.rows best.now.all.now ≡ rows_lent lent.now },
 }
 
-impl<'a> Reading for ReadRoutes<'a> {
+impl<'a, B: Branches<F>, F: Writes> Reading<F> for ReadRoutes<'a, B, F> {
     ghost use Rattle.std.specs.Option.{option_copied};
     ghost use Rattle.decision.specs.Branches.{best_rows};
-    ghost use Rattle.rib_tree.specs.Trees.{int_rows};
-    ghost use Rattle.router_moments.specs.Bests.{own_rows, lent_rows};
     ghost use Rattle.router_moments.specs.Moments.{read_rows_by};
 
-    ghost rows = { λ s. read_rows_by s.exits.now.queue (option_copied s.reader) (best_rows (lent_rows (own_rows s.best.now.all.now.declared.now.speaker s.best.now.all.now.redist.now (int_rows s.best.now.all.now.tree.now)) s.best.now.all.now.chains.now s.best.now.all.now.hops.now)) };
+    ghost rows = { λ s. read_rows_by s.exits.now.queue (option_copied s.reader) (best_rows (B.rows s.best.now.all.now)) };
 
-    fn external(&self, p: &Prefix) -> Option<External> {
+    fn external(&self, p: &Prefix<F>) -> Option<External<Addr<F>>> {
         let reader = self.reader?;
         match self.exits.first_unread(reader, *p) {
             Some(change) => external_row(&change.before),
-            None => best_external(self.best, p),
+            None => best_external(self.best, self.lent, p),
         }
     }
 
-    fn next_external(&self, after: &Place) -> Option<Prefix> {
+    fn next_external(&self, after: &Place<Prefix<F>>) -> Option<Prefix<F>> {
         let reader = self.reader?;
         if let Place::At(p) = after {
             p.known();
@@ -62,9 +63,33 @@ impl<'a> Reading for ReadRoutes<'a> {
     }
 }
 
-/// What forwarding needs of the best route at a prefix, if a peer sent it.
-fn best_external(best: &Best<'_, Lent<'_>>, p: &Prefix) -> Option<External>
-    ensures { result ≡ external_row (best_rows (lent_rows (own_rows best.now.all.now.declared.now.speaker best.now.all.now.redist.now (int_rows best.now.all.now.tree.now)) best.now.all.now.chains.now best.now.all.now.hops.now) p.now) }
+/// The routes that a reader has, if there is one, over the best ones.
+pub(crate) fn over_best<'a, F: Texts>(
+    exits: &'a Exits<F>,
+    reader: Option<&'a Reader>,
+    best: &'a Best<'a, Lent<'a, F>, F>,
+) -> ReadRoutes<'a, Lent<'a, F>, F>
+    requires { (r : ℕ) → option_copied reader ≡ Some r → IsSome (map.get exits.now.queue r) }
+    ensures exits { result.exits.now ≡ exits.now }
+    ensures reader { option_copied result.reader ≡ option_copied reader.entry }
+    ensures best { result.best.now ≡ best.now }
 {
-    best.all.external(best.winner(p)?, p)
+    ReadRoutes {
+        exits,
+        reader,
+        best,
+        lent: best.all,
+    }
+}
+
+/// What forwarding needs of the best route at a prefix, if a peer sent it.
+fn best_external<B: Branches<F>, F: Texts>(
+    best: &Best<'_, B, F>,
+    lent: &Lent<'_, F>,
+    p: &Prefix<F>,
+) -> Option<External<Addr<F>>>
+    requires { B.rows best.now.all.now ≡ rows_lent lent.now }
+    ensures { result ≡ external_row (best_rows (B.rows best.now.all.now) p.now) }
+{
+    lent.external(best.winner(p)?, p)
 }

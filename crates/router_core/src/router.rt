@@ -1,7 +1,7 @@
 //! The router's state.
 
 ghost use Rattle.std.specs.Prelude.{◌≡◌, ◌≤◌, ◌+◌, ◌<◌, ℕ, true, false, OnOk, OnErr, IfOk, IsErr, IsSome, Some};
-ghost use Rattle.journal_text.specs.declared.line.Line.{Line};
+ghost use Rattle.journal_text.specs.Lines.{Line};
 ghost use Rattle.journal_text.specs.Walk.{Leads};
 ghost use Rattle.event_text.specs.declared.event.Event.TheVariants as events;
 ghost use Rattle.event_text.specs.Declarations.{refusal};
@@ -18,7 +18,7 @@ ghost use Rattle.router_moments.specs.Lookups.{IsCountOf};
 ghost use Rattle.router_moments.specs.Works.{Comes, HaveDrained, HasIdled};
 
 use crate::network::Network;
-use addr4::{Memory, Prefix};
+use addr4::{Family, Memory, Prefix, V4};
 use decision::Contests;
 use event_text::{Declared, Event};
 use in_chain::Chain;
@@ -50,7 +50,9 @@ impl Model for Core {
     ghost use Rattle.exit_side.specs.contracts.exits.Exits as exits_row;
     ghost use Rattle.fanout_queue.specs.contracts.reader.Reader as reader_row;
     ghost use Rattle.redist.specs.contracts.stage.Redist as redist_row;
+    ghost use Rattle.ext_int.specs.contracts.merge.ExtInt as ext_row;
     ghost use Rattle.rib_exit.specs.contracts.exit.RibExit as rib_row;
+    ghost use Rattle.addr4.specs.contracts.family.V4 as family_row;
     ghost use Rattle.peer_side.specs.contracts.peers.Peers as peers_row;
     ghost use Rattle.hop_side.specs.contracts.hops.NextHops as hops_row;
     ghost use Rattle.rib_route.specs.contracts.Proto as proto_row;
@@ -62,10 +64,11 @@ impl Model for Core {
     ghost use Rattle.event_text.specs.contracts.declared.DeclaredPeer as peer_row;
     ghost use Rattle.bgp_attr.specs.contracts.speaker.Profile as profile_row;
     ghost use Rattle.bgp_attr.specs.contracts.speaker.Speaker as speaker_row;
+    ghost use Rattle.std.specs.Borrow.{u32 as word};
 
     ghost Value = { Cored };
 
-    ghost coded = { cored_code (moment_code (declaration_code profile_row.the_row.coded speaker_row.the_row.coded peer_row.the_row.coded) (treed_code (branch_code proto_row.the_row.coded interior_row.the_row.coded)) (registry_code interior_row.the_row.coded) peers_row.the_row.coded hops_row.the_row.coded policies_row.the_row.coded exits_row.the_row.coded (coded_option reader_row.the_row.coded) redist_row.the_row.coded rib_row.the_row.coded) };
+    ghost coded = { cored_code (moment_code (declaration_code profile_row.the_row.coded (speaker_row.the_row word).coded peer_row.the_row.coded) (treed_code (branch_code proto_row.the_row.coded (interior_row.the_row word).coded)) (registry_code (interior_row.the_row word).coded) (peers_row.the_row family_row.the_row ⟦<V4 as Family>⟧).coded (hops_row.the_row family_row.the_row ⟦<V4 as Family>⟧ ⟦<V4 as Clone>⟧).coded (policies_row.the_row family_row.the_row ⟦<V4 as Family>⟧).coded (exits_row.the_row family_row.the_row ⟦<V4 as Family>⟧ ⟦<V4 as Clone>⟧).coded (coded_option reader_row.the_row.coded) (redist_row.the_row family_row.the_row ⟦<V4 as Family>⟧).coded (rib_row.the_row (ext_row.the_row family_row.the_row ⟦<V4 as Family>⟧ ⟦<V4 as Clone>⟧)).coded) };
 
     ghost view = { λ c. record { moment = c.network; events = c.events; failed = c.failed } };
 

@@ -25,23 +25,24 @@ ghost use Rattle.router_core.specs.Reads.{TakesInto};
 use crate::candidates::{enter, leave};
 use crate::network::Network;
 use crate::steps::ignored;
-use addr4::{Addr, Memory, Prefix};
+use addr4::{Addr, Family, Memory, Prefix};
 use decision::Contests;
 use journal_text::{Journal, Line, Task};
 use link_change::{Change, Turn};
+use peer_out::Writes;
 use register_interest::{Interest, Register};
 use rib_route::{Interior, Proto};
 use router_moments::Done;
 use std::alloc::Global;
 
-impl Network {
+impl<F: Writes> Network<F> {
     /// `route add`: the protocol's route at the prefix is this one from now on.
     pub(crate) fn route_add(
         &mut self,
-        p: Prefix,
-        row: Interior,
-        contests: &mut Contests,
-        journal: &mut Journal,
+        p: Prefix<F>,
+        row: Interior<Addr<F>>,
+        contests: &mut Contests<F>,
+        journal: &mut Journal<F>,
     ) -> Result<u128, Memory>
         requires admitted { refusal self.old.declared (events.RouteAdd p row) ≡ None }
         requires stands { Stands self.old }
@@ -58,9 +59,9 @@ impl Network {
     pub(crate) fn route_del(
         &mut self,
         proto: Proto,
-        p: Prefix,
-        contests: &mut Contests,
-        journal: &mut Journal,
+        p: Prefix<F>,
+        contests: &mut Contests<F>,
+        journal: &mut Journal<F>,
     ) -> Result<u128, Memory>
         requires admitted { refusal self.old.declared (events.RouteDel proto p) ≡ None }
         requires stands { Stands self.old }
@@ -81,8 +82,8 @@ impl Network {
     pub(crate) fn lose_protocol(
         &mut self,
         proto: Proto,
-        contests: &mut Contests,
-        journal: &mut Journal,
+        contests: &mut Contests<F>,
+        journal: &mut Journal<F>,
     ) -> Result<u128, Memory>
         requires admitted { refusal self.old.declared (events.Lose proto) ≡ None }
         requires few { AreNumbered 4294967294 self.old.tree }
@@ -99,7 +100,11 @@ impl Network {
 
     /// `cover`: the longest interior route that holds an address, and the largest subnet with that answer (NSDI 2005, section
     /// 5.2.1).
-    pub(crate) fn cover(&mut self, address: Addr, journal: &mut Journal) -> Result<u128, Memory>
+    pub(crate) fn cover(
+        &mut self,
+        address: Addr<F>,
+        journal: &mut Journal<F>,
+    ) -> Result<u128, Memory>
         requires { Stands self.old }
         ensures { IfOk result (λ turns. Gives (HasStepped self.old (events.Cover address) turns self.new) journal.old journal.new) }
     {
@@ -113,8 +118,8 @@ impl Network {
     fn make_protocol_room(
         &mut self,
         proto: Proto,
-        contests: &mut Contests,
-        journal: &mut Journal,
+        contests: &mut Contests<F>,
+        journal: &mut Journal<F>,
     ) -> Result<(), Memory>
         requires stands { Stands self.old }
         requires informed { Informed contests.old self.old }
@@ -130,7 +135,11 @@ impl Network {
         }
     }
 
-    fn lose_protocol_with_room(&mut self, proto: Proto, journal: &mut Journal) -> Result<(), Memory>
+    fn lose_protocol_with_room(
+        &mut self,
+        proto: Proto,
+        journal: &mut Journal<F>,
+    ) -> Result<(), Memory>
         requires stands { Stands self.old }
         requires free { tree_overdue proto self.old.tree ≡ None }
         requires few { AreNumbered 4294967294 self.old.tree }
@@ -146,10 +155,10 @@ impl Network {
     fn route(
         &mut self,
         proto: Proto,
-        p: Prefix,
-        new: Option<Interior>,
-        contests: &mut Contests,
-        journal: &mut Journal,
+        p: Prefix<F>,
+        new: Option<Interior<Addr<F>>>,
+        contests: &mut Contests<F>,
+        journal: &mut Journal<F>,
     ) -> Result<(), Memory>
         requires stands { Stands self.old }
         requires own { IfSome new (λ row. row.proto ≡ proto) }
@@ -175,9 +184,9 @@ impl Network {
     fn settle(
         &mut self,
         proto: Proto,
-        sent: Option<Change<Interior>>,
-        contests: &mut Contests,
-        journal: &mut Journal,
+        sent: Option<Change<Interior<Addr<F>>, Prefix<F>>>,
+        contests: &mut Contests<F>,
+        journal: &mut Journal<F>,
     ) -> Result<(), Memory>
         requires tree { IsTree self.old.tree }
         requires full { IsFullBut proto self.old.tree }
@@ -195,9 +204,9 @@ impl Network {
     /// were given up, the resolvers and the RIB's exit; then redistribution and all that it causes follow, and then `fib`.
     fn follow(
         &mut self,
-        sent: Option<Change<Interior>>,
-        contests: &mut Contests,
-        journal: &mut Journal,
+        sent: Option<Change<Interior<Addr<F>>, Prefix<F>>>,
+        contests: &mut Contests<F>,
+        journal: &mut Journal<F>,
     ) -> Result<(), Memory>
         requires follow { MayFollow self.old }
         requires informed { InformedOver sent contests.old self.old }
@@ -213,9 +222,9 @@ impl Network {
     /// What follows a change that came out on `int`, in its order.
     fn pass_on(
         &mut self,
-        change: &Change<Interior>,
-        contests: &mut Contests,
-        journal: &mut Journal,
+        change: &Change<Interior<Addr<F>>, Prefix<F>>,
+        contests: &mut Contests<F>,
+        journal: &mut Journal<F>,
     ) -> Result<(), Memory>
         requires follow { MayFollow self.old }
         requires informed { InformedOver (Some change.now) contests.old self.old }
@@ -235,9 +244,9 @@ impl Network {
     /// A change of the interior routes comes out on `fib`, beside the row of `ext` at its prefix.
     fn take_interior(
         &self,
-        change: &Change<Interior>,
-        contests: &Contests,
-        journal: &mut Journal,
+        change: &Change<Interior<Addr<F>>, Prefix<F>>,
+        contests: &Contests<F>,
+        journal: &mut Journal<F>,
     ) -> Result<(), Memory>
         requires readers { HaveReaders self.now }
         requires informed { Informed contests.now self.now }
@@ -254,7 +263,7 @@ impl Network {
     }
 
     /// The register takes a change of `int` over, and each client hears of its interests that were given up. Nothing is said.
-    fn inform(&mut self, change: &Change<Interior>) -> Result<(), Memory>
+    fn inform(&mut self, change: &Change<Interior<Addr<F>>, Prefix<F>>) -> Result<(), Memory>
         requires hops { IsHops self.old.hops }
         requires rib { IsExit self.old.rib }
         ensures { OnOk result (Informs change.now self.old self.new) }
@@ -271,8 +280,8 @@ impl Network {
         &mut self,
         proto: Proto,
         loss: u32,
-        contests: &mut Contests,
-        journal: &mut Journal,
+        contests: &mut Contests<F>,
+        journal: &mut Journal<F>,
     ) -> Result<Done, Memory>
         requires stands { Stands self.old }
         requires informed { Informed contests.old self.old }
@@ -290,9 +299,9 @@ impl Network {
     fn turned(
         &mut self,
         proto: Proto,
-        sent: Option<Change<Interior>>,
-        contests: &mut Contests,
-        journal: &mut Journal,
+        sent: Option<Change<Interior<Addr<F>>, Prefix<F>>>,
+        contests: &mut Contests<F>,
+        journal: &mut Journal<F>,
     ) -> Result<Done, Memory>
         requires tree { IsTree self.old.tree }
         requires full { IsFullBut proto self.old.tree }
@@ -308,7 +317,7 @@ impl Network {
 }
 
 /// The prefix of a match.
-fn prefix_of(found: &Option<(Prefix, &Interior)>) -> Option<Prefix>
+fn prefix_of<F: Family>(found: &Option<(Prefix<F>, &Interior<Addr<F>>)>) -> Option<Prefix<F>>
     ensures { result ≡ matched (lent_match found.now) }
 {
     match found {
@@ -318,11 +327,11 @@ fn prefix_of(found: &Option<(Prefix, &Interior)>) -> Option<Prefix>
 }
 
 /// The register takes a change over, and gives up the interests that it reaches.
-fn register(
-    registry: &mut Register<Interior>,
+fn register<F: Family>(
+    registry: &mut Register<Interior<Addr<F>>, F>,
     alloc: Global,
-    change: &Change<Interior>,
-) -> Result<Vec<Interest>, Memory>
+    change: &Change<Interior<Addr<F>>, Prefix<F>>,
+) -> Result<Vec<Interest<Prefix<F>>>, Memory>
     ensures { IfOk result (λ reached. Registers change.now reached.items registry.old registry.new) }
 {
     match change.after {

@@ -17,15 +17,16 @@ use addr4::{Memory, Prefix};
 use bgp_attr::SharedAttrs;
 use decision::Contests;
 use journal_text::Journal;
+use peer_out::Writes;
 
-impl Network {
+impl<F: Writes> Network<F> {
     /// The prefixes of an UPDATE from a peer that is up are announced and withdrawn, one after the other.
     pub(crate) fn feed(
         &mut self,
         number: u32,
-        changes: &[(Prefix, Option<SharedAttrs>)],
-        contests: &mut Contests,
-        journal: &mut Journal,
+        changes: &[(Prefix<F>, Option<SharedAttrs<F>>)],
+        contests: &mut Contests<F>,
+        journal: &mut Journal<F>,
     ) -> Result<(), Memory>
         requires stands { Stands self.old }
         requires up { IsUpAt number self.old }
@@ -44,10 +45,10 @@ impl Network {
     fn feed_one(
         &mut self,
         number: u32,
-        prefix: Prefix,
-        row: Option<SharedAttrs>,
-        contests: &mut Contests,
-        journal: &mut Journal,
+        prefix: Prefix<F>,
+        row: Option<SharedAttrs<F>>,
+        contests: &mut Contests<F>,
+        journal: &mut Journal<F>,
     ) -> Result<(), Memory>
         requires stands { Stands self.old }
         requires up { IsUpAt number self.old }
@@ -70,8 +71,8 @@ impl Network {
         &mut self,
         number: u32,
         session: u32,
-        contests: &mut Contests,
-        journal: &mut Journal,
+        contests: &mut Contests<F>,
+        journal: &mut Journal<F>,
     ) -> Result<(), Memory>
         requires stands { Stands self.old }
         requires up { IsSession number session self.old }
@@ -90,8 +91,8 @@ impl Network {
     fn make_room(
         &mut self,
         number: u32,
-        contests: &mut Contests,
-        journal: &mut Journal,
+        contests: &mut Contests<F>,
+        journal: &mut Journal<F>,
     ) -> Result<(), Memory>
         requires stands { Stands self.old }
         requires there { IsSome (chain_at number self.old.chains) }
@@ -112,7 +113,7 @@ impl Network {
         &mut self,
         number: u32,
         session: u32,
-        journal: &mut Journal,
+        journal: &mut Journal<F>,
     ) -> Result<(), Memory>
         requires stands { Stands self.old }
         requires up { IsSession number session self.old }

@@ -21,18 +21,20 @@ ghost use Rattle.router_core.specs.Informed.{Informed};
 use crate::network::Network;
 use crate::peers::said;
 use crate::updates::changes;
-use addr4::{Memory, Prefix};
+use addr4::{Addr, Memory, Prefix, Texts, V4};
 use bgp_attr::{Octets, Profile, Speaker};
 use bgp_wire::{Message, Notice, write_notification};
 use decision::Contests;
 use event_text::{DeclaredPeer, Event};
 use journal_text::{Journal, Line, Link, Task};
+use peer_out::Writes;
 use policy_rules::Rules;
 use rib_route::Proto;
 use router_moments::Idle;
 use std::alloc::Global;
 
-impl Network {
+// Events and messages are IPv4's.
+impl Network<V4> {
     /// Steps an event, and makes the text of its lines. Answers how many turns `work` or `idle` took.
     pub(crate) fn step(
         &mut self,
@@ -72,218 +74,6 @@ impl Network {
             Event::Ask(link, p) => self.look_up(link, p, contests, journal),
             Event::Show(link) => self.list(link, contests, journal),
         }
-    }
-
-    /// A line without words changes nothing.
-    fn nothing(&mut self, journal: &mut Journal) -> Result<u128, Memory>
-        requires { Stands self.old }
-        ensures { IfOk result (λ turns. Gives (HasStepped self.old events.Nothing turns self.new) journal.old journal.new) }
-    {
-        journal.flush()?;
-        Ok(0)
-    }
-
-    /// AS numbers have four octets, in the whole file and in all messages (RFC 6793).
-    fn four_octets(&mut self, journal: &mut Journal) -> Result<u128, Memory>
-        requires admitted { refusal self.old.declared events.As4 ≡ None }
-        requires stands { Stands self.old }
-        ensures { IfOk result (λ turns. Gives (HasStepped self.old events.As4 turns self.new) journal.old journal.new) }
-    {
-        let Profile {
-            revised,
-            reflect,
-            ..
-        } = self.profile();
-        self.set_profile(Profile {
-            as4: true,
-            revised,
-            reflect,
-        });
-        journal.flush()?;
-        Ok(0)
-    }
-
-    /// Errors in attributes are handled by the revised table (in the manner of RFC 7606).
-    fn revised(&mut self, journal: &mut Journal) -> Result<u128, Memory>
-        requires admitted { refusal self.old.declared events.Revised ≡ None }
-        requires stands { Stands self.old }
-        ensures { IfOk result (λ turns. Gives (HasStepped self.old events.Revised turns self.new) journal.old journal.new) }
-    {
-        let Profile { as4, reflect, .. } = self.profile();
-        self.set_profile(Profile {
-            as4,
-            revised: true,
-            reflect,
-        });
-        journal.flush()?;
-        Ok(0)
-    }
-
-    /// This speaker is a route reflector (RFC 4456).
-    fn reflect(&mut self, journal: &mut Journal) -> Result<u128, Memory>
-        requires admitted { refusal self.old.declared events.Reflect ≡ None }
-        requires stands { Stands self.old }
-        ensures { IfOk result (λ turns. Gives (HasStepped self.old events.Reflect turns self.new) journal.old journal.new) }
-    {
-        let Profile { as4, revised, .. } = self.profile();
-        self.set_profile(Profile {
-            as4,
-            revised,
-            reflect: true,
-        });
-        journal.flush()?;
-        Ok(0)
-    }
-
-    fn local(&mut self, words: Speaker, journal: &mut Journal) -> Result<u128, Memory>
-        requires admitted { refusal self.old.declared (events.Local words) ≡ None }
-        requires stands { Stands self.old }
-        requires formed { IsWellFormed self.old.declared.profile (events.Local words) }
-        ensures { IfOk result (λ turns. Gives (HasStepped self.old (events.Local words) turns self.new) journal.old journal.new) }
-    {
-        self.declare_speaker(words, journal)?;
-        journal.flush()?;
-        Ok(0)
-    }
-
-    fn peer(
-        &mut self,
-        number: u32,
-        words: Speaker,
-        client: bool,
-        journal: &mut Journal,
-    ) -> Result<u128, Memory>
-        requires admitted { refusal self.old.declared (events.Peer number words client) ≡ None }
-        requires stands { Stands self.old }
-        requires formed { IsWellFormed self.old.declared.profile (events.Peer number words client) }
-        ensures { IfOk result (λ turns. Gives (HasStepped self.old (events.Peer number words client) turns self.new) journal.old journal.new) }
-    {
-        self.declare_peer(number, words, client, journal)?;
-        journal.flush()?;
-        Ok(0)
-    }
-
-    fn up(&mut self, number: u32, journal: &mut Journal) -> Result<u128, Memory>
-        requires admitted { refusal self.old.declared (events.Up number) ≡ None }
-        requires stands { Stands self.old }
-        ensures { IfOk result (λ turns. Gives (HasStepped self.old (events.Up number) turns self.new) journal.old journal.new) }
-    {
-        self.begin_session(number, journal)?;
-        journal.flush()?;
-        Ok(0)
-    }
-
-    fn filter_in(
-        &mut self,
-        number: u32,
-        rules: Rules,
-        journal: &mut Journal,
-    ) -> Result<u128, Memory>
-        requires admitted { refusal self.old.declared (events.FilterIn number rules) ≡ None }
-        requires stands { Stands self.old }
-        ensures { IfOk result (λ turns. Gives (HasStepped self.old (events.FilterIn number rules) turns self.new) journal.old journal.new) }
-    {
-        self.edit_incoming(number, rules);
-        journal.flush()?;
-        Ok(0)
-    }
-
-    fn filter_out(
-        &mut self,
-        number: u32,
-        rules: Rules,
-        journal: &mut Journal,
-    ) -> Result<u128, Memory>
-        requires admitted { refusal self.old.declared (events.FilterOut number rules) ≡ None }
-        requires stands { Stands self.old }
-        ensures { IfOk result (λ turns. Gives (HasStepped self.old (events.FilterOut number rules) turns self.new) journal.old journal.new) }
-    {
-        self.edit_outgoing(number, rules)?;
-        journal.flush()?;
-        Ok(0)
-    }
-
-    fn redistribution(
-        &mut self,
-        proto: Proto,
-        on: bool,
-        journal: &mut Journal,
-    ) -> Result<u128, Memory>
-        requires admitted { refusal self.old.declared (events.Redist proto on) ≡ None }
-        requires stands { Stands self.old }
-        ensures { IfOk result (λ turns. Gives (HasStepped self.old (events.Redist proto on) turns self.new) journal.old journal.new) }
-    {
-        self.edit_own(proto, on);
-        journal.flush()?;
-        Ok(0)
-    }
-
-    fn look_up(
-        &mut self,
-        link: Link,
-        p: Prefix,
-        contests: &Contests,
-        journal: &mut Journal,
-    ) -> Result<u128, Memory>
-        requires stands { Stands self.old }
-        requires informed { Informed contests.now self.old }
-        ensures { IfOk result (λ turns. Gives (HasStepped self.old (events.Ask link p) turns self.new) journal.old journal.new) }
-    {
-        self.prepare()?;
-        self.ask(link, p, contests, journal)?;
-        journal.flush()?;
-        Ok(0)
-    }
-
-    fn list(
-        &mut self,
-        link: Link,
-        contests: &Contests,
-        journal: &mut Journal,
-    ) -> Result<u128, Memory>
-        requires stands { Stands self.old }
-        requires informed { Informed contests.now self.old }
-        ensures { IfOk result (λ turns. Gives (HasStepped self.old (events.Show link) turns self.new) journal.old journal.new) }
-    {
-        self.prepare()?;
-        self.show(link, contests, journal)?;
-        journal.flush()?;
-        Ok(0)
-    }
-
-    fn idle_turns(&mut self, contests: &mut Contests, journal: &mut Journal) -> Result<u128, Memory>
-        requires stands { Stands self.old }
-        requires exits { AllHaveExits self.old }
-        requires informed { Informed contests.old self.old }
-        ensures steps { IfOk result (λ turns. Gives (HasStepped self.old events.Idle turns self.new) journal.old journal.new) }
-        ensures informed { OnOk result (Informed contests.new self.new) }
-    {
-        let idle = self.idle(contests, journal)?;
-        Ok(idle.turns)
-    }
-
-    /// A peer's session ends; `ignored` where none is up.
-    fn down(
-        &mut self,
-        number: u32,
-        contests: &mut Contests,
-        journal: &mut Journal,
-    ) -> Result<u128, Memory>
-        requires admitted { refusal self.old.declared (events.Down number) ≡ None }
-        requires stands { Stands self.old }
-        requires exits { AllHaveExits self.old }
-        requires informed { Informed contests.old self.old }
-        ensures steps { IfOk result (λ turns. Gives (HasStepped self.old (events.Down number) turns self.new) journal.old journal.new) }
-        ensures informed { OnOk result (Informed contests.new self.new) }
-    {
-        let Some(peer) = self.declared.peer(number) else {
-            unreachable!()
-        };
-        if !peer.up {
-            return ignored(journal);
-        }
-        self.lose(number, peer.session, contests, journal)?;
-        Ok(0)
     }
 
     /// A message came from a peer; `ignored` where it is down.
@@ -373,12 +163,230 @@ impl Network {
             }
         }
     }
+}
+
+impl<F: Writes> Network<F> {
+    /// A line without words changes nothing.
+    fn nothing(&mut self, journal: &mut Journal<F>) -> Result<u128, Memory>
+        requires { Stands self.old }
+        ensures { IfOk result (λ turns. Gives (HasStepped self.old events.Nothing turns self.new) journal.old journal.new) }
+    {
+        journal.flush()?;
+        Ok(0)
+    }
+
+    /// AS numbers have four octets, in the whole file and in all messages (RFC 6793).
+    fn four_octets(&mut self, journal: &mut Journal<F>) -> Result<u128, Memory>
+        requires admitted { refusal self.old.declared events.As4 ≡ None }
+        requires stands { Stands self.old }
+        ensures { IfOk result (λ turns. Gives (HasStepped self.old events.As4 turns self.new) journal.old journal.new) }
+    {
+        let Profile {
+            revised,
+            reflect,
+            ..
+        } = self.profile();
+        self.set_profile(Profile {
+            as4: true,
+            revised,
+            reflect,
+        });
+        journal.flush()?;
+        Ok(0)
+    }
+
+    /// Errors in attributes are handled by the revised table (in the manner of RFC 7606).
+    fn revised(&mut self, journal: &mut Journal<F>) -> Result<u128, Memory>
+        requires admitted { refusal self.old.declared events.Revised ≡ None }
+        requires stands { Stands self.old }
+        ensures { IfOk result (λ turns. Gives (HasStepped self.old events.Revised turns self.new) journal.old journal.new) }
+    {
+        let Profile { as4, reflect, .. } = self.profile();
+        self.set_profile(Profile {
+            as4,
+            revised: true,
+            reflect,
+        });
+        journal.flush()?;
+        Ok(0)
+    }
+
+    /// This speaker is a route reflector (RFC 4456).
+    fn reflect(&mut self, journal: &mut Journal<F>) -> Result<u128, Memory>
+        requires admitted { refusal self.old.declared events.Reflect ≡ None }
+        requires stands { Stands self.old }
+        ensures { IfOk result (λ turns. Gives (HasStepped self.old events.Reflect turns self.new) journal.old journal.new) }
+    {
+        let Profile { as4, revised, .. } = self.profile();
+        self.set_profile(Profile {
+            as4,
+            revised,
+            reflect: true,
+        });
+        journal.flush()?;
+        Ok(0)
+    }
+
+    fn local(&mut self, words: Speaker<Addr<F>>, journal: &mut Journal<F>) -> Result<u128, Memory>
+        requires admitted { refusal self.old.declared (events.Local words) ≡ None }
+        requires stands { Stands self.old }
+        requires formed { IsWellFormed self.old.declared.profile (events.Local words) }
+        ensures { IfOk result (λ turns. Gives (HasStepped self.old (events.Local words) turns self.new) journal.old journal.new) }
+    {
+        self.declare_speaker(words, journal)?;
+        journal.flush()?;
+        Ok(0)
+    }
+
+    fn peer(
+        &mut self,
+        number: u32,
+        words: Speaker,
+        client: bool,
+        journal: &mut Journal<F>,
+    ) -> Result<u128, Memory>
+        requires admitted { refusal self.old.declared (events.Peer number words client) ≡ None }
+        requires stands { Stands self.old }
+        requires formed { IsWellFormed self.old.declared.profile (events.Peer number words client) }
+        ensures { IfOk result (λ turns. Gives (HasStepped self.old (events.Peer number words client) turns self.new) journal.old journal.new) }
+    {
+        self.declare_peer(number, words, client, journal)?;
+        journal.flush()?;
+        Ok(0)
+    }
+
+    fn up(&mut self, number: u32, journal: &mut Journal<F>) -> Result<u128, Memory>
+        requires admitted { refusal self.old.declared (events.Up number) ≡ None }
+        requires stands { Stands self.old }
+        ensures { IfOk result (λ turns. Gives (HasStepped self.old (events.Up number) turns self.new) journal.old journal.new) }
+    {
+        self.begin_session(number, journal)?;
+        journal.flush()?;
+        Ok(0)
+    }
+
+    fn filter_in(
+        &mut self,
+        number: u32,
+        rules: Rules<F>,
+        journal: &mut Journal<F>,
+    ) -> Result<u128, Memory>
+        requires admitted { refusal self.old.declared (events.FilterIn number rules) ≡ None }
+        requires stands { Stands self.old }
+        ensures { IfOk result (λ turns. Gives (HasStepped self.old (events.FilterIn number rules) turns self.new) journal.old journal.new) }
+    {
+        self.edit_incoming(number, rules);
+        journal.flush()?;
+        Ok(0)
+    }
+
+    fn filter_out(
+        &mut self,
+        number: u32,
+        rules: Rules<F>,
+        journal: &mut Journal<F>,
+    ) -> Result<u128, Memory>
+        requires admitted { refusal self.old.declared (events.FilterOut number rules) ≡ None }
+        requires stands { Stands self.old }
+        ensures { IfOk result (λ turns. Gives (HasStepped self.old (events.FilterOut number rules) turns self.new) journal.old journal.new) }
+    {
+        self.edit_outgoing(number, rules)?;
+        journal.flush()?;
+        Ok(0)
+    }
+
+    fn redistribution(
+        &mut self,
+        proto: Proto,
+        on: bool,
+        journal: &mut Journal<F>,
+    ) -> Result<u128, Memory>
+        requires admitted { refusal self.old.declared (events.Redist proto on) ≡ None }
+        requires stands { Stands self.old }
+        ensures { IfOk result (λ turns. Gives (HasStepped self.old (events.Redist proto on) turns self.new) journal.old journal.new) }
+    {
+        self.edit_own(proto, on);
+        journal.flush()?;
+        Ok(0)
+    }
+
+    fn look_up(
+        &mut self,
+        link: Link,
+        p: Prefix<F>,
+        contests: &Contests<F>,
+        journal: &mut Journal<F>,
+    ) -> Result<u128, Memory>
+        requires stands { Stands self.old }
+        requires informed { Informed contests.now self.old }
+        ensures { IfOk result (λ turns. Gives (HasStepped self.old (events.Ask link p) turns self.new) journal.old journal.new) }
+    {
+        self.prepare()?;
+        self.ask(link, p, contests, journal)?;
+        journal.flush()?;
+        Ok(0)
+    }
+
+    fn list(
+        &mut self,
+        link: Link,
+        contests: &Contests<F>,
+        journal: &mut Journal<F>,
+    ) -> Result<u128, Memory>
+        requires stands { Stands self.old }
+        requires informed { Informed contests.now self.old }
+        ensures { IfOk result (λ turns. Gives (HasStepped self.old (events.Show link) turns self.new) journal.old journal.new) }
+    {
+        self.prepare()?;
+        self.show(link, contests, journal)?;
+        journal.flush()?;
+        Ok(0)
+    }
+
+    fn idle_turns(
+        &mut self,
+        contests: &mut Contests<F>,
+        journal: &mut Journal<F>,
+    ) -> Result<u128, Memory>
+        requires stands { Stands self.old }
+        requires exits { AllHaveExits self.old }
+        requires informed { Informed contests.old self.old }
+        ensures steps { IfOk result (λ turns. Gives (HasStepped self.old events.Idle turns self.new) journal.old journal.new) }
+        ensures informed { OnOk result (Informed contests.new self.new) }
+    {
+        let idle = self.idle(contests, journal)?;
+        Ok(idle.turns)
+    }
+
+    /// A peer's session ends; `ignored` where none is up.
+    fn down(
+        &mut self,
+        number: u32,
+        contests: &mut Contests<F>,
+        journal: &mut Journal<F>,
+    ) -> Result<u128, Memory>
+        requires admitted { refusal self.old.declared (events.Down number) ≡ None }
+        requires stands { Stands self.old }
+        requires exits { AllHaveExits self.old }
+        requires informed { Informed contests.old self.old }
+        ensures steps { IfOk result (λ turns. Gives (HasStepped self.old (events.Down number) turns self.new) journal.old journal.new) }
+        ensures informed { OnOk result (Informed contests.new self.new) }
+    {
+        let Some(peer) = self.declared.peer(number) else {
+            unreachable!()
+        };
+        if !peer.up {
+            return ignored(journal);
+        }
+        self.lose(number, peer.session, contests, journal)?;
+        Ok(0)
+    }
 
     /// Every task runs to its end.
     pub(crate) fn idle(
         &mut self,
-        contests: &mut Contests,
-        journal: &mut Journal,
+        contests: &mut Contests<F>,
+        journal: &mut Journal<F>,
     ) -> Result<Idle, Memory>
         requires stands { Stands self.old }
         requires exits { AllHaveExits self.old }
@@ -399,8 +407,8 @@ impl Network {
         &mut self,
         task: Task,
         most: u32,
-        contests: &mut Contests,
-        journal: &mut Journal,
+        contests: &mut Contests<F>,
+        journal: &mut Journal<F>,
     ) -> Result<u128, Memory>
         requires stands { Stands self.old }
         requires informed { Informed contests.old self.old }
@@ -415,7 +423,7 @@ impl Network {
 }
 
 /// The line of an event that changes nothing, and its text. No turns are taken.
-pub(crate) fn ignored(journal: &mut Journal) -> Result<u128, Memory>
+pub(crate) fn ignored<F: Texts>(journal: &mut Journal<F>) -> Result<u128, Memory>
     ensures { IfOk result (λ turns. (turns ≡ 0) × (journal.new ≡ flushed (with_lines journal.old (lines.Ignored ∷ [])))) }
 {
     journal.push_line(Line::Ignored)?;

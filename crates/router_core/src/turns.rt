@@ -13,16 +13,17 @@ use crate::network::{Network, plus};
 use addr4::Memory;
 use decision::Contests;
 use journal_text::{Journal, Task};
+use peer_out::Writes;
 use router_moments::{Done, Phase, only_work_holds_up, rows_at_rest_are_exact};
 
-impl Network {
+impl<F: Writes> Network<F> {
     /// One turn of a task, and the text of its lines. Each task's turn stays a function of its own, so that one pays for its own
     /// locals and not for those of all.
     pub(crate) fn turn(
         &mut self,
         task: Task,
-        contests: &mut Contests,
-        journal: &mut Journal,
+        contests: &mut Contests<F>,
+        journal: &mut Journal<F>,
     ) -> Result<Done, Memory>
         requires stands { Stands self.old }
         requires informed { Informed contests.old self.old }
@@ -46,8 +47,8 @@ impl Network {
         &mut self,
         task: Task,
         most: u128,
-        contests: &mut Contests,
-        journal: &mut Journal,
+        contests: &mut Contests<F>,
+        journal: &mut Journal<F>,
     ) -> Result<u128, Memory>
         requires stands { Stands self.old }
         requires informed { Informed contests.old self.old }
@@ -68,8 +69,8 @@ impl Network {
     pub(crate) fn drain_task(
         &mut self,
         task: Task,
-        contests: &mut Contests,
-        journal: &mut Journal,
+        contests: &mut Contests<F>,
+        journal: &mut Journal<F>,
     ) -> Result<u128, Memory>
         requires stands { Stands self.old }
         requires informed { Informed contests.old self.old }
@@ -109,8 +110,8 @@ impl Network {
     pub(crate) fn drain(
         &mut self,
         phase: Phase,
-        contests: &mut Contests,
-        journal: &mut Journal,
+        contests: &mut Contests<F>,
+        journal: &mut Journal<F>,
     ) -> Result<u128, Memory>
         requires stands { Stands self.old }
         requires informed { Informed contests.old self.old }
@@ -128,8 +129,8 @@ impl Network {
     /// Phase after phase, each to its end.
     pub(crate) fn drain_all(
         &mut self,
-        contests: &mut Contests,
-        journal: &mut Journal,
+        contests: &mut Contests<F>,
+        journal: &mut Journal<F>,
     ) -> Result<u128, Memory>
         requires stands { Stands self.old }
         requires exits { AllHaveExits self.old }

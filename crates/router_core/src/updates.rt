@@ -7,7 +7,7 @@ ghost use Rattle.bgp_attr.specs.Hosts.{is_host_prefix};
 ghost use Rattle.bgp_wire.specs.Grammar.{without};
 ghost use Rattle.live_state.specs.Messages.{announced_with, changes_of, withdrawn_from};
 
-use addr4::{Memory, Prefix, Row};
+use addr4::{Family, Memory, Prefix, Row};
 use bgp_attr::{Attrs, SharedAttrs, is_host_prefix};
 use bgp_wire::Update;
 use std::alloc::Global;
@@ -60,7 +60,9 @@ fn shared(alloc: Global, attrs: Option<Attrs>) -> Result<Option<SharedAttrs>, Me
 }
 
 /// The same attributes once more. Takes no memory.
-pub(crate) fn again(attrs: &Option<SharedAttrs>) -> Result<Option<SharedAttrs>, Memory>
+pub(crate) fn again<F: Family>(
+    attrs: &Option<SharedAttrs<F>>,
+) -> Result<Option<SharedAttrs<F>>, Memory>
     ensures { IfOk result (λ again. again ≡ attrs.now) }
 {
     match attrs {

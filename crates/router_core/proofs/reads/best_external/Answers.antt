@@ -1,10 +1,13 @@
-use Rattle.router_moments.proofs.Common.{sym, ap, ◌∙◌}
+use Rattle.router_moments.proofs.Common.{sym, subst, ap, ◌∙◌, ◌≡◌, best_rows}
+use Rattle.decision.specs.Branches.{AllRows}
 use Rattle.decision.specs.Lineups.{at_prefix, chosen}
 use Rattle.rib_split.specs.Splitting.{external_row}
-use Rattle.router_core.proofs.Lents.{rows_lent}
+use Rattle.router_core.specs.Informed.{rows_lent}
 use Rattle.router_core.proofs.reads.best_external.Goals as goal
 
 pub returns : goal.returns
-returns c =
-    let here = at_prefix (rows_lent c.args.best.now.all.now) c.args.p.now in
-    c.external.ensures ∙ sym (ap external_row (c.winner.ensures ∙ ap (chosen here) c.in_ok-winner.was))
+returns g c =
+    let p = c.args.p.now in
+    let won = subst (λ (rows : AllRows). best_rows rows p ≡ chosen (at_prefix rows p) c.winner.result) c.requires c.winner.ensures in
+    c.external.ensures ∙ sym (ap external_row (won ∙ ap (chosen (at_prefix (rows_lent c.args.lent.now) p)) c.in_ok-winner.was))
+    ∙ ap (λ (rows : AllRows). external_row (best_rows rows p)) (sym c.requires)

@@ -6,7 +6,7 @@ use Rattle.router_core.proofs.ExternalRows.{one_needed}
 use Rattle.router_core.proofs.best.Lent.external.Goals as goal
 
 pub returns : goal.returns
-returns c =
+returns g c =
     let l = c.args.self.now in
     let hop = c.in_ok-next_hop.next_hop in
     c.external_of.ensures ∙ ap (λ (peer : Neighbour). external_of (Some peer) hop) c.peer.ensures

@@ -6,7 +6,7 @@ use Rattle.router_core.proofs.StepLemmas.{covered}
 use Rattle.router_core.proofs.network.Network.cover.Goals as goal
 
 pub returns : goal.returns
-returns c =
+returns g c =
     covered c.args.self.now c.args.address (lent_match c.peek-found.result.0) c.peek-found.result.1 c.prefix_of.result c.args.journal.now c.push_line.new.self c.flush.new.self c.requires
     (subst (λ (m : Moment). IsCover width (tables.get m.registry.rows) c.args.address (lent_match c.peek-found.result.0) c.peek-found.result.1) c.self.view_is c.peek-found.ensures)
     c.prefix_of.ensures c.in_ok-push_line.ensures c.in_ok-flush.ensures.ok

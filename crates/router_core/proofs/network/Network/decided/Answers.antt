@@ -4,7 +4,7 @@ use Rattle.router_core.proofs.ShownRows.{has_best}
 use Rattle.router_core.proofs.network.Network.decided.Goals as goal
 
 pub returns-in-Some : goal.returns-in-Some
-returns-in-Some c = has_best c.args.self.now c.args.link c.args.p (Some c.in-Some.route) c.requires.live (sym c.in-Some.is ∙ c.in_ok-route.ensures)
+returns-in-Some g c = has_best c.args.self.now c.args.link c.args.p (Some c.in-Some.route) c.requires.live (sym c.in-Some.is ∙ c.in_ok-route.ensures)
 
 pub returns-in-None : goal.returns-in-None
-returns-in-None c = has_best c.args.self.now c.args.link c.args.p None c.requires.live (sym c.in-None.is ∙ c.in_ok-route.ensures)
+returns-in-None g c = has_best c.args.self.now c.args.link c.args.p None c.requires.live (sym c.in-None.is ∙ c.in_ok-route.ensures)

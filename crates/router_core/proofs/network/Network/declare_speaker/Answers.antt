@@ -3,13 +3,13 @@ use Rattle.router_core.proofs.LocalLemmas.{local_declared, nothing_external, spe
 use Rattle.router_core.proofs.network.Network.declare_speaker.Goals as goal
 
 pub begin-requires : goal.begin-requires
-begin-requires c =
+begin-requires g c =
     ap (λ (x : Moment). x.rib) c.self-2.view_is
     ∙ nothing_external c.args.self.now _ c.begin_reading.new.self c.args.words c.begin_rib.new.journal c.begin_reading.new.journal c.requires.stands c.requires.admitted
     (speaker_is c.args.self.now _ c.args.words c.set_speaker.new.self c.self.view_is c.set_speaker.ensures.value) c.in_ok-begin_reading.ensures
 
 pub returns : goal.returns
-returns c =
+returns g c =
     on_ok_weaker c.begin.result
     (local_declared c.a_stranger_reads.ensures.joins c.args.self.now _ c.begin_reading.new.self c.args.words c.args.journal.now c.begin_rib.new.journal c.begin_reading.new.journal c.begin.new.journal c.requires.stands c.requires.admitted c.requires.formed
     (speaker_is c.args.self.now _ c.args.words c.set_speaker.new.self c.self.view_is c.set_speaker.ensures.value) c.in_ok-begin_rib.ensures c.in_ok-begin_reading.ensures)

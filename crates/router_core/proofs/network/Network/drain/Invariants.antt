@@ -4,10 +4,10 @@ use Rattle.router_core.specs.Informed.{Informed}
 use Rattle.router_core.proofs.network.Network.drain.Given as goal
 
 abbrev pub invariant-loop-task : goal.invariant-loop-task
-invariant-loop-task l = record {
+invariant-loop-task g l = record {
   given : HaveGivenOf l.phase l.turns l.fn.self l.self l.fn.journal l.journal;
   informed : Informed l.contests l.self;
 }
 
 abbrev pub decreases-loop-task : goal.decreases-loop-task
-decreases-loop-task l = counts l.self l.phase
+decreases-loop-task g l = counts l.self l.phase

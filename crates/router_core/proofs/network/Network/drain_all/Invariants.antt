@@ -4,7 +4,7 @@ use Rattle.router_core.specs.Informed.{Informed}
 use Rattle.router_core.proofs.network.Network.drain_all.Given as goal
 
 abbrev pub invariant-loop-i : goal.invariant-loop-i
-invariant-loop-i l = record {
+invariant-loop-i g l = record {
   given : Gives (Idling l.i l.turns l.fn.self l.self) l.fn.journal l.journal;
   informed : Informed l.contests l.self;
 }

@@ -4,14 +4,14 @@ use Rattle.router_moments.proofs.RunLemmas.{HaveGiven, given_none, given_more, g
 use Rattle.router_core.proofs.network.Network.drain_task.Goals as goal
 
 pub rest-init : goal.rest-init
-rest-init c = record {
+rest-init g c = record {
   given =
       given_none c.args.task c.args.self.now c.args.journal.now c.flush.new.self c.in_ok-flush.ensures.ok;
   informed = c.requires.informed;
 }
 
 pub rest-preserved : goal.rest-preserved
-rest-preserved c = record {
+rest-preserved g c = record {
   given =
       subst (λ (n : ℕ). HaveGiven c.args.task n c.args.self.now c.turn.new.self c.args.journal.now c.turn.new.journal) (sym c.in_ok-turns-in-Taken.ensures)
       (given_more c.args.task c.rest.turns c.args.self.now c.rest.self c.turn.new.self c.args.journal.now c.rest.journal c.turn.new.journal c.rest.invariant.given
@@ -20,9 +20,9 @@ rest-preserved c = record {
 }
 
 pub rest-smaller : goal.rest-smaller
-rest-smaller c =
+rest-smaller g c =
     turn_less c.args.task c.rest.self c.turn.new.self c.rest.journal c.turn.new.journal
     (given_stands c.args.task c.rest.turns c.args.self.now c.rest.self c.args.journal.now c.rest.journal c.requires.stands c.rest.invariant.given) (subst (λ (d : Done). TakesTurn c.args.task c.rest.self c.turn.new.self c.rest.journal c.turn.new.journal d) c.in-Taken.is c.in_ok-turn.ensures.taken)
 
 pub turn-requires-clause-stands : goal.turn-requires-clause-stands
-turn-requires-clause-stands c = given_stands c.args.task c.rest.turns c.args.self.now c.rest.self c.args.journal.now c.rest.journal c.requires.stands c.rest.invariant.given
+turn-requires-clause-stands g c = given_stands c.args.task c.rest.turns c.args.self.now c.rest.self c.args.journal.now c.rest.journal c.requires.stands c.rest.invariant.given

@@ -4,10 +4,10 @@ use Rattle.router_core.specs.Informed.{Informed}
 use Rattle.router_core.proofs.network.Network.drain_task.Given as goal
 
 abbrev pub invariant-rest : goal.invariant-rest
-invariant-rest l = record {
+invariant-rest g l = record {
   given : HaveGiven l.task l.turns l.fn.self l.self l.fn.journal l.journal;
   informed : Informed l.contests l.self;
 }
 
 abbrev pub decreases-rest : goal.decreases-rest
-decreases-rest l = counts l.self (phase_of l.task)
+decreases-rest g l = counts l.self (phase_of l.task)

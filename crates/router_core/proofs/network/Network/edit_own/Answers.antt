@@ -3,4 +3,4 @@ use Rattle.router_core.proofs.RedistEdits.{own_is_edited}
 use Rattle.router_core.proofs.network.Network.edit_own.Goals as goal
 
 pub returns : goal.returns
-returns c = own_is_edited c.args.self.now (the_view c.self.inside) c.args.proto c.args.on c.edit.new.self c.self.view_is c.requires.stands c.requires.admitted c.edit.ensures
+returns g c = own_is_edited c.args.self.now (the_view g.row.F g.F.Family g.F.Clone c.self.inside) c.args.proto c.args.on c.edit.new.self c.self.view_is c.requires.stands c.requires.admitted c.edit.ensures

@@ -4,7 +4,7 @@ use Rattle.router_moments.proofs.FeedLemmas.{fed_profile, pushed_more, take_pair
 use Rattle.router_core.proofs.network.Network.feed.Goals as goal
 
 pub loop-change-preserved : goal.loop-change-preserved
-loop-change-preserved c = record {
+loop-change-preserved g c = record {
   feeds =
       let more = take_pair c.args.changes.now c.loop-change.change-index c.change-item.result c.in_ok-row.row c.loop-change-test.true c.change-item.is c.in_ok-row.ensures in
       subst (λ (xs : List (AddressPrefix × Option Attrs)). Pushes (HaveFed c.args.number xs c.args.self.now c.feed_one.new.self) c.args.journal.now c.feed_one.new.journal) (sym more)
@@ -14,6 +14,6 @@ loop-change-preserved c = record {
 }
 
 pub feed_one-requires-clause-heard : goal.feed_one-requires-clause-heard
-feed_one-requires-clause-heard c =
+feed_one-requires-clause-heard g c =
     heard_at c.loop-change.self.declared.profile c.args.changes.now c.loop-change.change-index c.change-item.result c.in_ok-row.row c.loop-change-test.true c.change-item.is c.in_ok-row.ensures
     (subst (λ (f : Profile). AreHeard f c.args.changes.now) (fed_profile c.args.number _ c.args.self.now c.loop-change.self c.args.journal.now c.loop-change.journal c.loop-change.invariant.feeds) c.requires.heard)

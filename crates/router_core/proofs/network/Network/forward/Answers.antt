@@ -9,7 +9,7 @@ none_on_err : {X E : Type 0} (r : Result X E) (e : E) (P : Type 0) → r ≡ Err
 none_on_err r e P is = subst (λ s. OnOk s P) (sym is) tt
 
 pub returns : goal.returns
-returns c =
+returns g c =
     elim c.match-take_external.branch [
       | in-Ok w ↦
           on_ok c.match-take_external.result _

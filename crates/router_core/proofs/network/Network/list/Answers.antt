@@ -8,10 +8,10 @@ use Rattle.router_moments.proofs.CoreLemmas.{readers_of}
 use Rattle.router_core.proofs.network.Network.list.Goals as goal
 
 pub show-requires-clause-readers : goal.show-requires-clause-readers
-show-requires-clause-readers c = subst HaveReaders (sym c.prepare.ensures) (readers_of c.args.self.now c.requires.stands)
+show-requires-clause-readers g c = subst HaveReaders (sym c.prepare.ensures) (readers_of c.args.self.now c.requires.stands)
 
 pub returns : goal.returns
-returns c =
+returns g c =
     let m = c.prepare.new.self in
     let link = c.args.link in
     subst (λ (n : Moment). Gives (HasStepped n (events.Show link) 0 m) c.args.journal.now c.flush.new.self) c.prepare.ensures

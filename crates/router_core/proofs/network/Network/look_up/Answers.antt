@@ -7,10 +7,10 @@ use Rattle.router_moments.proofs.CoreLemmas.{readers_of}
 use Rattle.router_core.proofs.network.Network.look_up.Goals as goal
 
 pub ask-requires-clause-readers : goal.ask-requires-clause-readers
-ask-requires-clause-readers c = subst HaveReaders (sym c.prepare.ensures) (readers_of c.args.self.now c.requires.stands)
+ask-requires-clause-readers g c = subst HaveReaders (sym c.prepare.ensures) (readers_of c.args.self.now c.requires.stands)
 
 pub returns : goal.returns
-returns c =
+returns g c =
     let m = c.prepare.new.self in
     let of = router_links m c.args.link in
     subst (λ (n : Moment). Gives (HasStepped n (events.Ask c.args.link c.args.p) 0 m) c.args.journal.now c.flush.new.self) c.prepare.ensures

@@ -3,12 +3,12 @@ use Rattle.router_core.proofs.LossLemmas.{may_lose, one_ended}
 use Rattle.router_core.proofs.network.Network.lose_with_room.Goals as goal
 
 pub lose-requires-clause-sound : goal.lose-requires-clause-sound
-lose-requires-clause-sound c = peers_sound c.args.self.now _ c.self.view_is c.requires.stands
+lose-requires-clause-sound g c = peers_sound c.args.self.now _ c.self.view_is c.requires.stands
 
 pub lose-requires-clause-may : goal.lose-requires-clause-may
-lose-requires-clause-may c = may_lose c.args.number c.args.session c.args.self.now _ c.self.view_is c.requires.stands c.requires.up c.requires.free
+lose-requires-clause-may g c = may_lose c.args.number c.args.session c.args.self.now _ c.self.view_is c.requires.stands c.requires.up c.requires.free
 
 pub returns : goal.returns
-returns c =
+returns g c =
     one_ended c.args.number c.args.session c.args.self.now _ c.end_session.new.self c.lose.new.self c.args.journal.now c.lose.new.journal c.self.view_is c.requires.stands c.requires.up c.requires.silent
     c.end_session.ensures.value c.in_ok-lose.ensures

@@ -4,7 +4,7 @@ use Rattle.router_moments.proofs.RefreshTurns.{refresh_is, unserved_is}
 use Rattle.router_core.proofs.network.Network.refresh.Goals as goal
 
 pub returns-then-is_served : goal.returns-then-is_served
-returns-then-is_served c = refresh_is c.args.self.now (the_view c.self.inside) c.args.number c.args.refresh c.refresh.new.self c.self.view_is c.refresh.ensures (sym c.is_served.ensures ∙ c.if-is_served.true)
+returns-then-is_served g c = refresh_is c.args.self.now (the_view g.row.F g.F.Family g.F.Clone c.self.inside) c.args.number c.args.refresh c.refresh.new.self c.self.view_is c.refresh.ensures (sym c.is_served.ensures ∙ c.if-is_served.true)
 
 pub returns-else-is_served : goal.returns-else-is_served
-returns-else-is_served c = unserved_is c.args.self.now c.args.number c.args.refresh (sym c.is_served.ensures ∙ c.if-is_served.false)
+returns-else-is_served g c = unserved_is c.args.self.now c.args.number c.args.refresh (sym c.is_served.ensures ∙ c.if-is_served.false)

@@ -5,17 +5,17 @@ use Rattle.router_core.proofs.RouteSteps.{route_dropped, nothing_dropped}
 use Rattle.router_core.proofs.network.Network.route_del.Goals as goal
 
 pub returns-then-not-has-clause-steps : goal.returns-then-not-has-clause-steps
-returns-then-not-has-clause-steps c =
+returns-then-not-has-clause-steps g c =
     let is : c.has.result ≡ is_some (tables.get (branch_of c.args.proto c.args.self.now.tree).tables.live c.args.p) =
     c.has.ensures ∙ ap (λ (m : Moment). is_some (tables.get (branch_of c.args.proto m.tree).tables.live c.args.p)) c.self.view_is in
     let none : c.has.result ≡ false = cc in
     nothing_dropped c.ignored.result c.args.proto c.args.p c.args.self.now c.args.journal.now c.ignored.new.journal c.requires.stands (sym is ∙ none) c.ignored.ensures
 
 pub route-requires-clause-since : goal.route-requires-clause-since
-route-requires-clause-since c = speaker_since c.args.self.now.declared (RouteDel c.args.proto c.args.p) (λ e. cc) c.requires.admitted
+route-requires-clause-since g c = speaker_since c.args.self.now.declared (RouteDel c.args.proto c.args.p) (λ e. cc) c.requires.admitted
 
 pub returns-clause-steps : goal.returns-clause-steps
-returns-clause-steps c =
+returns-clause-steps g c =
     let is : c.has.result ≡ is_some (tables.get (branch_of c.args.proto c.args.self.now.tree).tables.live c.args.p) =
     c.has.ensures ∙ ap (λ (m : Moment). is_some (tables.get (branch_of c.args.proto m.tree).tables.live c.args.p)) c.self.view_is in
     let some : c.has.result ≡ true = cc in

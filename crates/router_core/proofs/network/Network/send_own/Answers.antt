@@ -3,10 +3,10 @@ use Rattle.router_moments.proofs.OwnTurns.{sends_own}
 use Rattle.router_core.proofs.network.Network.send_own.Goals as goal
 
 pub returns-clause-sends : goal.returns-clause-sends
-returns-clause-sends c = on_ok_weaker c.decide.result (sends_own c.args.sent c.args.self.now c.decide.new.self c.args.journal.now c.push_sent.new.self c.decide.new.journal c.in_ok-push_sent.ensures) c.decide.ensures.decides
+returns-clause-sends g c = on_ok_weaker c.decide.result (sends_own c.args.sent c.args.self.now c.decide.new.self c.args.journal.now c.push_sent.new.self c.decide.new.journal c.in_ok-push_sent.ensures) c.decide.ensures.decides
 
 pub returns-clause-known : goal.returns-clause-known
-returns-clause-known c = c.decide.ensures.known
+returns-clause-known g c = c.decide.ensures.known
 
 pub returns-clause-counts : goal.returns-clause-counts
-returns-clause-counts c = c.decide.ensures.counts
+returns-clause-counts g c = c.decide.ensures.counts

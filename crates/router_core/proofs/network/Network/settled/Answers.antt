@@ -7,14 +7,14 @@ use Rattle.router_core.specs.Informed.{Informed}
 use Rattle.router_core.proofs.network.Network.settled.Goals as goal
 
 pub returns : goal.returns
-returns c =
+returns g c =
     let m = c.prepare.new.self in
     subst (λ (n : Moment). Gives (HasStepped n (events.Settled c.args.p) 0 m) c.args.journal.now c.flush.new.self) c.prepare.ensures
     (settled m c.args.p c.first_held-held.result c.args.journal.now c.push_line.new.self c.flush.new.self (subst Stands (sym c.prepare.ensures) c.requires.stands) (subst AllHaveExits (sym c.prepare.ensures) c.requires.exits)
     c.the_first_task_tells.ensures c.first_held-held.ensures c.in_ok-push_line.ensures c.in_ok-flush.ensures.ok)
 
 pub first_held-held-requires-clause-stands : goal.first_held-held-requires-clause-stands
-first_held-held-requires-clause-stands c = subst Stands (sym c.prepare.ensures) c.requires.stands
+first_held-held-requires-clause-stands g c = subst Stands (sym c.prepare.ensures) c.requires.stands
 
 pub first_held-held-requires-clause-informed : goal.first_held-held-requires-clause-informed
-first_held-held-requires-clause-informed c = subst (Informed c.args.contests.now) (sym c.prepare.ensures) c.requires.informed
+first_held-held-requires-clause-informed g c = subst (Informed c.args.contests.now) (sym c.prepare.ensures) c.requires.informed

@@ -1,14 +1,14 @@
 use Rattle.router_moments.proofs.Common.{◌∙◌, ap}
 use Rattle.router_core.specs.contracts.network.Network.{the_view}
-use Rattle.router_core.proofs.Lents.{lent_known, lent_counted}
-use Rattle.router_core.proofs.ReadStands.{lent_as, read_stands}
+use Rattle.router_core.proofs.Lents.{lent_informed}
+use Rattle.router_core.proofs.ReadStands.{lent_as, parts_stand}
 use Rattle.router_core.proofs.network.Network.take_interior.Goals as goal
 
 pub best-best-requires-clause-known : goal.best-best-requires-clause-known
-best-best-requires-clause-known c = let l = c.lent-lent.ensures in lent_known c.args.contests.now c.args.self.now _ _ _ _ _ l.declared l.tree l.redist l.chains l.hops c.requires.informed
+best-best-requires-clause-known g c = (lent_informed _ c.args.self.now _ c.lent-lent.ensures c.requires.informed).knows
 
 pub best-best-requires-clause-counted : goal.best-best-requires-clause-counted
-best-best-requires-clause-counted c = let l = c.lent-lent.ensures in lent_counted c.args.contests.now c.args.self.now _ _ _ _ _ l.declared l.tree l.redist l.chains l.hops c.requires.informed
+best-best-requires-clause-counted g c = (lent_informed _ c.args.self.now _ c.lent-lent.ensures c.requires.informed).counts
 
 pub take_interior-requires : goal.take_interior-requires
-take_interior-requires c = record { stands = read_stands c.read_routes-read.result c.args.self.now (lent_as _ _ c.args.self.now (ap (λ (b : _). b.all.now) c.read_routes-read.ensures.best ∙ c.best-best.ensures) (record { declared = c.lent-lent.ensures.declared; tree = c.lent-lent.ensures.tree; redist = c.lent-lent.ensures.redist; chains = c.lent-lent.ensures.chains; hops = c.lent-lent.ensures.hops })) c.read_routes-read.ensures.exits c.read_routes-read.ensures.reader (the_view c.self.inside) c.self.view_is c.requires.readers }
+take_interior-requires g c = record { stands = parts_stand c.read_routes-read.result.exits.now _ c.read_routes-read.result.best.now.all.now c.args.self.now (lent_as _ _ c.args.self.now (ap (λ (b : _). b.all.now) c.read_routes-read.ensures.best ∙ c.best-best.ensures) c.lent-lent.ensures) c.read_routes-read.ensures.exits c.read_routes-read.ensures.reader (the_view g.row.F g.F.Family g.F.Clone c.self.inside) c.self.view_is c.requires.readers }

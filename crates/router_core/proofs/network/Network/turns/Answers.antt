@@ -4,7 +4,7 @@ use Rattle.router_moments.proofs.RunLemmas.{given_more, given_stands}
 use Rattle.router_core.proofs.network.Network.turns.Goals as goal
 
 pub loop-taken-preserved : goal.loop-taken-preserved
-loop-taken-preserved c = record {
+loop-taken-preserved g c = record {
   given =
       given_more c.args.task c.loop-taken.taken c.args.self.now c.loop-taken.self c.turn.new.self c.args.journal.now c.loop-taken.journal c.turn.new.journal c.loop-taken.invariant.given
       (subst (λ (d : Done). TakesTurn c.args.task c.loop-taken.self c.turn.new.self c.loop-taken.journal c.turn.new.journal d) c.in-Taken.is c.in_ok-turn.ensures.taken);
@@ -12,4 +12,4 @@ loop-taken-preserved c = record {
 }
 
 pub turn-requires-clause-stands : goal.turn-requires-clause-stands
-turn-requires-clause-stands c = given_stands c.args.task c.loop-taken.taken c.args.self.now c.loop-taken.self c.args.journal.now c.loop-taken.journal c.requires.stands c.loop-taken.invariant.given
+turn-requires-clause-stands g c = given_stands c.args.task c.loop-taken.taken c.args.self.now c.loop-taken.self c.args.journal.now c.loop-taken.journal c.requires.stands c.loop-taken.invariant.given

@@ -3,7 +3,7 @@ use Rattle.router_core.proofs.StepLemmas.{bgp_ignored, heard_up}
 use Rattle.std.proofs.Common.{Some, None}
 use Rattle.router_moments.proofs.HeardRows.{message_heard}
 use Rattle.live_state.proofs.AdmittedLemmas.{bgp_there}
-use Rattle.router_core.proofs.network.Network.receive.Goals as goal
+use Rattle.router_core.proofs.steps.Network+V4.receive.Goals as goal
 
 pub unreachable-requires : goal.unreachable-requires
 unreachable-requires c =

@@ -3,7 +3,7 @@ use Rattle.std.proofs.Common.{None}
 use Rattle.std.specs.Result.{IfOk}
 use Rattle.event_text.specs.declared.event.Event.TheVariants as events
 use Rattle.event_text.specs.Declarations.{refusal}
-use Rattle.router_core.proofs.network.Network.message.Goals as goal
+use Rattle.router_core.proofs.steps.Network+V4.message.Goals as goal
 
 pub receive-turns-requires-clause-admitted : goal.receive-turns-requires-clause-admitted
 receive-turns-requires-clause-admitted c = subst (λ (octets : List ℕ). refusal c.args.self.now.declared (events.Bgp c.args.number octets) ≡ None) (sym c.as_slice.ensures) c.requires.admitted

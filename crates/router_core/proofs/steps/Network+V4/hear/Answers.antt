@@ -3,7 +3,7 @@ use Rattle.bgp_wire.specs.declared.message.Message.TheVariants as messages
 use Rattle.router_moments.proofs.HeardRows.{changes_heard}
 use Rattle.router_core.proofs.StepLemmas.{nothing_heard, refresh_heard, update_heard, end_heard, fault_heard}
 use Rattle.router_core.proofs.QuietSteps.{refreshed_informed}
-use Rattle.router_core.proofs.network.Network.hear.Goals as goal
+use Rattle.router_core.proofs.steps.Network+V4.hear.Goals as goal
 
 pub feed-requires-clause-heard : goal.feed-requires-clause-heard
 feed-requires-clause-heard c =

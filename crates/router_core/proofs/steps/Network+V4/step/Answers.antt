@@ -1,5 +1,5 @@
 use Rattle.router_core.proofs.QuietSteps.{quiet_stepped}
-use Rattle.router_core.proofs.network.Network.step.Goals as goal
+use Rattle.router_core.proofs.steps.Network+V4.step.Goals as goal
 
 pub returns-in-Nothing-clause-informed : goal.returns-in-Nothing-clause-informed
 returns-in-Nothing-clause-informed c = quiet_stepped c.nothing.result _ c.args.event c.args.contests.now c.args.self.now c.nothing.new.self c.args.journal.now c.nothing.new.journal c.requires.stands c.requires.admitted c.in-Nothing.is c.nothing.ensures c.requires.informed tt
