@@ -1,6 +1,6 @@
 //! A route of this speaker's own, as an external peer gets it and as an internal one does.
 
-use addr4::{Addr, Memory, Prefix};
+use addr4::{Addr, Memory, Prefix, RouterId};
 use bgp_attr::{
     AsPath, Attrs, Origin, Profile, Reflection, Route, SharedAttrs, Speaker, UnrecognizedAttrs,
 };
@@ -53,7 +53,7 @@ fn told(alloc: Global, row: &Route, external: bool) -> Result<Option<Sent>, Memo
     };
     let me = Speaker {
         asn: 65000,
-        id: local(),
+        id: RouterId::new(0xc000_02fe),
         addr: local(),
     };
     let at = Prefix::new(Addr::new(0x0a01_0000), 16).unwrap();

@@ -1,6 +1,6 @@
 //! Attributes that are copied whole.
 
-use addr4::{Addr, Memory, Row};
+use addr4::{Addr, Memory, RouterId, Row};
 use bgp_attr::{
     AsPath, Attrs, ClusterList, Octets, Origin, Reflection, Unrecognized, UnrecognizedAttrs,
 };
@@ -8,13 +8,13 @@ use std::alloc::Global;
 use std::test::Fail;
 
 /// 192.0.2.1, which sent the route to the reflector.
-fn sender() -> Addr {
-    Addr::new(0xc000_0201)
+fn sender() -> RouterId {
+    RouterId::new(0xc000_0201)
 }
 
 /// 192.0.2.254, the reflector's cluster.
-fn cluster() -> Addr {
-    Addr::new(0xc000_02fe)
+fn cluster() -> RouterId {
+    RouterId::new(0xc000_02fe)
 }
 
 /// An attribute of this kind that isn't recognized.
