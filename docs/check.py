@@ -13,6 +13,7 @@ And by the scripts beside it, each of which says its rule at its head:
 - names.py: each file, crate, function, heading and story that a document names exists
 - manual.py: docs/replay.1 and docs/replay.bash have the commands, options and statuses of docs/LANGUAGE.md
 - believe.py: the list of definitions that the clauses of `replay` reach, in docs/PROOFS.md
+- promises.py: docs/PROMISES.md, what each public function promises
 - touches.py: how many lines name a part outside its own crate, in docs/ADDING_A_STAGE.md
 - examples.py: docs/EXAMPLES.md
 
@@ -29,6 +30,7 @@ import crate_table
 import examples
 import manual
 import names
+import promises
 import touches
 
 TOP = os.path.join(os.path.dirname(os.path.abspath(__file__)), '..')
@@ -91,6 +93,7 @@ def complaints():
     yield from ('%s: %s' % it for it in crate_table.faults())
     yield from ('%s:%d: %s' % it for it in names.faults())
     yield from ('docs/PROOFS.md:%d: %s' % it for it in believe.faults())
+    yield from ('docs/PROMISES.md:%d: %s' % it for it in promises.faults())
     yield from ('docs/ADDING_A_STAGE.md:%d: %s' % it for it in touches.faults())
     yield from ('%s: %s' % it for it in manual.faults())
     yield from examples.faults()
