@@ -14,6 +14,7 @@ And by the scripts beside it, each of which says its rule at its head:
 - manual.py: docs/replay.1 and docs/replay.bash have the commands, options and statuses of docs/LANGUAGE.md
 - believe.py: the list of definitions that the clauses of `replay` reach, in docs/PROOFS.md
 - promises.py: docs/PROMISES.md, what each public function promises
+- wrong-bodies/tried.py: the table of wrong bodies has a row for each, and docs/PROOFS.md how many were tried when
 - touches.py: how many lines name a part outside its own crate, in docs/ADDING_A_STAGE.md
 - examples.py: docs/EXAMPLES.md
 
@@ -25,6 +26,7 @@ import re
 import sys
 
 sys.dont_write_bytecode = True
+sys.path.append(os.path.join(os.path.dirname(os.path.abspath(__file__)), '..', 'wrong-bodies'))
 import believe
 import crate_table
 import examples
@@ -32,6 +34,7 @@ import manual
 import names
 import promises
 import touches
+import tried
 
 TOP = os.path.join(os.path.dirname(os.path.abspath(__file__)), '..')
 WIDTH = 100
@@ -95,6 +98,7 @@ def complaints():
     yield from ('docs/PROOFS.md:%d: %s' % it for it in believe.faults())
     yield from ('docs/PROMISES.md:%d: %s' % it for it in promises.faults())
     yield from ('docs/ADDING_A_STAGE.md:%d: %s' % it for it in touches.faults())
+    yield from ('%s:%d: %s' % it for it in tried.faults())
     yield from ('%s: %s' % it for it in manual.faults())
     yield from examples.faults()
 
