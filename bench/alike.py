@@ -2,7 +2,7 @@
 """Whether a real speaker and the program tell a table alike: alike.py [--routes 20000]. No test: it needs root and Debian's `bird2`.
 
 BIRD gets the table of `events.py` from one peer, decides, and sends it to another, whose octets are kept. Then three sets of
-routes are read out of octets, by a decoder that knows nothing of the program (beside/wire.py), and compared:
+routes are read out of octets, by a decoder that knows nothing of the program (python/bgp/wire.py), and compared:
 
   in    BIRD's UPDATEs are given to the program, as those of a peer: the rows of its `in.1` are the routes in BIRD's octets
   out   the program gets the same table as BIRD did: what it sends peer 2, in octets, are the same prefixes with the same
@@ -19,9 +19,10 @@ import sys
 import tempfile
 import threading
 
+sys.path.insert(0, os.path.join(os.path.dirname(os.path.abspath(__file__)), '..', 'python'))
 import daemons
 import events
-import wire
+from bgp import feed, namespaces, wire
 
 TOP = os.path.join(os.path.dirname(os.path.abspath(__file__)), '..')
 REPLAY = os.path.join(TOP, 'crates', 'replay_main', 'out', 'replay_main')
@@ -95,11 +96,11 @@ def without_med(said):
 
 
 def compare(count):
-    messages = list(events.updates(count))
+    messages = list(feed.updates(count))
     theirs = of_the_daemon(messages, count)
     # 192.0.2.0/24 is the daemon's own
     heard = routes(theirs)
-    rows, _ = of_the_program(RECEIVER + ['bgp 1 ' + daemons.message(2, body).hex() for body in theirs], 'in.1')
+    rows, _ = of_the_program(RECEIVER + ['bgp 1 ' + wire.message(wire.UPDATE, body).hex() for body in theirs], 'in.1')
     wrong = differ('in', rows, {key: wire.text(said) for key, said in heard.items()})
     rows, ours = of_the_program([events.LOCAL] + events.PEERS + ['bgp 1 ' + sent.hex() for sent in messages], 'adv.2.1')
     sent = routes(ours)
@@ -119,7 +120,7 @@ def main():
     daemons.no_namespaces()
     daemons.namespaces()
     try:
-        daemons.enter('bench-peers')
+        namespaces.enter('bench-peers')
         return 1 if compare(asked.routes) else 0
     finally:
         daemons.no_namespaces()

@@ -25,11 +25,12 @@ import subprocess
 import sys
 import tempfile
 
+sys.path.insert(0, os.path.join(os.path.dirname(os.path.abspath(__file__)), '..', 'python'))
 import daemons
 import events
 import measure
 import played
-import session
+from bgp import namespaces, session
 
 TOP = os.path.join(os.path.dirname(os.path.abspath(__file__)), '..')
 STEPS = ['puts', 'gets', 'matches', 'walk', 'removals']
@@ -230,7 +231,7 @@ def namespaces(wanted):
     daemons.no_namespaces()
     try:
         played.place()
-        daemons.enter('bench-peers')
+        namespaces.enter('bench-peers')
         yield
     finally:
         daemons.no_namespaces()

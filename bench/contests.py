@@ -20,14 +20,15 @@ import concurrent.futures
 import os
 import random
 import shlex
+import socket
 import sys
 import tempfile
 
 import everywhere
 import events
 
-sys.path.insert(0, os.path.join(everywhere.TOP, 'beside'))
-import wire
+sys.path.insert(0, os.path.join(everywhere.TOP, 'python'))
+from bgp import wire
 
 PREFIXES = ['10.1.0.0/16', '10.2.0.0/16', '10.3.0.0/16', '10.1.128.0/17', '10.0.0.0/8']
 HOPS = ['192.0.2.1', '192.0.2.2', '192.0.2.3', '198.51.100.1']
@@ -37,17 +38,6 @@ RULES = ['any reject', 'any pref 200 accept', 'any pref 50 next', 'any med 1 acc
 # what comes how often: the names of the methods that make a line
 KINDS = {'announcement': 30, 'again': 6, 'withdrawal': 10, 'session': 7, 'incoming': 6, 'outgoing': 4, 'metric': 5, 'static': 4,
          'loss': 1, 'redistribution': 4, 'refresh': 2, 'work': 30, 'ask': 8, 'settled': 5, 'show': 2, 'idle': 2}
-
-
-def octets(text):
-    return bytes(int(number) for number in text.split('.'))
-
-
-def field(prefixes):
-    """The octets of some prefixes (RFC 4271, section 4.3)."""
-    for prefix in prefixes:
-        address, _, length = prefix.partition('/')
-        yield bytes([int(length)]) + octets(address)[:(int(length) + 7) // 8]
 
 
 class Contest:
@@ -110,26 +100,24 @@ class Contest:
 
     def attributes(self, k):
         """What the decision compares, at random."""
-        path = b''.join(asn.to_bytes(2, 'big') for asn in self.numbers(k))
-        path = bytes([2, len(path) // 2]) + path if path else b''
-        yield bytes([0x40, wire.ORIGIN, 1, self.random.choice([0, 0, 0, 0, 1, 2]) if not self.are_alike else 0])
-        yield bytes([0x40, wire.AS_PATH, len(path)]) + path
-        yield bytes([0x40, wire.NEXT_HOP, 4]) + octets(self.random.choices(HOPS + [LOCAL], [8, 8, 8, 4, 1])[0])
+        numbers = self.numbers(k)
+        yield 0x40, wire.ORIGIN, bytes([self.random.choice([0, 0, 0, 0, 1, 2]) if not self.are_alike else 0])
+        yield 0x40, wire.AS_PATH, wire.path_octets([(wire.AS_SEQUENCE, numbers)] if numbers else [], 2)
+        yield 0x40, wire.NEXT_HOP, socket.inet_aton(self.random.choices(HOPS + [LOCAL], [8, 8, 8, 4, 1])[0])
         if self.random.random() < .8:
-            yield bytes([0x80, wire.MED, 4, 0, 0, 0, self.random.randint(0, 2)])
+            yield 0x80, wire.MED, bytes([0, 0, 0, self.random.randint(0, 2)])
         if self.asns[k] == LOCAL_AS and not self.are_alike and self.random.random() < .6:
-            yield bytes([0x40, wire.LOCAL_PREF, 4, 0, 0, 0, self.random.choice([100, 100, 100, 150])])
+            yield 0x40, wire.LOCAL_PREF, bytes([0, 0, 0, self.random.choice([100, 100, 100, 150])])
         if self.asns[k] == LOCAL_AS and self.random.random() < .5:
-            yield bytes([0x80, wire.ORIGINATOR_ID, 4, 192, 0, 2, self.random.choice([1, 2, 3, 3, 254])])
+            yield 0x80, wire.ORIGINATOR_ID, bytes([192, 0, 2, self.random.choice([1, 2, 3, 3, 254])])
         if self.asns[k] == LOCAL_AS and self.random.random() < .4:
             count = self.random.randint(1, 2)
-            yield bytes([0x80, wire.CLUSTER_LIST, 4 * count]) + bytes([192, 0, 2, self.random.randint(7, 9)]) * count
+            yield 0x80, wire.CLUSTER_LIST, bytes([192, 0, 2, self.random.randint(7, 9)]) * count
 
     def update(self, k, gone, come):
-        said = b''.join(self.attributes(k)) if come else b''
-        withdrawn = b''.join(field(gone))
-        body = len(withdrawn).to_bytes(2, 'big') + withdrawn + len(said).to_bytes(2, 'big') + said + b''.join(field(come))
-        return 'bgp %d %s' % (k, wire.message(wire.UPDATE, body).hex())
+        said = b''.join(wire.attribute(wire.Attribute(*one)) for one in self.attributes(k)) if come else b''
+        gone, come = (b''.join(map(wire.prefix_octets, found)) for found in (gone, come))
+        return 'bgp %d %s' % (k, wire.made_update(gone, said, come).hex())
 
     def some(self, most):
         return self.random.sample(PREFIXES, self.random.randint(1, most))
@@ -145,7 +133,7 @@ class Contest:
         return self.update(self.speaker(), self.some(3), [])
 
     def refresh(self):
-        return 'bgp %d %s' % (self.speaker(), events.REFRESH.hex())
+        return 'bgp %d %s' % (self.speaker(), wire.REFRESH.hex())
 
     def rules(self):
         rules = [self.random.choice(RULES + ['%s ge 8 le 24 %s' % (self.prefix(), self.random.choice(['reject', 'pref 300 accept']))])

@@ -5,17 +5,10 @@ script: AS 65001 sends a table, AS 65002 receives it (played.py makes more of th
 """
 import os
 import shutil
-import struct
 import subprocess
-import sys
 import time
 
-sys.path.insert(0, os.path.join(os.path.dirname(os.path.abspath(__file__)), '..', 'beside'))
-import namespaces as spaces
-import session
-import wire
-from namespaces import enter
-from wire import message, split
+from bgp import namespaces as spaces, session, wire
 
 DAEMON, SENDER, RECEIVER = '192.0.2.254', '192.0.2.1', '192.0.2.2'
 
@@ -59,7 +52,7 @@ class Speaker(session.Connection):
     def __init__(self, address, asn, wide=False, refreshes=False):
         self.announced, self.told, self.withdrawn, self.failed = set(), 0, 0, None
         super().__init__(session.connect(address, (DAEMON, 179), 20))
-        self.open(wire.opening(asn, address, 0, wide, wire.IPV4_UNICAST + (wire.REFRESH if refreshes else b'')), 60)
+        self.open(wire.opening(asn, address, 0, wide, wire.OF_IPV4 + (wire.OF_REFRESHES if refreshes else b'')), 60)
 
     def listen(self):
         """Reads until the daemon closes the session."""
@@ -74,14 +67,11 @@ class Speaker(session.Connection):
             pass
 
     def count(self, body):
-        length = struct.unpack('>H', body[:2])[0]
-        for prefix in split(body[2:2 + length]):
-            self.announced.discard(prefix)
-            self.withdrawn += 1
-        behind = 2 + length
-        length = struct.unpack('>H', body[behind:behind + 2])[0]
-        came = list(split(body[behind + 2 + length:]))
+        gone, _, come = wire.fields(body)
+        withdrawn, came = list(wire.split(gone)), list(wire.split(come))
+        self.announced.difference_update(withdrawn)
         self.announced.update(came)
+        self.withdrawn += len(withdrawn)
         self.told += len(came)
 
 

@@ -28,17 +28,17 @@ Kinds:
 
 But for `hops` and what begins as it, the one next hop is in a connected network.
 
-Prefixes have lengths as in a real table (some 60 % of /24, few shorter than /16). AS paths have 2 to 6 numbers and begin with
-the peer's AS; one route in ten has a MED, one in fifty an AGGREGATOR, one in three an unrecognized attribute. Each prefix is
-announced once, by the same messages in every run; next hops alone differ by kind.
+What is announced is as in a real table, and the same in every run (python/bgp/feed.py); next hops alone differ by kind.
 """
 import argparse
-import itertools
+import os
 import random
 import sys
 
-MARKER = b'\xff' * 16
-LENGTHS = [24] * 60 + [23] * 9 + [22] * 11 + [21] * 5 + [20] * 4 + [19] * 3 + [18] * 2 + [17] + [16] * 4 + [15, 14, 13]
+sys.path.insert(0, os.path.join(os.path.dirname(os.path.abspath(__file__)), '..', 'python'))
+from bgp.feed import NEAR, attributes, prefixes, updates
+from bgp.wire import REFRESH, address, made_update
+
 LOCAL = 'local 65000 192.0.2.254 192.0.2.254'
 PEERS = ['peer 1 65001 192.0.2.1 192.0.2.1', 'peer 2 65002 192.0.2.2 192.0.2.2',
          'route add connected 192.0.2.0/24 direct eth0 1', 'up 1', 'up 2']
@@ -47,72 +47,7 @@ KINDS = ('table', 'as4', 'alone', 'rejected', 'paced', 'edit', 'rules', 'refresh
 READ = ['work rd.rib 99', 'work out.1 99', 'work out.2 99']
 # an event that looks at nothing but the register, and the line that it gives: how far the program has come
 LOOK, LOOKED = b'cover 192.0.2.1\n', b'cover 192.0.2.1 192.0.2.0/24 192.0.2.0/24\n'
-NEAR = bytes([192, 0, 2, 1])
-# what asks for all routes again: a ROUTE-REFRESH of IPv4 unicast
-REFRESH = MARKER + bytes([0, 23, 5, 0, 1, 0, 1])
-# what is added to AS numbers, so that they don't go into two octets
-WIDE = 1 << 17
 HOPS = [bytes([172, 16, place // 250, 1 + place % 250]) for place in range(1000)]
-
-
-def prefixes(count, rand):
-    """So many different prefixes: first address and length."""
-    seen = set()
-    while len(seen) < count:
-        length = rand.choice(LENGTHS)
-        first = rand.randrange(1, 223)
-        if first in (10, 127, 192):
-            continue
-        bits = (first << 24 | rand.getrandbits(24)) >> (32 - length) << (32 - length)
-        if (bits, length) not in seen:
-            seen.add((bits, length))
-            yield bits, length
-
-
-def text(addr):
-    return '.'.join(str(octet) for octet in addr)
-
-
-def attributes(rand, transit, hop, via, width, asn=65001):
-    path = via + [asn] + [rand.choice(transit) for _ in range(rand.randrange(5))] + [rand.randrange(1, 64000)]
-    if width == 4:
-        path = path[:1] + [WIDE + asn for asn in path[1:]]
-    out = bytes([0x40, 1, 1, 0 if rand.random() < .9 else 2])
-    out += bytes([0x40, 2, 2 + width * len(path), 2, len(path)]) + b''.join(asn.to_bytes(width, 'big') for asn in path)
-    out += bytes([0x40, 3, 4]) + hop
-    if rand.random() < .1:
-        out += bytes([0x80, 4, 4]) + rand.randrange(200).to_bytes(4, 'big')
-    if rand.random() < .02:
-        out += bytes([0xc0, 7, 4 + width]) + path[-1].to_bytes(width, 'big') + bytes([10, 0, 0, rand.randrange(1, 255)])
-    if rand.random() < .33:
-        length = 4 * rand.randrange(1, 6)
-        out += bytes([0xc0, 99, length]) + bytes(rand.randrange(256) for _ in range(length))
-    return out
-
-
-def update(said, announced):
-    """An UPDATE message of these attributes and these prefixes."""
-    body = b'\0\0' + len(said).to_bytes(2, 'big') + said + announced
-    return MARKER + (19 + len(body)).to_bytes(2, 'big') + b'\2' + body
-
-
-def updates(count, hops=(NEAR,), via=(), width=2, asn=65001):
-    """UPDATE messages that announce so many prefixes in all; the next hops take turns; paths begin with these numbers and this AS, each
-    number of so many octets."""
-    rand = random.Random(1)
-    transit = [rand.randrange(1, 64000) for _ in range(40)]
-    left, coming, turns = count, prefixes(count, rand), itertools.cycle(hops)
-    while left:
-        here = 1
-        while here < min(left, 60) and rand.random() < .8:
-            here += 1
-        left -= here
-        said = attributes(rand, transit, next(turns), list(via), width, asn)
-        announced = b''
-        for _ in range(here):
-            bits, length = next(coming)
-            announced += bytes([length]) + bits.to_bytes(4, 'big')[:(length + 7) // 8]
-        yield update(said, announced)
 
 
 def asked(count):
@@ -121,8 +56,8 @@ def asked(count):
     said = attributes(random.Random(1), [64000], NEAR, [], 2)
     for place in range(count // 20):
         network = bytes([10, place // 250, place % 250])
-        yield 'bgp 1 ' + update(said, bytes([24]) + network).hex()
-        yield 'ask read.2.1 %s.0/24' % text(network)
+        yield 'bgp 1 ' + made_update(b'', said, bytes([24]) + network).hex()
+        yield 'ask read.2.1 %s.0/24' % address(network)
 
 
 def routes(count):
@@ -130,13 +65,13 @@ def routes(count):
     rand = random.Random(1)
     for place, (bits, length) in enumerate(prefixes(count, rand)):
         yield 'route add %s %s/%d via 192.0.2.%d eth%d %d' % (
-            'static' if place % 2 else 'ospf', text(bits.to_bytes(4, 'big')), length,
+            'static' if place % 2 else 'ospf', address(bits.to_bytes(4, 'big')), length,
             rand.randrange(1, 17), rand.randrange(4), rand.randrange(1000))
 
 
 def way(hop, iface, metric):
     """The event that sets the route to a next hop."""
-    return 'route add ospf %s/32 via 192.0.2.9 %s %d' % (text(hop), iface, metric)
+    return 'route add ospf %s/32 via 192.0.2.9 %s %d' % (address(hop), iface, metric)
 
 
 def own(count):

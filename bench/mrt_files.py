@@ -32,12 +32,10 @@ import sys
 import tempfile
 
 HERE = os.path.dirname(os.path.abspath(__file__))
-sys.path.insert(0, os.path.join(HERE, '..', 'captures'))
-import events
+sys.path.insert(0, os.path.join(HERE, '..', 'python'))
 import measure
-import messages
-import program
-from mrt import LOCAL, made_message, made_states, record
+from bgp import feed, messages, mrt, program, wire
+from bgp.mrt import LOCAL, made_message, made_sides, made_states, record
 
 LENGTHS = [0, 1, 18, 19, 23, 45, 100, 4095, 4096, 4097, 5000]
 
@@ -86,11 +84,10 @@ class Capture:
             local = self.random.choice([(0, 0, 0, 0), (127, 1, 1, 1), (255, 255, 255, 255), (192, 0, 2, 253)])
         if self.chance():
             family, size = self.random.choice([(2, 16), (3, 4), (0, 4), (257, 4)])
-        out = (peer_as % 256 ** width).to_bytes(width, 'big') + (local_as % 256 ** width).to_bytes(width, 'big')
-        out += self.octets(2) + family.to_bytes(2, 'big')
+        numbers, interface = (peer_as % 256 ** width, local_as % 256 ** width), int.from_bytes(self.octets(2), 'big')
         if size == 16:
-            return out + self.octets(32)
-        return out + bytes(peer) + bytes(local)
+            peer, local = self.octets(16), self.octets(16)
+        return made_sides(as4, peer, local, family, *numbers, interface)
 
     def record(self):
         kind = self.random.choice([16, 16, 17])
@@ -117,7 +114,7 @@ class Capture:
         length = len(body)
         if self.random.random() < self.wild / 20:
             length = self.random.choice([0, 4294967295, max(0, length - 1), length + 1])
-        return self.octets(4) + kind.to_bytes(2, 'big') + subtype.to_bytes(2, 'big') + length.to_bytes(4, 'big') + body
+        return mrt.HEAD.pack(int.from_bytes(self.octets(4), 'big'), kind, subtype, length) + body
 
     def file(self):
         octets = b''.join(self.record() for _ in range(self.random.choice([0, 1, 2, 5, 30, 200])))
@@ -213,28 +210,27 @@ FIRST = struct.pack('>I', 65001)  # the AS with which paths begin
 
 def wide(said):
     """An UPDATE with AS numbers of four octets."""
-    attributes = b''.join(map(messages.spelled, messages.widened(said.attributes)))
-    return messages.update(b'', attributes, b''.join(octets for _, octets in said.come))
+    attributes = b''.join(map(wire.attribute, messages.widened(said.attributes)))
+    return wire.made_update(b'', attributes, b''.join(octets for _, octets in said.come))
 
 
 def collected():
     """Records as a collector writes them, without an end."""
-    said = [wide(messages.read(update)) for update in events.updates(200000)]
+    said = [wide(messages.read(update)) for update in feed.updates(200000)]
     rand, clock, up = random.Random(1), 1700000000, set()
-    keepalive = b'\xff' * 16 + b'\0\x13\4'
+    keepalive = wire.message(wire.KEEPALIVE)
     for update in itertools.cycle(said):
         n = rand.randrange(8)
-        where = {'peer': (192, 0, 2, n + 1)}
         clock += rand.random() < .05
+        where = {'peer': (192, 0, 2, n + 1), 'when': clock}
         if n not in up:
-            made = made_states(True, 5, 6, **where)
+            yield made_states(True, 5, 6, **where)
             up.add(n)
         elif rand.random() < .0001:
-            made = made_states(True, 6, 1, **where)
+            yield made_states(True, 6, 1, **where)
             up.remove(n)
         else:
-            made = made_message(True, keepalive if rand.random() < .05 else update.replace(FIRST, struct.pack('>I', 65001 + n), 1), **where)
-        yield struct.pack('>I', clock) + made[4:]
+            yield made_message(True, keepalive if rand.random() < .05 else update.replace(FIRST, struct.pack('>I', 65001 + n), 1), **where)
 
 
 def large(mib, out):

@@ -13,18 +13,19 @@ BIRD keeps its defaults, which spare it work, but where a row is about something
 takes the peer's own subnet for the way to a next hop (`gateway direct`), and compares routes two by two. Only over interior routes
 it looks next hops up (`gateway recursive`), and it keeps what it received (`import table`) only where an incoming filter changes.
 """
+import os
 import re
 import socket
 import subprocess
+import sys
 import tempfile
 import threading
 
+sys.path.insert(0, os.path.join(os.path.dirname(os.path.abspath(__file__)), '..', 'beside'))
+import bird
 import daemons
 import events
-import wire
-import bird
-import eventfile
-import namespaces
+from bgp import eventfile, namespaces, wire
 
 MOST_PEERS = 65
 PAUSE = 3.6  # seconds: BIRD may leave work until it next wakes up, which takes three

@@ -27,19 +27,14 @@ import sys
 import tempfile
 
 HERE = os.path.dirname(os.path.abspath(__file__))
-sys.path.insert(0, os.path.join(HERE, '..', 'captures'))
-sys.path.insert(0, HERE)
-import dumps
-import events
+sys.path.insert(0, os.path.join(HERE, '..', 'python'))
 import measure
-import messages
-import mrt
-import program
+from bgp import dumps, feed, messages, mrt, program, wire
 
 CAPTURES = os.path.join(HERE, '..', 'captures')
 PREPARE, IDLE = [sys.executable, os.path.join(CAPTURES, 'prepare.py')], [sys.executable, os.path.join(CAPTURES, 'idle.py')]
 PEERS, PREFIXES, MOST, GROWTH = 8, 200000, 64, 2  # MiB
-KEEPALIVE = b'\xff' * 16 + b'\0\x13\4'
+KEEPALIVE = wire.message(wire.KEEPALIVE)
 # a small process that becomes a command, and notes its CPU seconds, peak memory and status in a file (measure.STARTER says why)
 STARTER = """
 import os, sys
@@ -55,10 +50,10 @@ with open(sys.argv[1], 'w') as file:
 
 def said_by(number, count, kind):
     """The UPDATEs of a peer over so many prefixes."""
-    for octets in events.updates(count, [bytes([192, 0, 2, number])], [], 2 if kind == 'narrow' else 4, 65000 + number):
+    for octets in feed.updates(count, [bytes([192, 0, 2, number])], [], 2 if kind == 'narrow' else 4, 65000 + number):
         said = messages.read(octets)
         front = struct.pack('>I', 7) if kind == 'paths' else b''
-        yield messages.update(b'', b''.join(map(messages.spelled, said.attributes)), b''.join(front + prefix for _, prefix in said.come))
+        yield wire.made_update(b'', b''.join(map(wire.attribute, said.attributes)), b''.join(front + prefix for _, prefix in said.come))
 
 
 def updates(count, kind, prefixes):
@@ -86,9 +81,9 @@ def dumped(count):
     """A table dump of so many prefixes, in turn of each peer."""
     yield dumps.made_index([dumps.Peer(65000 + number, bytes([192, 0, 2, number])) for number in range(1, PEERS + 1)], when=1700000000)
     left, places = count, itertools.cycle(range(PEERS))
-    for octets in events.updates(count, [bytes([192, 0, 2, 1])], [], 4):
+    for octets in feed.updates(count, [bytes([192, 0, 2, 1])], [], 4):
         said = messages.read(octets)
-        attributes = b''.join(map(messages.spelled, said.attributes))
+        attributes = b''.join(map(wire.attribute, said.attributes))
         for _, prefix in said.come[:left]:
             yield dumps.made_rib(mrt.RIB_IPV4, prefix, [dumps.Entry(next(places), None, attributes)], when=1700000000)
         left -= len(said.come[:left])

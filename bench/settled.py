@@ -27,6 +27,7 @@ import tempfile
 
 import events
 import measure
+from bgp import feed, wire
 
 TOP = os.path.join(os.path.dirname(os.path.abspath(__file__)), '..')
 REPLAY = os.path.join(TOP, 'crates', 'replay_main', 'out', 'replay_main')
@@ -62,7 +63,7 @@ def announced(message):
     while at < len(message):
         behind = at + 1 + (message[at] + 7) // 8
         octets = message[at + 1:behind] + bytes(4 - (behind - at - 1))
-        yield '%s/%d' % (events.text(octets), message[at])
+        yield '%s/%d' % (wire.address(octets), message[at])
         at = behind
 
 
@@ -71,9 +72,9 @@ def messages(kind, count):
     for k in range(1, PEERS + 1):
         via = [] if k == 1 else [65000 + k]
         if kind == 'apart':
-            said = itertools.islice(events.updates(count, via=via), k - 1, None, PEERS)
+            said = itertools.islice(feed.updates(count, via=via), k - 1, None, PEERS)
         else:
-            said = events.updates(count // PEERS, via=via)
+            said = feed.updates(count // PEERS, via=via)
         yield from ((k, message) for message in said)
 
 

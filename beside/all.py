@@ -21,7 +21,8 @@ import subprocess
 import sys
 import tempfile
 
-import program
+sys.path.insert(0, os.path.join(os.path.dirname(os.path.abspath(__file__)), '..', 'python'))
+from bgp import program
 from routers import ROUTERS
 
 HERE = os.path.dirname(os.path.abspath(__file__))

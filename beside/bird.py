@@ -1,8 +1,8 @@
 """BIRD beside `replay` (Debian's `bird2`): interior routes are static ones in a table of their own, which next hops are looked up in."""
 import re
 
-from eventfile import DISTANCES, Wanted, masked
-from program import Best
+from bgp.eventfile import DISTANCES, Wanted, masked
+from bgp.program import Best
 from router import Failed, Router, bounds, flat, origin
 
 ORIGINS = ('ORIGIN_IGP', 'ORIGIN_EGP', 'ORIGIN_INCOMPLETE')

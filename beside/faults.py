@@ -1,5 +1,5 @@
 """The faults of an UPDATE's attributes, read by RFC 4271, section 6.3, alone: nothing here knows the program."""
-import wire
+from bgp import wire
 
 LENGTHS = {wire.ORIGIN: 1, wire.NEXT_HOP: 4, wire.MED: 4, wire.LOCAL_PREF: 4, wire.ATOMIC_AGGREGATE: 0,
            wire.ORIGINATOR_ID: 4}
@@ -10,20 +10,16 @@ FLAGS = {wire.ORIGIN: 0x40, wire.AS_PATH: 0x40, wire.NEXT_HOP: 0x40, wire.MED: 0
 def faults(octets, announces, width):
     """The faults of attributes, from left to right (docs/BGP.md, "Faults"): type and `flags`, `length` or `value`; or `twice`, `unknown`,
     `missing`, `run out`."""
-    found, seen, at = set(), set(), 0
-    while at < len(octets):
-        try:
-            flags, kind = wire.part(octets, at, 2)
-            wide = 2 if flags & 0x10 else 1
-            value = wire.part(octets, at + 2 + wide, int.from_bytes(wire.part(octets, at + 2, wide), 'big'))
-        except ValueError:
-            return found | {'run out'}
-        at += 2 + wide + len(value)
-        if kind in seen:
-            found.add('twice')
-            continue
-        seen.add(kind)
-        found |= {'%d %s' % (kind, what) if what != 'unknown' else what for what in of_one(flags, kind, value, width)}
+    found, seen = set(), set()
+    try:
+        for one in wire.attributes(octets):
+            if one.kind in seen:
+                found.add('twice')
+                continue
+            seen.add(one.kind)
+            found |= {'%d %s' % (one.kind, what) if what != 'unknown' else what for what in of_one(*one, width)}
+    except ValueError:
+        return found | {'run out'}
     if announces and not {wire.ORIGIN, wire.AS_PATH, wire.NEXT_HOP} <= seen:
         found.add('missing')
     return found

@@ -7,8 +7,8 @@ import os
 import re
 import signal
 
-from eventfile import masked
-from program import Best
+from bgp.eventfile import masked
+from bgp.program import Best
 from router import Router, bounds, flat
 
 HEAD = '''[global.config]

@@ -2,8 +2,7 @@
 import threading
 import time
 
-import session
-import wire
+from bgp import session, wire
 
 OPENED_WITHIN = 15  # seconds
 
@@ -17,7 +16,7 @@ class Heard(session.Connection):
         self.again = None  # what it was sent since it asked for all again, if it did
 
     def begin(self, peer, hold=0, refreshes=False):
-        families = wire.IPV4_UNICAST + (wire.REFRESH if refreshes else b'')
+        families = wire.OF_IPV4 + (wire.OF_REFRESHES if refreshes else b'')
         self.open(wire.opening(peer.asn, peer.identifier, hold, self.width == 4, families), OPENED_WITHIN)
         self.is_up = True
         threading.Thread(target=self.listen, daemon=True).start()

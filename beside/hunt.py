@@ -25,7 +25,8 @@ import signal
 import sys
 import time
 
-import program
+sys.path.insert(0, os.path.join(os.path.dirname(os.path.abspath(__file__)), '..', 'python'))
+from bgp import program
 from hunting import files, groups, needs, scenario, work
 from routers import ROUTERS
 from run import told

@@ -1,8 +1,8 @@
 """OpenBGPD beside `replay` (Debian's `openbgpd`). On Linux it sees no routes of the kernel: each next hop is taken to be reachable."""
 import json
 
-from eventfile import masked
-from program import Best
+from bgp.eventfile import masked
+from bgp.program import Best
 from router import Failed, Router, bounds, flat, origin
 
 HEAD = '''AS %(asn)d

@@ -24,7 +24,8 @@ import subprocess
 import sys
 import time
 
-import program
+sys.path.insert(0, os.path.join(os.path.dirname(os.path.abspath(__file__)), '..', 'python'))
+from bgp import program
 from hunting import topics
 from routers import ROUTERS
 

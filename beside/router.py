@@ -19,7 +19,7 @@ import re
 import shutil
 import subprocess
 
-import namespaces
+from bgp import namespaces
 
 LIMIT = 20  # seconds until a daemon answers
 # `ip netns exec` has made a mount namespace before

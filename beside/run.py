@@ -26,13 +26,10 @@ import sys
 import tempfile
 import time
 
-import eventfile
+sys.path.insert(0, os.path.join(os.path.dirname(os.path.abspath(__file__)), '..', 'python'))
 import explained
-import namespaces
-import program
 import router
-import session
-import wire
+from bgp import eventfile, namespaces, program, session, wire
 from compare import Counts, Difference, notes_apart, rows_apart
 from heard import Heard
 from routers import ROUTERS

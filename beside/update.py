@@ -9,55 +9,45 @@ a prefix to announce there are none. Octets go out as they are asked for: also w
 """
 import argparse
 import ipaddress
+import os
 import re
+import struct
 import sys
 
-import wire
+sys.path.insert(0, os.path.join(os.path.dirname(os.path.abspath(__file__)), '..', 'python'))
+from bgp import wire
 
 
-def prefix(text):
-    network, _, length = text.partition('/')
-    return bytes([int(length)]) + ipaddress.ip_address(network).packed[:(int(length) + 7) // 8]
-
-
-def attribute(flags, kind, value):
-    wide = len(value) > 255
-    return bytes([flags | 0x10 * wide, kind]) + len(value).to_bytes(2 if wide else 1, 'big') + value
-
-
-def path(text, width):
-    """An AS_PATH: sequences of at most 255 numbers, and sets in {}."""
-    said = b''
+def segments(text):
+    """The segments of an AS_PATH: sequences of at most 255 numbers, and sets in {}."""
     for one, other in re.findall(r'\{([^}]*)\}|([0-9 ]*[0-9])', text):
-        numbers = (one or other).split()
+        numbers = list(map(int, (one or other).split()))
         for at in range(0, len(numbers), 255):
-            part = numbers[at:at + 255]
-            said += bytes([1 if one else 2, len(part)]) + b''.join(int(number).to_bytes(width, 'big') for number in part)
-    return said
+            yield wire.AS_SET if one else wire.AS_SEQUENCE, numbers[at:at + 255]
 
 
 def update(announced=(), withdrawn=(), origin=0, as_path='', hop=None, med=None, pref=None, atomic=False, aggregator=None, more=(), width=2):
     """The octets of an UPDATE. `more` are (type, flags, value)."""
     said = {}
     if announced:
-        said[1] = attribute(0x40, 1, bytes([origin]))
-        said[2] = attribute(0x40, 2, path(as_path, width))
+        said[wire.ORIGIN] = 0x40, bytes([origin])
+        said[wire.AS_PATH] = 0x40, wire.path_octets(segments(as_path), width)
         if hop:
-            said[3] = attribute(0x40, 3, ipaddress.ip_address(hop).packed)
+            said[wire.NEXT_HOP] = 0x40, ipaddress.ip_address(hop).packed
     if med is not None:
-        said[4] = attribute(0x80, 4, med.to_bytes(4, 'big'))
+        said[wire.MED] = 0x80, med.to_bytes(4, 'big')
     if pref is not None:
-        said[5] = attribute(0x40, 5, pref.to_bytes(4, 'big'))
+        said[wire.LOCAL_PREF] = 0x40, pref.to_bytes(4, 'big')
     if atomic:
-        said[6] = attribute(0x40, 6, b'')
+        said[wire.ATOMIC_AGGREGATE] = 0x40, b''
     if aggregator:
         asn, _, address = aggregator.partition('/')
-        said[7] = attribute(0xc0, 7, int(asn).to_bytes(width, 'big') + ipaddress.ip_address(address).packed)
+        said[wire.AGGREGATOR] = 0xc0, int(asn).to_bytes(width, 'big') + ipaddress.ip_address(address).packed
     for kind, flags, value in more:
-        said[kind] = attribute(flags, kind, value)
-    gone, whole = b''.join(prefix(one) for one in withdrawn), b''.join(said[kind] for kind in sorted(said))
-    body = len(gone).to_bytes(2, 'big') + gone + len(whole).to_bytes(2, 'big') + whole + b''.join(prefix(one) for one in announced)
-    return wire.message(wire.UPDATE, body)
+        said[kind] = flags, value
+    whole = b''.join(wire.attribute(wire.Attribute(said[kind][0], kind, said[kind][1])) for kind in sorted(said))
+    gone, come = (b''.join(map(wire.prefix_octets, prefixes)) for prefixes in (withdrawn, announced))
+    return wire.made_update(gone, whole, come)
 
 
 def main():
@@ -78,7 +68,7 @@ def main():
     try:
         print(update(asked.announced, asked.withdraw, asked.origin, asked.path, asked.hop, asked.med, asked.pref, asked.atomic,
                      asked.aggregator, more, 4 if asked.as4 else 2).hex())
-    except (ValueError, OverflowError) as error:
+    except (ValueError, OverflowError, struct.error) as error:
         print('update.py: %s' % error, file=sys.stderr)
         return 2
     return 0

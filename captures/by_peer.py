@@ -12,8 +12,8 @@ import os
 import sys
 
 sys.dont_write_bytecode = True
-import files
-import mrt
+sys.path.insert(0, os.path.join(os.path.dirname(os.path.abspath(__file__)), '..', 'python'))
+from bgp import files, mrt
 
 FLUSHED = 1 << 24  # octets that are kept before they are written
 

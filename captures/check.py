@@ -17,12 +17,13 @@ sys.dont_write_bytecode = True
 HERE = os.path.dirname(os.path.abspath(__file__))
 KEPT = os.path.join(HERE, 'kept')
 EXAMPLES = os.path.join(HERE, '..', 'examples')
-sys.path.insert(0, os.path.join(HERE, '..', 'reasons'))
-import mrt
+for folder in ('reasons', 'python'):
+    sys.path.insert(0, os.path.join(HERE, '..', folder))
 import preparation
 import prepare
 import shown
 import tables
+from bgp import mrt
 
 
 # the captures of a daemon, and the files of each in their order; the last two only where it tells no ends of sessions (make.py)

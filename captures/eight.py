@@ -10,21 +10,11 @@
   8 over IPv6    IPv4 routes in type 14 (RFC 4760), with a next hop of IPv6 (RFC 8950), where the router takes them
 """
 import ipaddress
-import os
-import socket
 import struct
-import sys
 import threading
 import time
 
-HERE = os.path.dirname(os.path.abspath(__file__))
-for folder in ('beside', 'bench'):
-    sys.path.insert(0, os.path.join(HERE, '..', folder))
-sys.path.insert(0, HERE)
-import events
-import messages
-import session
-import wire
+from bgp import feed, messages, session, wire
 
 ROUTER, ROUTER6, ROUTER_AS = '192.0.2.254', '2001:db8::fe', 65000
 ASES = {1: 65001, 2: 4200000002, 3: 65003, 4: 65004, 5: 65005, 6: 65006, 7: 65007, 8: 65008}
@@ -37,22 +27,19 @@ def address(number):
     return '2001:db8::8' if number == 8 else '192.0.2.%d' % number
 
 
-def capability(code, value=b''):
-    return bytes([2, 2 + len(value), code, len(value)]) + value
-
-
 def families(number):
     """The capabilities of a peer's OPEN."""
-    more = {4: capability(EXTENDED_MESSAGES), 5: capability(messages.PATHS, b'\0\1\1\2'), 8: capability(EXTENDED_NEXT_HOP, b'\0\1\0\1\0\2')}
-    return wire.IPV4_UNICAST + more.get(number, b'')
+    more = {4: wire.capability(EXTENDED_MESSAGES), 5: wire.capability(wire.PATHS, wire.IPV4_UNICAST + b'\2'),
+            8: wire.capability(EXTENDED_NEXT_HOP, b'\0\1\0\1\0\2')}
+    return wire.OF_IPV4 + more.get(number, b'')
 
 
 # ---- what they say
 
 def said_by(number, count):
-    """UPDATEs that announce so many prefixes, with AS numbers of four octets: those of `events`, a path of its own for each peer."""
+    """UPDATEs that announce so many prefixes, with AS numbers of four octets: those of `feed`, a path of its own for each peer."""
     hop = ipaddress.ip_address('192.0.2.%d' % number).packed
-    return [messages.read(octets) for octets in events.updates(count, [hop], [ASES[number]] if number > 1 else [], 4)]
+    return [messages.read(octets) for octets in feed.updates(count, [hop], [ASES[number]] if number > 1 else [], 4)]
 
 
 def prefixes(found):
@@ -60,13 +47,13 @@ def prefixes(found):
 
 
 def octets_of(said, attributes=None):
-    return messages.update(b''.join(prefixes(said.gone)), b''.join(map(messages.spelled, said.attributes if attributes is None else attributes)),
+    return wire.made_update(b''.join(prefixes(said.gone)), b''.join(map(wire.attribute, said.attributes if attributes is None else attributes)),
                            b''.join(prefixes(said.come)))
 
 
 def withdrawal(said):
     """The UPDATE that takes its announcements back."""
-    return messages.update(b''.join(prefixes(said.come)), b'', b'')
+    return wire.made_update(b''.join(prefixes(said.come)), b'', b'')
 
 
 def narrow(said):
@@ -74,47 +61,42 @@ def narrow(said):
     found, more = [], []
     for one in said.attributes:
         if one.kind == wire.AS_PATH:
-            path = messages.segments(one.value, 4)
-            value = b''.join(bytes([kind, len(numbers)]) + struct.pack('>%dH' % len(numbers), *map(short, numbers)) for kind, numbers in path)
-            more.append(messages.Attribute(0xc0, messages.AS4_PATH, one.value))
-            one = one._replace(value=value)
+            path = [(kind, list(map(wire.short, numbers))) for kind, numbers in wire.segments(one.value, 4)]
+            more.append(wire.Attribute(0xc0, messages.AS4_PATH, one.value))
+            one = one._replace(value=wire.path_octets(path, 2))
         elif one.kind == wire.AGGREGATOR:
-            more.append(messages.Attribute(0xc0, messages.AS4_AGGREGATOR, one.value))
-            one = one._replace(value=struct.pack('>H', short(int.from_bytes(one.value[:4], 'big'))) + one.value[4:])
+            more.append(wire.Attribute(0xc0, messages.AS4_AGGREGATOR, one.value))
+            one = one._replace(value=struct.pack('>H', wire.short(int.from_bytes(one.value[:4], 'big'))) + one.value[4:])
         found.append(one)
     return octets_of(said, sorted(found + more, key=lambda one: one.kind))
-
-
-def short(asn):
-    return asn if asn < 65536 else wire.AS_TRANS
 
 
 def long(said, spare=1100):
     """An UPDATE of more than 4,096 octets: it also withdraws prefixes that nobody announced."""
     gone = b''.join(bytes([24, 11, place // 256, place % 256]) for place in range(spare))
-    return messages.update(gone, b''.join(map(messages.spelled, said.attributes)), b''.join(prefixes(said.come)))
+    return wire.made_update(gone, b''.join(map(wire.attribute, said.attributes)), b''.join(prefixes(said.come)))
 
 
 def with_paths(said, second):
     """An UPDATE with a path identifier before each prefix: 7 for the first routes, 9 for the second ones."""
     identifier = struct.pack('>I', 9 if second else 7)
-    attributes = said.attributes + ([messages.Attribute(0x80, wire.MED, struct.pack('>I', 77))] if second else [])
+    attributes = said.attributes + ([wire.Attribute(0x80, wire.MED, struct.pack('>I', 77))] if second else [])
     if second:
         attributes = [one for one in said.attributes if one.kind != wire.MED] + attributes[-1:]
-    return messages.update(b'', b''.join(map(messages.spelled, sorted(attributes, key=lambda one: one.kind))),
+    return wire.made_update(b'', b''.join(map(wire.attribute, sorted(attributes, key=lambda one: one.kind))),
                            b''.join(identifier + octets for octets in prefixes(said.come)))
 
 
 def without_paths(said, identifier):
-    return messages.update(b''.join(struct.pack('>I', identifier) + octets for octets in prefixes(said.come)), b'', b'')
+    return wire.made_update(b''.join(struct.pack('>I', identifier) + octets for octets in prefixes(said.come)), b'', b'')
 
 
 def over_ipv6(said):
     """An UPDATE whose prefixes stand in type 14, with a next hop of IPv6."""
     hop = ipaddress.ip_address(address(8)).packed
-    value = messages.IPV4_UNICAST + bytes([len(hop)]) + hop + b'\0' + b''.join(prefixes(said.come))
-    attributes = [one for one in said.attributes if one.kind != wire.NEXT_HOP] + [messages.Attribute(0x80, messages.MP_REACH, value)]
-    return messages.update(b'', b''.join(map(messages.spelled, sorted(attributes, key=lambda one: one.kind))), b'')
+    value = wire.IPV4_UNICAST + bytes([len(hop)]) + hop + b'\0' + b''.join(prefixes(said.come))
+    attributes = [one for one in said.attributes if one.kind != wire.NEXT_HOP] + [wire.Attribute(0x80, messages.MP_REACH, value)]
+    return wire.made_update(b'', b''.join(map(wire.attribute, sorted(attributes, key=lambda one: one.kind))), b'')
 
 
 # ---- their sessions
@@ -125,7 +107,7 @@ class Peer(session.Connection):
     def __init__(self, number, hold):
         self.number, self.hold, self.heard = number, hold, None  # the last NOTIFICATION
         super().__init__(session.connect(address(number), (ROUTER6 if number == 8 else ROUTER, 179), OPENED_WITHIN))
-        self.theirs = messages.capabilities(self.open(self.ours(), OPENED_WITHIN))
+        self.theirs = wire.capabilities(self.open(self.ours(), OPENED_WITHIN))
         threading.Thread(target=self.listen, daemon=True).start()
 
     def ours(self):
@@ -148,8 +130,8 @@ class Peer(session.Connection):
     def takes(self):
         """Whether the router takes what is special of this peer."""
         if self.number == 5:
-            found = self.theirs.get(messages.PATHS, b'')
-            return any(found[at:at + 3] == messages.IPV4_UNICAST and found[at + 3] & 1 for at in range(0, len(found), 4))
+            found = self.theirs.get(wire.PATHS, b'')
+            return any(found[at:at + 3] == wire.IPV4_UNICAST and found[at + 3] & 1 for at in range(0, len(found), 4))
         return {4: EXTENDED_MESSAGES, 8: EXTENDED_NEXT_HOP}.get(self.number, 0) in self.theirs or self.number not in (4, 8)
 
 

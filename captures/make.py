@@ -30,14 +30,12 @@ import tempfile
 import time
 
 sys.dont_write_bytecode = True
+sys.path.insert(0, os.path.join(os.path.dirname(os.path.abspath(__file__)), '..', 'python'))
 import check
 import eight
-import mrt
-import namespaces
-import program
 import router
-import session
 import shown
+from bgp import mrt, namespaces, program, session
 from recorders import RECORDERS, Station
 
 SMALL = 12  # routes of each peer of a story

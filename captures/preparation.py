@@ -3,12 +3,8 @@ import collections
 import re
 import struct
 
-import dumps
-import files
-import messages
-import mrt
+from bgp import dumps, files, messages, mrt, wire
 import speakers
-import wire
 from report import Report, counted
 
 AHEAD = 1000  # records of each file that are looked at for the local side before a dump is told
@@ -54,7 +50,7 @@ class Preparation:
     def is_plain(body):
         """Whether a record's UPDATE is passed on as it stands: it is whole, fits, has attributes with prefixes alone, and none that is odd."""
         size = len(body)
-        if not 43 <= size <= 20 + messages.MOST or body[38] != wire.UPDATE or size - 20 != body[36] << 8 | body[37]:
+        if not 43 <= size <= 20 + wire.MOST or body[38] != wire.UPDATE or size - 20 != body[36] << 8 | body[37]:
             return False
         at = 43 + (body[39] << 8 | body[40])
         if at > size:
@@ -247,7 +243,7 @@ class Preparation:
         if peer.tells_states:
             self.report.skip('note')
         elif peer.is_up:
-            self.say(when, peer, 0, octets[:messages.MOST])
+            self.say(when, peer, 0, octets[:wire.MOST])
             self.end(when, peer)
         else:
             self.report.skip('nothing')
@@ -263,7 +259,7 @@ class Preparation:
         except ValueError:
             self.take_unreadable(when, peer, octets, is_wide and not with_paths)
             return
-        if len(octets) > messages.MOST:
+        if len(octets) > wire.MOST:
             self.report.change('long')
         if with_paths:
             self.report.change('paths')
@@ -281,7 +277,7 @@ class Preparation:
 
     def take_unreadable(self, when, peer, octets, is_in_form):
         """An UPDATE that can't be read: the program answers it as it stands, if its form is that of the session."""
-        if is_in_form and len(octets) <= messages.MOST:
+        if is_in_form and len(octets) <= wire.MOST:
             self.say(when, peer, 0, octets)
         else:
             self.report.skip('fields')
@@ -364,10 +360,10 @@ class Preparation:
             self.state(when, peer, mrt.ESTABLISHED)
         if prefix.family == 4:
             place = peer.place(entry.path, prefix.octets) if with_paths else entry.path
-            made = messages.update(b'', self.attributes_of(told, entry.attributes, prefix.width), prefix.octets)
+            made = wire.made_update(b'', self.attributes_of(told, entry.attributes, prefix.width), prefix.octets)
         else:
-            place, made = 0, messages.update(b'', self.attributes_of_ipv6(entry.attributes, prefix), b'')
-        if len(made) > messages.MOST:
+            place, made = 0, wire.made_update(b'', self.attributes_of_ipv6(entry.attributes, prefix), b'')
+        if len(made) > wire.MOST:
             self.report.skip('attributes')
             return
         self.report.change('dump')
@@ -384,15 +380,15 @@ class Preparation:
             said = self.outside(said)
             hop = messages.value_of(said, wire.NEXT_HOP, 4)
             hop = hop if hop and any(hop) else other or told.address
-            self.dumped[key] = b''.join(map(messages.spelled, messages.with_hop(said, self.addresses.of(hop))))
+            self.dumped[key] = b''.join(map(wire.attribute, messages.with_hop(said, self.addresses.of(hop))))
         return self.dumped[key]
 
     @staticmethod
     def attributes_of_ipv6(octets, prefix):
         """The octets of the attributes with a whole type 14."""
         said, hop = dumps.mended(octets, prefix.width)
-        value = messages.IPV6_UNICAST + bytes([len(hop or b'')]) + (hop or b'') + b'\0' + prefix.octets
-        return b''.join(map(messages.spelled, said + [messages.Attribute(0x80, messages.MP_REACH, value)]))
+        value = wire.IPV6_UNICAST + bytes([len(hop or b'')]) + (hop or b'') + b'\0' + prefix.octets
+        return b''.join(map(wire.attribute, said + [wire.Attribute(0x80, messages.MP_REACH, value)]))
 
     # ---- the end
 

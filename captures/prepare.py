@@ -30,10 +30,11 @@ import socket
 import sys
 
 sys.dont_write_bytecode = True
-import mrt
+sys.path.insert(0, os.path.join(os.path.dirname(os.path.abspath(__file__)), '..', 'python'))
 import preparation
 import speakers
 import what
+from bgp import mrt
 
 
 def moment(text):

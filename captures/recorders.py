@@ -14,7 +14,7 @@ import time
 HERE = os.path.dirname(os.path.abspath(__file__))
 sys.path.insert(0, os.path.join(HERE, '..', 'beside'))
 import eight
-import namespaces
+from bgp import namespaces
 import router
 
 BMP_PORT = 11019

@@ -2,8 +2,7 @@
 import socket
 import struct
 
-import mrt
-import wire
+from bgp import mrt, wire
 
 PEERS = 64  # that one router has (docs/LANGUAGE.md, "Refusals", E6)
 # where stand-ins come from: networks for tests between routers, which nobody routes (RFC 2544)

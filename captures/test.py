@@ -14,16 +14,13 @@ import tempfile
 import unittest
 
 sys.dont_write_bytecode = True
+sys.path.insert(0, os.path.join(os.path.dirname(os.path.abspath(__file__)), '..', 'python'))
 import by_peer
-import dumps
-import files
 import idle
-import messages
-import mrt
 import prepare
 import preparation
 import what
-import wire
+from bgp import dumps, files, messages, mrt, wire
 
 HERE = os.path.dirname(os.path.abspath(__file__))
 EIGHT = bytes([8, 10])  # 10.0.0.0/8
@@ -38,7 +35,7 @@ KEEPALIVE = wire.message(wire.KEEPALIVE)
 
 
 def update(gone=b'', said=b'', come=b''):
-    return messages.update(gone, said, come)
+    return wire.made_update(gone, said, come)
 
 
 SAID = update(b'', WIDE, EIGHT)
@@ -157,7 +154,7 @@ class Numbers(unittest.TestCase):
 
     def test_paths(self):
         """RFC 6793, section 4.2.3: the exceeding front of AS_PATH goes before AS4_PATH; a longer AS4_PATH is ignored; an AS_SET counts 1."""
-        sequence, a_set = messages.AS_SEQUENCE, messages.AS_SET
+        sequence, a_set = wire.AS_SEQUENCE, wire.AS_SET
         self.assertEqual(messages.merged([(sequence, [1, 23456, 3])], [(sequence, [70000, 3])]), [(sequence, [1, 70000, 3])])
         self.assertEqual(messages.merged([(sequence, [1])], [(sequence, [70000, 3])]), [(sequence, [1])])
         self.assertEqual(messages.merged([(sequence, [1, 2]), (a_set, [3, 4])], [(a_set, [70000, 4])]), [(sequence, [1, 2]), (a_set, [70000, 4])])
@@ -242,7 +239,7 @@ class Paths(unittest.TestCase):
         self.assertTrue(all(len(octets) <= 4096 for octets in written) and len(written) == 2)
         said = [messages.read(octets) for octets in written]
         self.assertEqual([octets for one in said for _, octets in one.come], many)
-        self.assertEqual({tuple(one.attributes) for one in said}, {tuple(messages.attributes(WIDE))})
+        self.assertEqual({tuple(one.attributes) for one in said}, {tuple(wire.attributes(WIDE))})
 
     def test_a_long_withdrawal(self):
         many = [bytes([24, 10, place // 256, place % 256]) for place in range(2000)]

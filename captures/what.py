@@ -2,8 +2,7 @@
 import collections
 import datetime
 
-import files
-import mrt
+from bgp import files, mrt
 import preparation
 import report
 import speakers

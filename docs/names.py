@@ -19,7 +19,7 @@ import re
 import sys
 
 TOP = os.path.join(os.path.dirname(os.path.abspath(__file__)), '..')
-PATH = re.compile(r'(?<![\w/.])((?:crates|docs|bench|beside|captures|examples|live|reasons|view|wrong-bodies)/[\w*./-]*[\w*/])')
+PATH = re.compile(r'(?<![\w/.])((?:crates|docs|bench|beside|captures|examples|live|python|reasons|view|wrong-bodies)/[\w*./-]*[\w*/])')
 PART = re.compile(r'(?<![\w/.-])(?:(\w+)/)?(specs|src|proofs)/(\w+)(\.antt|\.rt)?(?![\w/])')
 OF_FILE = re.compile(r'(\w+)/specs/(\w+)(?:\.antt)? \((`\w+`(?:,\s+`\w+`)*)\)')
 IN_FILE = re.compile(r'\((`\w+`(?:,\s+`\w+`)*),\s+(?:crates/)?(\w+)/specs/(\w+)\.antt\)')
@@ -72,7 +72,8 @@ class Sources:
                     self.code.setdefault(crate, set()).update(words)
                     self.functions.setdefault(crate, set()).update(re.findall(r'\bfn (\w+)', text))
                     self.types.setdefault(crate, set()).update(re.findall(r'\b(?:struct|enum|trait|type) (\w+)', text))
-        for path in glob.glob(os.path.join(TOP, '*', '*.py')) + glob.glob(os.path.join(TOP, 'wrong-bodies', '*', '*.edit')):
+        scripts = [it for depth in ('*', '*/*') for it in glob.glob(os.path.join(TOP, depth, '*.py'))]
+        for path in scripts + glob.glob(os.path.join(TOP, 'wrong-bodies', '*', '*.edit')):
             self.words.add(os.path.basename(path).split('.')[0])
             if path.endswith('.py'):
                 with open(path, encoding='utf-8') as file:

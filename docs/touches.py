@@ -33,7 +33,7 @@ PARTS = {
     'refresh': Part(['peer_out', 'out_chain', 'exit_side'], ['Task::Ref', 'Phase::Ref'], 'ref', 'refresh'),
     'settled': Part([], ['Event::Settled', 'Line::Settled'], 'settled', None),
 }
-BESIDE = [('documents', r'`%s\b', '*.md', '*/*.md'), ('scripts', r'[\'"]%s\b', '*/*.py', '*/*.js'),
+BESIDE = [('documents', r'`%s\b', '*.md', '*/*.md'), ('scripts', r'[\'"]%s\b', '*/*.py', '*/*/*.py', '*/*.js'),
           ('tests', r'(?<![\w.])%s(?=[ .\\"])', 'crates/*_tests/src/*.rt'),
           ('stories', r'^(?!#)(?:.* )?%s(?=[. ]|$)', 'examples/*.events', 'examples/*.out')]
 ROOMS = {'src': 'source', 'specs': 'definitions', 'proofs': 'proofs'}

@@ -16,9 +16,9 @@ import tempfile
 import types
 
 sys.dont_write_bytecode = True
+sys.path.insert(0, os.path.join(os.path.dirname(os.path.abspath(__file__)), '..', 'python'))
 import demo
-import namespaces
-import program
+from bgp import namespaces, program
 
 HERE = os.path.dirname(os.path.abspath(__file__))
 FRR = '/usr/lib/frr/bgpd'

@@ -24,10 +24,10 @@ import threading
 import time
 
 HERE = os.path.dirname(os.path.abspath(__file__))
-sys.path.insert(0, os.path.join(HERE, '..', 'beside'))
-import namespaces
-import program
+for folder in ('beside', 'python'):
+    sys.path.insert(0, os.path.join(HERE, '..', folder))
 import router
+from bgp import namespaces, program
 
 LIMIT = 60  # seconds that one step may take
 CONFIG = '''router id 192.0.2.%(host)d;

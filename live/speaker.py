@@ -27,32 +27,17 @@ import sys
 import threading
 import time
 
-for folder in ('reasons', 'beside'):
+for folder in ('reasons', 'python'):
     sys.path.insert(0, os.path.join(os.path.dirname(os.path.abspath(__file__)), '..', folder))
-import eventfile
-import program
 import refused
-import wire
+from bgp import eventfile, program, wire
 
 TAKEN = ('as4', 'revised', 'reflect', 'local', 'peer', 'filter', 'route', 'redist')
 ASKED = ('show', 'ask', 'settled')
 OPEN_SENT, OPEN_CONFIRM, ESTABLISHED, ENDED = 'OpenSent', 'OpenConfirm', 'Established', 'ended'
 OPENED_WITHIN = 10  # seconds
-FOUR_OCTETS = 65  # a capability (RFC 6793)
 READ = 1 << 16
 CEASE, HOLD_TIMER = (6, 2), (4, 0)  # codes and subcodes of NOTIFICATIONs
-
-
-def capabilities(parameters):
-    """The codes of the capabilities among an OPEN's parameters (RFC 5492)."""
-    found, at = set(), 0
-    while at + 2 <= len(parameters):
-        kind, value = parameters[at], parameters[at + 2:at + 2 + parameters[at + 1]]
-        at += 2 + len(value)
-        while kind == 2 and len(value) >= 2:
-            found.add(value[0])
-            value = value[2 + value[1]:]
-    return found
 
 
 class Refused(Exception):
@@ -139,8 +124,8 @@ class Session:
         self.heard = time.monotonic()
         self.buffer += more
         while len(self.buffer) >= 19:
-            size = struct.unpack('>H', self.buffer[16:18])[0]
-            if not 19 <= size <= 4096:
+            size = wire.size(self.buffer)
+            if not 19 <= size <= wire.MOST:
                 size = len(self.buffer)
                 yield self.buffer[:19]
             elif len(self.buffer) < size:
@@ -288,13 +273,13 @@ class Speaker:
         version, asn, hold = struct.unpack('>BHH', body[:5])
         if version != 4:
             return 2, 1
-        if asn != (session.peer.asn if session.peer.asn < 65536 else wire.AS_TRANS):
+        if asn != wire.short(session.peer.asn):
             return 2, 2
         if hold in (1, 2):
             return 2, 6
         if body[5:9] == bytes(4):
             return 2, 3
-        return (2, 7) if self.wanted.wide and FOUR_OCTETS not in capabilities(body[10:]) else None
+        return (2, 7) if self.wanted.wide and wire.WIDE not in wire.capabilities(body) else None
 
     def timers(self):
         now = time.monotonic()

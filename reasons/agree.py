@@ -18,12 +18,12 @@ import sys
 
 sys.dont_write_bytecode = True
 HERE = os.path.dirname(os.path.abspath(__file__))
-sys.path.insert(0, os.path.join(HERE, '..', 'captures'))
+for folder in ('captures', 'python'):
+    sys.path.insert(0, os.path.join(HERE, '..', folder))
+import check
 import tables
 import why
-
-import check
-import program
+from bgp import program
 
 COUNT = 1000  # events of a seed
 # what stands in front of the events of a seed (crates/event_gen/specs/Lines.antt)

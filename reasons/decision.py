@@ -55,7 +55,7 @@ STEPS = [
 
 
 def candidate(wanted, number, value):
-    """A row of `res.K` as a candidate; `wanted` has the declarations (beside/eventfile.py)."""
+    """A row of `res.K` as a candidate; `wanted` has the declarations (python/bgp/eventfile.py)."""
     peer, route = wanted.peers[number], values.route(value)
     is_external = not wanted.is_internal(peer)
     path = values.segments(route.attributes['p'])

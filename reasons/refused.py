@@ -14,10 +14,11 @@ import re
 import sys
 
 sys.dont_write_bytecode = True
+sys.path.insert(0, os.path.join(os.path.dirname(os.path.abspath(__file__)), '..', 'python'))
 import grammar
 import tables
 
-import program
+from bgp import program
 
 SHOWN = 100  # characters of a line
 MOST = 16384  # bytes of a line

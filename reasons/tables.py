@@ -1,12 +1,10 @@
 """The tables that an output tells, line by line: of each live link its rows (docs/OUTPUT.md, "The rules")."""
-import os
 import re
 import subprocess
 import sys
 import threading
 
-sys.path.insert(0, os.path.join(os.path.dirname(os.path.abspath(__file__)), '..', 'beside'))
-import program
+from bgp import program
 
 Refused = program.Refused
 

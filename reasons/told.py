@@ -17,10 +17,10 @@ import os
 import sys
 
 sys.dont_write_bytecode = True
+sys.path.insert(0, os.path.join(os.path.dirname(os.path.abspath(__file__)), '..', 'python'))
 import tables
 
-import program
-import wire
+from bgp import program, wire
 
 SHOWN = 200  # characters of a line
 

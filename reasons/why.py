@@ -17,12 +17,12 @@ import os
 import sys
 
 sys.dont_write_bytecode = True
+sys.path.insert(0, os.path.join(os.path.dirname(os.path.abspath(__file__)), '..', 'python'))
 import decision
 import tables
 import values
 
-import eventfile
-import program
+from bgp import eventfile, program
 
 SHOWN = 160  # characters of a value
 

@@ -26,11 +26,11 @@ sys.dont_write_bytecode = True
 HERE = os.path.dirname(os.path.abspath(__file__))
 TOP = os.path.join(HERE, '..')
 sys.path.insert(0, HERE)
-sys.path.insert(0, os.path.join(TOP, 'beside'))
+sys.path.insert(0, os.path.join(TOP, 'python'))
 import browser  # noqa: E402
 import firefox  # noqa: E402
 import large  # noqa: E402
-import wire  # noqa: E402
+from bgp import wire  # noqa: E402
 
 BROWSERS = {'chromium': (browser.find, browser.Browser), 'firefox': (firefox.find, firefox.Firefox)}
 # width, height and scale of windows: a telephone, a tablet, letters of 200 %, screens
@@ -470,7 +470,7 @@ def check_numbers(page, name, lines):
 
 
 def check_messages(page, name, lines):
-    """UPDATEs and NOTIFICATIONs in words, beside what beside/wire.py reads out of their octets."""
+    """UPDATEs and NOTIFICATIONs in words, beside what python/bgp/wire.py reads out of their octets."""
     with open(example(name + '.events'), encoding='latin-1') as file:
         width = 4 if 'as4' in file.read().split('\n') else 2
     for number, line in enumerate(lines, 1):

@@ -8,10 +8,8 @@ import tempfile
 import time
 
 import explained
-import namespaces
-import program
+from bgp import namespaces, program, session
 import router
-import session
 from compare import Difference
 from run import Run
 

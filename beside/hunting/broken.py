@@ -1,5 +1,5 @@
 """Messages with one fault, as docs/BGP.md names them ("Faults"): made of a sound UPDATE."""
-import wire
+from bgp import wire
 from hunting import parts
 
 # attributes with a fault of flags, length or value, by what the fault is
@@ -23,7 +23,7 @@ def faulty(random, sound, reflects):
 
 
 def attribute(random, sound, reflects):
-    one = parts.Attribute(*random.choice(FAULTY + REFLECTED * reflects))
+    one = wire.Attribute(*random.choice(FAULTY + REFLECTED * reflects))
     kept = [other for other in sound.attributes if other.kind != one.kind]
     return parts.written(sound._replace(attributes=sorted(kept + [one], key=lambda other: other.kind)))
 
@@ -38,7 +38,7 @@ def missing(random, sound, _):
 
 
 def unknown(_, sound, __):
-    return parts.written(sound._replace(attributes=sound.attributes + [parts.Attribute(*UNKNOWN)]))
+    return parts.written(sound._replace(attributes=sound.attributes + [wire.Attribute(*UNKNOWN)]))
 
 
 def run_out(random, sound, _):

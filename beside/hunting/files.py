@@ -1,8 +1,7 @@
 """Event files at random, by seed: what a daemon can be asked, and nothing that it can't do (docs/HUNT.md)."""
 import random
 
-import eventfile
-import wire
+from bgp import eventfile, wire
 from hunting import broken, parts, topics
 from hunting.routes import NEIGHBOURS, WIDE, Routes
 

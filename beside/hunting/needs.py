@@ -1,10 +1,8 @@
 """What a file needs to show its difference: the words of the event language, attributes, and faults of messages that are left in it."""
 import re
 
-import eventfile
-import wire
+from bgp import eventfile, wire
 from faults import faults
-from hunting import parts
 
 NAMES = {wire.ORIGIN: 'ORIGIN', wire.MED: 'MULTI_EXIT_DISC', wire.LOCAL_PREF: 'LOCAL_PREF', wire.ATOMIC_AGGREGATE: 'ATOMIC_AGGREGATE',
          wire.AGGREGATOR: 'AGGREGATOR', wire.ORIGINATOR_ID: 'ORIGINATOR_ID', wire.CLUSTER_LIST: 'CLUSTER_LIST'}
@@ -72,12 +70,12 @@ class Needs:
             yield from ('fault: %s' % one for one in faults(said, bool(came), width))
         if faults(said, bool(came), width):
             return
-        for one in parts.attributes(said):
+        for one in wire.attributes(said):
             if one.kind in NAMES and (one.kind != wire.ORIGIN or one.value != b'\0'):
                 yield NAMES[one.kind]
             elif one.kind > wire.AGGREGATOR and one.kind not in NAMES:
                 yield 'an unrecognized attribute'
-        yield from self.of_values(wire.attributes(said), prefixes, peer, width)
+        yield from self.of_values(wire.by_type(said), prefixes, peer, width)
 
     def of_values(self, said, prefixes, peer, width):
         if wire.AS_PATH in said:

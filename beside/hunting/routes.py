@@ -1,6 +1,5 @@
 """Announcements at random: few prefixes, and attributes that are alike up to some step of the decision."""
-import update
-import wire
+from bgp import wire
 from hunting import parts
 
 PREFIXES = ('10.1.0.0/16', '10.1.0.0/16', '10.1.0.0/16', '10.2.0.0/16', '10.1.1.0/24', '10.1.128.0/17', '10.0.0.0/8', '10.1.1.1/32', '0.0.0.0/0')
@@ -68,7 +67,7 @@ class Routes:
         """Those of one route, by type."""
         origin = bytes([self.pick('origin')])
         hop = bytes(int(octet) for octet in self.hop(peer).split('.'))
-        said = [(0x40, wire.ORIGIN, origin), (0x40, wire.AS_PATH, parts.path(self.path(peer), self.width)), (0x40, wire.NEXT_HOP, hop)]
+        said = [(0x40, wire.ORIGIN, origin), (0x40, wire.AS_PATH, wire.path_octets(self.path(peer), self.width)), (0x40, wire.NEXT_HOP, hop)]
         med = self.pick('med')
         if med is not None:
             said.append((0x80, wire.MED, med.to_bytes(4, 'big')))
@@ -77,7 +76,7 @@ class Routes:
         said += self.rare()
         if self.reflects and peer.asn == self.local.asn:
             said += self.reflected()
-        said = [parts.Attribute(*one) for one in said]
+        said = [wire.Attribute(*one) for one in said]
         return said if self.chance(.95) else self.random.sample(said, len(said))
 
     def rare(self):
@@ -107,13 +106,13 @@ class Routes:
     def announcement(self, peer, most=1, withdrawn=(), announced=()):
         """An UPDATE that announces some prefixes, drawn unless they are given, and withdraws others."""
         came = [self.octets(prefix) for prefix in announced or self.prefixes(most)]
-        gone = [one for one in (update.prefix(prefix) for prefix in sorted(set(withdrawn))) if one not in came]
+        gone = [one for one in (wire.prefix_octets(prefix) for prefix in sorted(set(withdrawn))) if one not in came]
         return parts.Parts(gone, self.attributes(peer), came)
 
     def octets(self, prefix):
         """A prefix; now and then with bits beyond its length."""
-        said = update.prefix(prefix)
+        said = wire.prefix_octets(prefix)
         return said[:-1] + bytes([said[-1] | 1]) if said[0] % 8 and self.chance(self.odd) else said
 
     def withdrawal(self, prefixes):
-        return parts.Parts([update.prefix(prefix) for prefix in prefixes], [], [])
+        return parts.Parts([wire.prefix_octets(prefix) for prefix in prefixes], [], [])

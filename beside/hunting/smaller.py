@@ -4,8 +4,7 @@
 """
 import re
 
-import eventfile
-import wire
+from bgp import eventfile, wire
 from hunting import parts
 
 STAYS = re.compile('local |route add connected 192.0.2.0/24 ')  # without them there is no file, and no NEXT_HOP is resolved
@@ -137,10 +136,10 @@ def less_value(attribute, width):
     """Shorter values: a path without one of its segments or numbers, a list without one of its entries, an unrecognized one without any octet."""
     if attribute.kind == wire.AS_PATH:
         try:
-            found = parts.segments(attribute.value, width)
+            found = wire.segments(attribute.value, width)
         except ValueError:
             return
-        yield from (parts.path(left, width) for left in less_path(found))
+        yield from (wire.path_octets(left, width) for left in less_path(found))
     elif attribute.kind == wire.CLUSTER_LIST and len(attribute.value) > 4:
         entries = [attribute.value[at:at + 4] for at in range(0, len(attribute.value), 4)]
         yield from (b''.join(left) for left in without(entries))

@@ -9,7 +9,7 @@ import signal
 import tempfile
 import time
 
-import namespaces
+from bgp import namespaces
 from hunting import files, groups, smaller
 from hunting.bed import LONG, Bed
 

@@ -7,8 +7,7 @@ nobody takes.
 import collections
 import struct
 
-import messages
-import mrt
+from bgp import mrt, wire
 
 VERSION = 3
 HEAD = struct.Struct('>BIB')  # version, length, type (section 4.1)
@@ -85,13 +84,13 @@ def session(asn, peer, rest):
     """The session that a Peer Up tells: the local address, two ports, the OPEN that was sent and the one that was received (section 4.10)."""
     sent = rest[20:20 + int.from_bytes(rest[36:38], 'big')]
     received = rest[20 + len(sent):]
-    ours, theirs = messages.capabilities(sent[19:]), messages.capabilities(received[19:])
-    local_as = int.from_bytes(ours[messages.WIDE] if messages.WIDE in ours else sent[20:22], 'big')
+    ours, theirs = wire.capabilities(sent[19:]), wire.capabilities(received[19:])
+    local_as = int.from_bytes(ours[wire.WIDE] if wire.WIDE in ours else sent[20:22], 'big')
     return Session(mrt.Sides(asn, local_as, 2 if len(peer) == 16 else 1, peer, rest[:16][-len(peer):], b''),
                    bool(offers(ours) & 1 and offers(theirs) & 2))
 
 
 def offers(found):
     """What an OPEN says of path identifiers of IPv4 unicast (RFC 7911, section 4): 1 to receive them, 2 to send them."""
-    said = found.get(messages.PATHS, b'')
-    return next((said[at + 3] for at in range(0, len(said) - 3, 4) if said[at:at + 3] == messages.IPV4_UNICAST), 0)
+    said = found.get(wire.PATHS, b'')
+    return next((said[at + 3] for at in range(0, len(said) - 3, 4) if said[at:at + 3] == wire.IPV4_UNICAST), 0)

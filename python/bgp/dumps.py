@@ -2,9 +2,7 @@
 import collections
 import struct
 
-import messages
-import mrt
-import wire
+from bgp import messages, mrt, wire
 
 # AS number and address of a peer, as its octets; a route of the router's own has none
 Peer = collections.namedtuple('Peer', 'asn address')
@@ -70,7 +68,7 @@ def mended(octets, width):
     """The attributes of a route with AS numbers of four octets, flags as their standards have them (BIRD leaves some 00), and type 14 with
     the next hop alone (RFC 6396, section 4.3.4) or whole (as FRR and others write it); and the next hop of type 14, or None."""
     said, hop = [], None
-    for one in messages.attributes(octets):
+    for one in wire.attributes(octets):
         if one.kind in messages.FLAGS:
             one = one._replace(flags=messages.FLAGS[one.kind] | one.flags & 0x30)
         if one.kind == messages.MP_REACH:

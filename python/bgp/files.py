@@ -6,8 +6,7 @@ import lzma
 import sys
 import zlib
 
-import bmp
-import mrt
+from bgp import bmp, mrt, wire
 
 FORMS = {'MRT': mrt.records, 'BMP': bmp.records}
 # what else a file may be, by its first octets
@@ -19,7 +18,7 @@ FOREIGN = {
     b'\xa1\xb2\xc3\xd4': 'it is a packet capture (pcap, as tcpdump writes it): a router or collector has to write the MRT file',
     b'\x4d\x3c\xb2\xa1': 'it is a packet capture (pcap, as tcpdump writes it): a router or collector has to write the MRT file',
     b'\x0a\x0d\x0d\x0a': 'it is a packet capture (pcapng, as Wireshark writes it): a router or collector has to write the MRT file',
-    b'\xff' * 16: 'it has bare BGP messages, without the records of an MRT file around them',
+    wire.MARKER: 'it has bare BGP messages, without the records of an MRT file around them',
 }
 
 

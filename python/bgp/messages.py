@@ -1,93 +1,25 @@
-"""UPDATEs of a capture, taken apart and put together again, so that a session of IPv4 unicast with AS numbers of four octets says the same
+"""UPDATEs taken apart and put together again, so that a session of IPv4 unicast with AS numbers of four octets says the same
 (RFC 4271, section 4.3; RFC 4760; RFC 5065; RFC 6793; RFC 7911; RFC 8654; RFC 8950).
 """
 import collections
-import os
-import struct
-import sys
 
-sys.path.insert(0, os.path.join(os.path.dirname(os.path.abspath(__file__)), '..', 'beside'))
-import wire
+from bgp import wire
+from bgp.wire import AS_SEQUENCE, AS_SET, IPV4_UNICAST, Attribute, path_octets, segments
 
-MOST = 4096  # octets of a message without RFC 8654
 MP_REACH, MP_UNREACH, AS4_PATH, AS4_AGGREGATOR = 14, 15, 17, 18
-IPV4_UNICAST, IPV6_UNICAST = b'\0\1\1', b'\0\2\1'  # AFI and SAFI
-WIDE, PATHS = 65, 69  # capabilities: AS numbers of four octets, path identifiers
-AS_SET, AS_SEQUENCE = 1, 2
 CONFEDERATION = (3, 4)  # types of segments (RFC 5065, section 3)
 OF_A_CONFEDERATION = tuple(bytes([kind]) for kind in CONFEDERATION)  # how such a path begins
-EXTENDED = 0x10  # the flag of a length of two octets
 # the flags of attributes whose standard leaves no choice but the partial bit
 FLAGS = {1: 0x40, 2: 0x40, 3: 0x40, 4: 0x80, 5: 0x40, 6: 0x40, 7: 0xc0, 8: 0xc0, 9: 0x80, 10: 0x80, 14: 0x80, 15: 0x80, 16: 0xc0, 32: 0xc0}
 
-Attribute = collections.namedtuple('Attribute', 'flags kind value')
 # withdrawn and announced prefixes, each with its path identifier (0 where there are none), and the attributes between them
 Said = collections.namedtuple('Said', 'gone attributes come')
-
-
-# ---- reading
-
-def attributes(octets):
-    """The attributes in their order. ValueError where one runs beyond the end."""
-    found, at, end = [], 0, len(octets)
-    while at + 3 <= end:
-        flags, front, size = octets[at], 3, octets[at + 2]
-        if flags & EXTENDED:
-            front, size = 4, size << 8 | (octets[at + 3] if at + 4 <= end else end)
-        behind = at + front + size
-        if behind > end:
-            break
-        found.append(Attribute(flags, octets[at + 1], octets[at + front:behind]))
-        at = behind
-    if at < end:
-        raise ValueError('an attribute runs beyond its end')
-    return found
-
-
-def prefixes(octets, with_paths, most=32):
-    """The prefixes of a field, each with its path identifier."""
-    found, at, end, path, front = [], 0, len(octets), 0, 4 if with_paths else 0
-    while at + front < end:
-        length = octets[at + front]
-        behind = at + front + 1 + (length + 7 >> 3)
-        if length > most or behind > end:
-            raise ValueError('a prefix of length %d, or that runs beyond its end' % length)
-        if with_paths:
-            path = int.from_bytes(octets[at:at + 4], 'big')
-        found.append((path, octets[at + front:behind]))
-        at = behind
-    if at < end:
-        raise ValueError('a path identifier without a prefix')
-    return found
 
 
 def read(octets, with_paths=False):
     """What an UPDATE says, by its own fields. ValueError where they don't fit."""
     gone, said, come = wire.fields(octets[19:])
-    return Said(prefixes(gone, with_paths), attributes(said), prefixes(come, with_paths))
-
-
-def capabilities(body):
-    """The capabilities of an OPEN (RFC 5492), by their codes."""
-    found, at = {}, 10
-    while at + 2 <= len(body):
-        kind, value = body[at], body[at + 2:at + 2 + body[at + 1]]
-        at += 2 + len(value)
-        while kind == 2 and len(value) >= 2:
-            found[value[0]] = value[2:2 + value[1]]
-            value = value[2 + value[1]:]
-    return found
-
-
-def segments(octets, width):
-    """The segments of a path: type and numbers. ValueError where they aren't whole."""
-    found, at = [], 0
-    while at < len(octets):
-        kind, count = wire.part(octets, at, 2)
-        numbers = struct.unpack('>%d%s' % (count, 'H' if width == 2 else 'I'), wire.part(octets, at + 2, width * count))
-        found.append((kind, list(numbers)))
-        at += 2 + width * count
-    return found
+    return Said(list(wire.prefixes(gone, with_paths)), list(wire.attributes(said)), list(wire.prefixes(come, with_paths)))
 
 
 # ---- AS numbers of four octets
@@ -121,10 +53,6 @@ def merged(path, wide):
         else:
             found.append((kind, numbers))
     return found
-
-
-def path_octets(path):
-    return b''.join(bytes([kind, len(numbers)]) + struct.pack('>%dI' % len(numbers), *numbers) for kind, numbers in path)
 
 
 def value_of(said, kind, size=None):
@@ -193,9 +121,9 @@ def with_own_fields(said, with_paths):
     for one in said.attributes:
         if one.kind == MP_REACH and one.value.startswith(IPV4_UNICAST):
             _, hop, field = reached(one.value)
-            come += prefixes(field, with_paths)
+            come += wire.prefixes(field, with_paths)
         elif one.kind == MP_UNREACH and one.value.startswith(IPV4_UNICAST):
-            gone += prefixes(one.value[3:], with_paths)
+            gone += wire.prefixes(one.value[3:], with_paths)
         else:
             others.append(one)
     yield said._replace(gone=said.gone + gone, attributes=others)
@@ -222,13 +150,6 @@ def of_other_families(said):
 
 # ---- writing
 
-def spelled(one):
-    """The octets of an attribute."""
-    if len(one.value) > 255 or one.flags & EXTENDED:
-        return struct.pack('>BBH', one.flags | EXTENDED, one.kind, len(one.value)) + one.value
-    return bytes([one.flags, one.kind, len(one.value)]) + one.value
-
-
 def taken(octets, room):
     """So many of the first pieces as there is room for, joined; the others stay."""
     size, count = 0, 0
@@ -240,20 +161,16 @@ def taken(octets, room):
     return part
 
 
-def update(gone, said, come):
-    return wire.message(wire.UPDATE, struct.pack('>H', len(gone)) + gone + struct.pack('>H', len(said)) + said + come)
-
-
 def written(gone, said, come):
     """UPDATEs of at most 4,096 octets that say this. ValueError where the attributes alone leave no room for a prefix."""
-    said, gone, come = b''.join(map(spelled, said)), list(gone), list(come)
-    room = MOST - 23
+    said, gone, come = b''.join(map(wire.attribute, said)), list(gone), list(come)
+    room = wire.MOST - 23
     if come and len(said) + max(map(len, come)) > room:
         raise ValueError('the attributes alone are too long')
     while gone and sum(map(len, gone)) + len(said) + sum(map(len, come)) > room:
-        yield update(taken(gone, room), b'', b'')
+        yield wire.made_update(taken(gone, room), b'', b'')
     if not come:
-        yield update(b''.join(gone), said, b'')
+        yield wire.made_update(b''.join(gone), said, b'')
     while come:
         first, gone = b''.join(gone), []
-        yield update(first, said, taken(come, room - len(said) - len(first)))
+        yield wire.made_update(first, said, taken(come, room - len(said) - len(first)))

@@ -5,6 +5,8 @@ import socket
 import struct
 import zlib
 
+from bgp.wire import short
+
 TABLE_DUMP, TABLE_DUMP_V2, BGP4MP, BGP4MP_ET = 12, 13, 16, 17
 BMP = 1 << 16  # no type of a record: what bmp.py has no use for
 STATE_CHANGE, MESSAGE, MESSAGE_AS4, STATE_CHANGE_AS4 = 0, 1, 4, 5
@@ -13,7 +15,6 @@ LOCAL_MESSAGES = (6, 7, 10, 11)  # what the router itself said
 PEER_INDEX_TABLE = 1
 RIB_IPV4, RIB_IPV6, RIB_IPV4_ADDPATH, RIB_IPV6_ADDPATH = 2, 4, 8, 10
 ESTABLISHED = 6
-AS_TRANS = 23456
 
 TYPES = {11: 'OSPFv2', 12: 'TABLE_DUMP', 13: 'TABLE_DUMP_V2', 16: 'BGP4MP', 17: 'BGP4MP_ET', 32: 'ISIS', 33: 'ISIS_ET', 48: 'OSPFv3', 49: 'OSPFv3_ET', BMP: 'BMP'}
 SUBTYPES = {
@@ -84,8 +85,8 @@ def sides(subtype, body):
 
 def sides_octets(is_wide, told):
     """The fields of a record of BGP4MP, as `sides` reads them."""
-    numbers = (told.peer_as, told.local_as) if is_wide else [number if number < 65536 else AS_TRANS for number in (told.peer_as, told.local_as)]
-    return struct.pack('>IIHH' if is_wide else '>HHHH', *numbers, 0, told.family) + told.peer + told.local
+    numbers = (told.peer_as, told.local_as) if is_wide else (short(told.peer_as), short(told.local_as))
+    return made_sides(is_wide, told.peer, told.local, told.family, *numbers)
 
 
 def shown(address):
@@ -106,10 +107,9 @@ def record(kind, subtype, body, when=0):
     return HEAD.pack(when, kind, subtype, len(body)) + body
 
 
-def made_sides(as4, peer=(192, 0, 2, 1), local=LOCAL, family=1, peer_as=65001, local_as=65000):
+def made_sides(as4, peer=(192, 0, 2, 1), local=LOCAL, family=1, peer_as=65001, local_as=65000, interface=0):
     """The front of a record of BGP4MP."""
-    form = '>IIHH' if as4 else '>HHHH'
-    return struct.pack(form, peer_as, local_as, 0, family) + bytes(peer) + bytes(local)
+    return struct.pack('>IIHH' if as4 else '>HHHH', peer_as, local_as, interface, family) + bytes(peer) + bytes(local)
 
 
 def made_states(as4, old, new, kind=BGP4MP, when=0, **where):

@@ -4,7 +4,7 @@ import socket
 import struct
 import time
 
-import wire
+from bgp import wire
 
 SIOCOUTQ = 0x5411  # linux/sockios.h
 
@@ -57,7 +57,7 @@ class Connection:
         """How many octets the next message has; those of a header, where no whole one has come yet."""
         if len(self.buffer) - self.at < 19:
             return 19
-        return max(19, struct.unpack_from('>H', self.buffer, self.at + 16)[0])
+        return max(19, wire.size(self.buffer, self.at))
 
     def all_taken(self):
         """Whether the other side has acknowledged all that was sent; also where the connection is closed."""

@@ -4,9 +4,9 @@ import os
 import re
 import subprocess
 
-import wire
+from bgp import wire
 
-TOP = os.path.dirname(os.path.dirname(os.path.abspath(__file__)))
+TOP = os.path.dirname(os.path.dirname(os.path.dirname(os.path.abspath(__file__))))
 BUILT = os.path.join(TOP, 'crates', 'replay_main', 'out', 'replay_main')
 LIMIT = 300  # seconds
 # a question that changes nothing (docs/LANGUAGE.md) stands behind each event: its answer ends the event's lines of the output
