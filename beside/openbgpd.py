@@ -1,9 +1,10 @@
 """OpenBGPD beside `replay` (Debian's `openbgpd`). On Linux it sees no routes of the kernel: each next hop is taken to be reachable."""
 import json
 
+from bgp import eventfile
 from bgp.eventfile import masked
 from bgp.program import Best
-from router import Failed, Router, bounds, flat, origin
+from router import Failed, Router, adds_up, bounds, flat, origin
 
 HEAD = '''AS %(asn)d
 router-id %(identifier)s
@@ -58,6 +59,8 @@ class OpenBgpd(Router):
                 return 'an incoming `prepend-self` makes the path of the decision longer'
             if words[0] == 'filter' and ('nomed' in words or 'origin' in words):
                 return 'its filters have neither `nomed` nor a condition on ORIGIN'
+            if words[0] == 'filter' and adds_up(eventfile.rules(words[3:])):
+                return 'the `prepend-self` of two rules add up'
         return None
 
     def config(self):

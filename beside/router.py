@@ -151,3 +151,9 @@ def changed(before, now):
     """What differs between two tables: keys that went, and those that came or changed."""
     return sorted(set(before) - set(now)), sorted(key for key in now if before.get(key) != now[key])
 
+
+
+def adds_up(rules):
+    """Whether two rules of a filter that may both apply prepend: daemons then prepend for each, and the file means the last one."""
+    places = [place for place, rule in enumerate(rules) if any(word == 'prepend' for word, _ in rule.actions) and rule.verdict != 'reject']
+    return any(rules[place].verdict == 'next' for place in places[:-1])
