@@ -25,6 +25,21 @@ def faults(octets, announces, width):
     return found
 
 
+def behind(octets, width):
+    """What stands behind the first attribute with a fault of its flags, length or value, of those types whose faults withdraw (RFC 7606,
+    section 7); None where there is no such attribute."""
+    at = 0
+    try:
+        for one in wire.attributes(octets):
+            at += len(one.value) + (4 if one.flags & 0x10 else 3)
+            found = set(of_one(*one, width)) - ({'value'} if one.kind == wire.NEXT_HOP else set())
+            if found and one.kind in FLAGS and one.kind not in (wire.ATOMIC_AGGREGATE, wire.AGGREGATOR):
+                return octets[at:]
+    except ValueError:
+        pass
+    return None
+
+
 def of_one(flags, kind, value, width):
     """The faults of one attribute."""
     if kind not in FLAGS:
