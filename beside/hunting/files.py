@@ -9,6 +9,8 @@ LOCAL = 'local 65000 192.0.2.254 192.0.2.254'
 SHARED = 'route add connected 192.0.2.0/24 direct eth0 0'
 INTERFACES = ('eth0', 'eth1', 'eth2')
 HELD = ('172.16.0.0/16', '172.16.0.0/15', '172.16.1.0/24', '172.16.1.9/32', '172.17.0.0/16', '0.0.0.0/0', '192.0.2.60/32', '192.0.2.128/25')
+APART = ('172.16.0.0/16', '172.16.1.0/24', '172.17.0.0/16')  # each holds one of the far next hops and not all
+METRICS = (0, 1, 5, 10, 20)
 ATTACHED = ('172.16.0.0/16', '172.16.1.0/24', '172.17.0.0/16')
 OWN = ('10.1.0.0/16', '10.2.0.0/16', '10.9.0.0/16', '10.1.1.0/24')
 REFRESHES = (bytes([0, 1, 0, 1]),) * 4 + (bytes([0, 1, 7, 1]), bytes([0, 2, 0, 1]), bytes([0, 1, 0, 2]))
@@ -24,7 +26,8 @@ class Maker:
         self.wide, self.reflects = ('four octets' in self.topics), ('reflection' in self.topics)
         self.local = eventfile.Peer(0, 65000, '192.0.2.254', '192.0.2.254', False)
         self.routes = Routes(self.random, self.local, self.wide, self.reflects, 'next hops' in self.topics)
-        self.peers, self.up, self.ways = {}, set(), set()
+        self.peers, self.up = {}, set()
+        self.ways = {}  # by protocol and prefix: how it is reached, without the metric, and the metric
         self.said, self.announced = {}, {}  # by peer: its messages in hex, and the prefixes in them
 
     def chance(self, probability):
@@ -40,7 +43,9 @@ class Maker:
         yield from (self.declared(peer) for peer in self.peers.values())
         yield SHARED
         if 'next hops' in self.topics:
-            yield from self.many(self.interior, self.random.randint(1, 4))
+            if self.chance(.6):
+                yield from self.apart()
+            yield from self.many(self.interior, self.random.randint(1, 3))
         for number in self.peers:
             if self.chance(.9):
                 yield from self.begun(number)
@@ -233,36 +238,52 @@ class Maker:
             yield self.changed(*self.random.choice(sorted(self.ways)))
         elif self.chance(.08):
             protocol = self.random.choice(eventfile.PROTOCOLS[1:])
-            self.ways = {way for way in self.ways if way[0] != protocol}
+            self.ways = {way: reached for way, reached in self.ways.items() if way[0] != protocol}
             yield 'lost %s' % protocol
         elif self.chance(.15):
-            yield self.way('connected', self.random.choice(ATTACHED), 'direct %s 0' % self.random.choice(INTERFACES[1:]))
+            yield self.way('connected', self.random.choice(ATTACHED), 'direct %s' % self.random.choice(INTERFACES[1:]), 0)
         else:
-            yield self.way(self.random.choice(eventfile.PROTOCOLS[1:]), self.random.choice(HELD), self.reached())
+            yield self.way(self.random.choice(eventfile.PROTOCOLS[1:]), self.random.choice(HELD), *self.reached())
+
+    def apart(self):
+        """Two routes that hold next hops, of different metrics."""
+        metrics = self.random.sample(METRICS, 2)
+        for prefix, metric in zip(self.random.sample(APART, 2), metrics):
+            yield self.way(self.random.choice(eventfile.PROTOCOLS[1:]), prefix, self.over(), metric)
+
+    def metric(self):
+        """The metric of a route changes, and nothing else."""
+        ways = sorted(way for way in self.ways if way[0] != 'connected' and way[1] not in OWN)
+        if ways:
+            way = self.random.choice(ways)
+            reached, metric = self.ways[way]
+            yield self.way(*way, reached, self.random.choice([one for one in METRICS if one != metric]))
 
     def changed(self, protocol, prefix):
         """One that is there goes, or is reached otherwise."""
         if protocol == 'connected' or self.chance(.5):
-            self.ways.discard((protocol, prefix))
+            self.ways.pop((protocol, prefix), None)
             return 'route del %s %s' % (protocol, prefix)
-        return self.way(protocol, prefix, self.reached())
+        return self.way(protocol, prefix, *self.reached())
 
-    def way(self, protocol, prefix, reached):
-        self.ways.add((protocol, prefix))
-        return 'route add %s %s %s' % (protocol, prefix, reached)
+    def way(self, protocol, prefix, reached, metric):
+        self.ways[protocol, prefix] = reached, metric
+        return 'route add %s %s %s %d' % (protocol, prefix, reached, metric)
 
     def reached(self):
-        over = self.random.choice(('direct', 'via 192.0.2.98', 'via 192.0.2.99'))
-        return '%s %s %d' % (over, self.random.choice(INTERFACES), self.random.choice((0, 1, 5, 10, 20)))
+        return self.over(), self.random.choice(METRICS)
+
+    def over(self):
+        return '%s %s' % (self.random.choice(('direct', 'via 192.0.2.98', 'via 192.0.2.99')), self.random.choice(INTERFACES))
 
     def own(self):
         """A route that may be redistributed comes or goes."""
         protocol, prefix = self.random.choice(eventfile.PROTOCOLS[1:]), self.random.choice(OWN)
         if (protocol, prefix) in self.ways and self.chance(.6):
-            self.ways.discard((protocol, prefix))
+            self.ways.pop((protocol, prefix), None)
             yield 'route del %s %s' % (protocol, prefix)
         else:
-            yield self.way(protocol, prefix, 'via 192.0.2.99 eth0 %d' % self.random.choice((1, 5)))
+            yield self.way(protocol, prefix, 'via 192.0.2.99 eth0', self.random.choice((1, 5)))
 
     def redistribute(self):
         yield 'redist %s %s' % (self.random.choice(eventfile.PROTOCOLS[1:]), self.random.choice(('on', 'on', 'off')))

@@ -19,7 +19,7 @@ class Routes:
         self.random, self.local, self.wide, self.reflects, self.far = random, local, wide, reflects, far
         self.width = 4 if wide else 2
         # one value in the whole file for those before some step of the decision, and for some behind it
-        depth = random.randrange(len(CHOICES) + 1)
+        depth = len(CHOICES) - 1 if far and self.chance(.5) else random.randrange(len(CHOICES) + 1)
         self.fixed = {name: random.choice(values) if place < depth or self.chance(.3) else None
                       for place, (name, values) in enumerate(CHOICES.items())}
         self.odd = random.choice((.02, .05, .15))  # how often an attribute is one that few routes have
