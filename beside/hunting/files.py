@@ -3,7 +3,7 @@ import random
 
 from bgp import eventfile, wire
 from hunting import broken, parts, topics
-from hunting.routes import NEIGHBOURS, WIDE, Routes
+from hunting.routes import FAR, NEIGHBOURS, WIDE, Routes
 
 LOCAL = 'local 65000 192.0.2.254 192.0.2.254'
 SHARED = 'route add connected 192.0.2.0/24 direct eth0 0'
@@ -43,7 +43,7 @@ class Maker:
         yield from (self.declared(peer) for peer in self.peers.values())
         yield SHARED
         if 'next hops' in self.topics:
-            if self.chance(.6):
+            if self.chance(.8):
                 yield from self.apart()
             yield from self.many(self.interior, self.random.randint(1, 3))
         for number in self.peers:
@@ -114,6 +114,15 @@ class Maker:
         for number in self.random.sample(numbers, self.random.randint(min(2, len(numbers)), len(numbers))):
             peer = self.peers[number]
             yield from self.update(peer, self.routes.announcement(peer, announced=[prefix]))
+
+    def tie(self):
+        """External peers, or internal ones, announce one prefix by next hops that lie apart."""
+        prefix, kinds = self.routes.prefix(), ([], [])
+        for number in sorted(self.up):
+            kinds[self.peers[number].asn == self.local.asn].append(number)
+        numbers = self.random.choice([kind for kind in kinds if len(kind) > 1] or [[]])
+        for number, hop in zip(self.random.sample(numbers, len(numbers)), self.random.sample(FAR, len(FAR))):
+            yield from self.update(self.peers[number], self.routes.tied(self.peers[number], prefix, hop))
 
     def many_prefixes(self, peer):
         return self.routes.announcement(peer, 5)
@@ -246,16 +255,16 @@ class Maker:
             yield self.way(self.random.choice(eventfile.PROTOCOLS[1:]), self.random.choice(HELD), *self.reached())
 
     def apart(self):
-        """Two routes that hold next hops, of different metrics."""
-        metrics = self.random.sample(METRICS, 2)
-        for prefix, metric in zip(self.random.sample(APART, 2), metrics):
+        """Routes that hold one next hop each, of different metrics."""
+        for prefix, metric in zip(APART, self.random.sample(METRICS, len(APART))):
             yield self.way(self.random.choice(eventfile.PROTOCOLS[1:]), prefix, self.over(), metric)
 
     def metric(self):
         """The metric of a route changes, and nothing else."""
         ways = sorted(way for way in self.ways if way[0] != 'connected' and way[1] not in OWN)
+        near = [way for way in ways if way[1] in APART]
         if ways:
-            way = self.random.choice(ways)
+            way = self.random.choice(near if near and self.chance(.7) else ways)
             reached, metric = self.ways[way]
             yield self.way(*way, reached, self.random.choice([one for one in METRICS if one != metric]))
 

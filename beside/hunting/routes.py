@@ -19,7 +19,7 @@ class Routes:
         self.random, self.local, self.wide, self.reflects, self.far = random, local, wide, reflects, far
         self.width = 4 if wide else 2
         # one value in the whole file for those before some step of the decision, and for some behind it
-        depth = len(CHOICES) - 1 if far and self.chance(.5) else random.randrange(len(CHOICES) + 1)
+        depth = len(CHOICES) - 1 if far and self.chance(.7) else random.randrange(len(CHOICES) + 1)
         self.fixed = {name: random.choice(values) if place < depth or self.chance(.3) else None
                       for place, (name, values) in enumerate(CHOICES.items())}
         self.odd = random.choice((.02, .05, .15))  # how often an attribute is one that few routes have
@@ -102,6 +102,12 @@ class Routes:
         return bytes(int(octet) for octet in name.split('.'))
 
     # ---- messages
+
+    def tied(self, peer, prefix, hop):
+        """An announcement by a next hop."""
+        made = self.announcement(peer, announced=[prefix])
+        octets = bytes(int(octet) for octet in hop.split('.'))
+        return made._replace(attributes=[one._replace(value=octets) if one.kind == wire.NEXT_HOP else one for one in made.attributes])
 
     def announcement(self, peer, most=1, withdrawn=(), announced=()):
         """An UPDATE that announces some prefixes, drawn unless they are given, and withdraws others."""

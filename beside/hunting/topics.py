@@ -29,9 +29,9 @@ TOPICS = {
         'rules of both filters edited while routes stand, also twice between two `idle`; all conditions, actions and verdicts',
         'an outgoing `prepend` or `nomed` for an internal peer'),
     'next hops': Topic(
-        4, {'interior': 4, 'metric': 5, 'spread': 4},
+        4, {'interior': 3, 'metric': 6, 'tie': 6, 'spread': 1},
         'interior routes that come, go and change, nested, of four protocols, also in their metric alone, and a whole protocol lost; next '
-        'hops that are resolved, not resolved, or over another one; in half of the files routes that tie up to the cost',
+        'hops that are resolved, not resolved, or over another one; routes that tie up to the cost',
         'an interior route over which the sessions themselves go'),
     'own routes': Topic(
         2, {'own': 4, 'redistribute': 3},
