@@ -17,6 +17,7 @@ def smaller(lines, shows):
     while True:
         before = lines
         lines = by_lines(lines, shows)
+        lines = by_place(lines, shows)
         lines = by_content(lines, shows)
         if lines == before:
             return lines
@@ -61,6 +62,17 @@ def by_lines(lines, shows):
         if size == 1 and not gone:
             return lines
         size = max(1, size // 2)
+
+
+def by_place(lines, shows):
+    """With a later message of a peer in the place of an earlier one of its."""
+    for at, line in enumerate(lines):
+        for later in range(at + 1, len(lines)):
+            if line.startswith('bgp ') and lines[later].split()[:2] == line.split()[:2]:
+                left = lines[:at] + [lines[later]] + lines[at + 1:later] + lines[later + 1:]
+                if shows(left):
+                    return left
+    return lines
 
 
 def by_content(lines, shows):
