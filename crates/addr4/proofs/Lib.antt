@@ -3,6 +3,7 @@ pub mod PrefixOrder
 pub mod HalfLemmas
 pub mod RankLemmas
 pub mod NumberLemmas
+pub mod NumberBack
 pub mod PartLemmas
 mod DigitLemmas
 pub mod FrontLemmas

@@ -72,14 +72,14 @@ five_parts : (a b c d : List ℕ) (more : List (List ℕ)) → 0 < length more �
 five_parts a b c d [] some = absurd (omega arith)
 five_parts a b c d (e ∷ more) some = refl
 
-three_parts : (width : ℕ) (a b : List ℕ) (more : List (List ℕ)) → 0 < length more → prefix_from_parts width (a ∷ b ∷ more) ≡ None
-three_parts width a b [] some = absurd (omega arith)
-three_parts width a b (e ∷ more) some = refl
+three_parts : (v6 : Bool) (a b : List ℕ) (more : List (List ℕ)) → 0 < length more → prefix_from_parts v6 (a ∷ b ∷ more) ≡ None
+three_parts v6 a b [] some = absurd (omega arith)
+three_parts v6 a b (e ∷ more) some = refl
 
 -- a fifth part makes no address
 pub no_fifth_part : (a b c d r : List ℕ) → id_from_parts (a ∷ b ∷ c ∷ d ∷ parts 46 r) ≡ None
 no_fifth_part a b c d r = five_parts a b c d (parts 46 r) (parts_some 46 r)
 
 -- a third part makes no prefix
-pub no_third_part : (width : ℕ) (a b r : List ℕ) → prefix_from_parts width (a ∷ b ∷ parts 47 r) ≡ None
-no_third_part width a b r = three_parts width a b (parts 47 r) (parts_some 47 r)
+pub no_third_part : (v6 : Bool) (a b r : List ℕ) → prefix_from_parts v6 (a ∷ b ∷ parts 47 r) ≡ None
+no_third_part v6 a b r = three_parts v6 a b (parts 47 r) (parts_some 47 r)

@@ -1,8 +1,15 @@
--- The addresses of families with fewer than 128 bits.
-use Rattle.std.specs.Prelude.{◌≡◌, ℕ, ◌*◌, ◌/◌, ◌%◌, ◌^◌, ◌<◌, ◌≤◌}
+-- Two families of addresses in one arithmetic. An address of either is a number of 128 bits, whose first bits are its own: IPv4's 192.0.2.1
+-- is 0xc0000201 * 2 ^ 96. Order, covering, masks and longest match have no family. Texts, octets and hosts do: there it is a value, whether
+-- it is IPv6.
+use Rattle.std.specs.Prelude.{◌≡◌, ℕ, ◌*◌, ◌/◌, ◌%◌, ◌^◌, ◌<◌, ◌≤◌, Bool, true, false, if◌then◌else◌}
 use Rattle.std.proofs.lemmas.Nat.{shl-shr}
 use Rattle.addr4.specs.Blocks.{width}
 use Rattle.addr4.specs.Prefixes.{AddressPrefix, IsMasked}
+
+-- how many bits an address of the family has
+abbrev pub bits_of : Bool → ℕ
+bits_of false = 32
+bits_of true = 128
 
 -- an address of 32 bits as one of 128: its bits come first
 abbrev pub in_front : ℕ → ℕ
@@ -16,8 +23,17 @@ in_front_back n = shl-shr n 96
 abbrev pub IsIpv4 : ℕ → Type 0
 IsIpv4 a = (a < 2 ^ 128) × (a % 2 ^ 96 ≡ 0)
 
--- a prefix of IPv4: no more than 32 bits count
-pub record IsIpv4Prefix (p : AddressPrefix) : Type 0 where
+-- a number that is an address of the family
+abbrev pub IsAddress : Bool → ℕ → Type 0
+IsAddress false a = IsIpv4 a
+IsAddress true a = a < 2 ^ 128
+
+-- a prefix of the family: no more bits count than its addresses have
+pub record IsPrefixOf (v6 : Bool) (p : AddressPrefix) : Type 0 where
   pub masked : IsMasked width p
   pub fits : p.address < 2 ^ 128
-  pub short : p.length ≤ 32
+  pub short : p.length ≤ bits_of v6
+
+-- a prefix of IPv4
+abbrev pub IsIpv4Prefix : AddressPrefix → Type 0
+IsIpv4Prefix = IsPrefixOf false

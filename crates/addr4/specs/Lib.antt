@@ -1,6 +1,7 @@
 pub mod Blocks
-pub mod Families
 pub mod Prefixes
+pub mod Families
+pub mod Hosts
 pub mod Halves
 pub mod Places
 pub mod Texts

@@ -6,7 +6,8 @@ ghost use Rattle.std.specs.Cmp.{partial_order_from_own_ties};
 ghost use Rattle.std.specs.Cmp.Rules.{comparing};
 ghost use Rattle.std.specs.Ordering.{as_partial_cmp, nat_cmp};
 ghost use Rattle.addr4.specs.Blocks.{width, digit_at, Shared};
-ghost use Rattle.addr4.specs.Families.{in_front};
+ghost use Rattle.addr4.specs.Families.{in_front, IsAddress};
+ghost use Rattle.addr4.specs.Hosts.{is_host};
 
 use crate::family::{Family, V4};
 use std::alloc::AllocError;
@@ -105,11 +106,19 @@ impl<F: Family> Addr<F> {
         self.bits
     }
 
-    /// Below two to the width.
+    /// Whether a host may have it.
+    pub fn is_host(self) -> bool
+        ensures { result ≡ is_host F.V6 self }
+    {
+        self.bits.is_host()
+    }
+
+    /// An address of the family, below two to the width.
     pub fn known(self)
         ensures fits { self < 2 ^ width }
         ensures rest { self % 2 ^ (width - F.WIDTH) ≡ 0 }
         ensures narrow { F.WIDTH ≤ width }
+        ensures address { IsAddress F.V6 self }
     {
         self.bits.known();
     }

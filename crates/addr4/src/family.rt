@@ -1,18 +1,26 @@
 //! The families of addresses.
-ghost use Rattle.std.specs.Prelude.{◌≡◌, ◌≢◌, ℕ, ◌+◌, ◌-◌, ◌*◌, ◌/◌, ◌%◌, ◌^◌, ◌<◌, ◌≤◌, ◌↔◌, IsTrue};
+ghost use Rattle.std.specs.Prelude.{◌≡◌, ◌≢◌, ℕ, ◌+◌, ◌-◌, ◌*◌, ◌/◌, ◌%◌, ◌^◌, ◌<◌, ◌≤◌, ◌↔◌, Bool, IsTrue, false, nat_lt, refl};
 ghost use Rattle.std.specs.Ordering.{nat_cmp};
 ghost use Rattle.addr4.specs.Blocks.{width, size_of_length, masked_to, digit_at, Shared};
-ghost use Rattle.addr4.specs.Families.{in_front, in_front_back};
+ghost use Rattle.addr4.specs.Families.{bits_of, in_front, in_front_back, IsAddress};
+ghost use Rattle.addr4.specs.Hosts.{beyond_hosts, is_host};
 
 use std::cmp::Ordering;
 
 /// A family of addresses: the bits of one. Contracts see an address of any family as a number of 128 bits, which begins
-/// with the address's own.
+/// with the address's own; where texts, octets or hosts are spoken of, they also name the family.
 pub trait Family: Copy {
+    /// Whether it is IPv6.
+    ghost V6: { Bool };
+
+    const V6: bool;
+
     /// How many bits an address has.
     ghost WIDTH: { ℕ };
 
     const WIDTH: u8;
+
+    ghost width_is: { WIDTH ≡ bits_of V6 };
 
     /// The number that the bits are.
     ghost number: { Self → ℕ };
@@ -30,7 +38,16 @@ pub trait Family: Copy {
     fn known(self)
         ensures fits { number self < 2 ^ width }
         ensures rest { number self % 2 ^ (width - Self.WIDTH) ≡ 0 }
-        ensures narrow { Self.WIDTH ≤ width };
+        ensures narrow { Self.WIDTH ≤ width }
+        ensures address { IsAddress Self.V6 (number self) };
+
+    /// Whether a host may have the address.
+    fn is_host(self) -> bool
+        ensures { result ≡ is_host Self.V6 (number self) };
+
+    /// Whether the address stands before those at the end of the family that are no hosts'.
+    fn is_before_groups(self) -> bool
+        ensures { result ≡ nat_lt (number self) (beyond_hosts Self.V6) };
 
     fn compare(self, other: Self) -> Ordering
         ensures { result ≡ nat_cmp (number self) (number other) };
@@ -69,9 +86,15 @@ pub trait Family: Copy {
 pub struct V4(pub u32);
 
 impl Family for V4 {
+    ghost V6 = { false };
+
+    const V6: bool = false;
+
     const WIDTH: u8 = 32;
 
     ghost WIDTH = { 32 };
+
+    ghost width_is = { refl };
 
     ghost number = { λ b. in_front b.0 };
 
@@ -84,6 +107,15 @@ impl Family for V4 {
     }
 
     fn known(self) {}
+
+    fn is_host(self) -> bool {
+        let first = self.0 >> 24;
+        1 <= first && first <= 223 && first != 127
+    }
+
+    fn is_before_groups(self) -> bool {
+        self.0 < 224 << 24
+    }
 
     fn compare(self, other: V4) -> Ordering {
         self.0.cmp(&other.0)

@@ -5,6 +5,8 @@ ghost use Rattle.std.specs.Cmp.{partial_order_from_own_ties};
 ghost use Rattle.std.specs.Cmp.Rules.{comparing};
 ghost use Rattle.std.specs.Ordering.{as_partial_cmp};
 ghost use Rattle.addr4.specs.Blocks.{width, masked_to};
+ghost use Rattle.addr4.specs.Families.{IsPrefixOf};
+ghost use Rattle.addr4.specs.Hosts.{is_host_prefix};
 ghost use Rattle.addr4.specs.Prefixes.{prefix_cmp, same_prefix};
 
 use crate::addr::Addr;
@@ -122,9 +124,17 @@ impl<F: Family> Prefix<F> {
         ensures masked { IsMasked width self }
         ensures fits { self.address < 2 ^ width }
         ensures short { self.length ≤ F.WIDTH }
+        ensures of { IsPrefixOf F.V6 self }
     {
         let _length = self.length;
         self.address.known();
+    }
+
+    /// Whether it is none of those of multicast and of class E, which 224.0.0.0/3 or ff00::/8 covers.
+    pub fn is_of_hosts(self) -> bool
+        ensures { result ≡ is_host_prefix F.V6 self }
+    {
+        self.address.bits().is_before_groups()
     }
 
     /// The last address.

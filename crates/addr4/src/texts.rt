@@ -1,6 +1,6 @@
-//! Texts of IPv4's addresses and prefixes.
+//! Texts of addresses and prefixes, and those of IPv4's addresses.
 
-ghost use Rattle.std.specs.Prelude.{◌≡◌, ◌++◌, [], ◌∷◌, OnOk};
+ghost use Rattle.std.specs.Prelude.{◌≡◌, ◌++◌, [], ◌∷◌, OnOk, option_map};
 ghost use Rattle.std.specs.Result.{result_ok};
 ghost use Rattle.std.specs.Fmt.{decimal};
 ghost use Rattle.addr4.specs.Texts.{addr_of, addr_text, dotted, id_of, id_text, number_below, prefix_of, prefix_text};
@@ -27,12 +27,21 @@ pub struct BadPrefix;
 pub trait Texts: Family {
     /// Appends the text of the address that the bits are. For want of memory some front of it may have been appended.
     fn push(self, out: &mut Vec<u8>) -> Result<(), Memory>
-        ensures { OnOk result (out.new.items ≡ out.old.items ++ addr_text (Self.number self)) };
+        ensures { OnOk result (out.new.items ≡ out.old.items ++ addr_text Self.V6 (Self.number self)) };
+
+    /// The bits of the address that a text spells.
+    fn read(text: &[u8]) -> Option<Self>
+        ensures { option_map Self.number result ≡ addr_of Self.V6 text.now };
 }
 
 impl Texts for V4 {
     fn push(self, out: &mut Vec<u8>) -> Result<(), Memory> {
         push_four(out, self.0)
+    }
+
+    fn read(text: &[u8]) -> Option<V4> {
+        let number = read_octets(text)?;
+        Some(V4(number))
     }
 }
 
@@ -43,18 +52,18 @@ fn read_octet(text: &[u8]) -> Option<u8>
     Some(number as u8)
 }
 
-/// Reads an address: four octets (each `0` to `255`, without a leading zero) with dots between them. Another text is
-/// refused.
-pub fn read_addr(text: &[u8]) -> Result<Addr, BadAddr>
-    ensures { result_ok result ≡ addr_of text.now }
+/// Reads an address: of IPv4 four octets (each `0` to `255`, without a leading zero) with dots between them. Another text
+/// is refused.
+pub fn read_addr<F: Texts>(text: &[u8]) -> Result<Addr<F>, BadAddr>
+    ensures { result_ok result ≡ addr_of F.V6 text.now }
 {
-    match read_octets(text) {
+    match F::read(text) {
         None => Err(BadAddr),
-        Some(number) => Ok(Addr::new(number)),
+        Some(bits) => Ok(Addr::from_bits(bits)),
     }
 }
 
-/// Reads an identifier: four octets, as those of an address.
+/// Reads an identifier: four octets, as those of an IPv4 address.
 pub fn read_id(text: &[u8]) -> Result<RouterId, BadAddr>
     ensures { result_ok result ≡ id_of text.now }
 {
@@ -104,7 +113,7 @@ fn push_octet(out: &mut Vec<u8>, octet: u8) -> Result<(), Memory>
 
 /// Appends the text of an address. For want of memory some front of it may have been appended.
 pub fn push_addr<F: Texts>(out: &mut Vec<u8>, addr: Addr<F>) -> Result<(), Memory>
-    ensures { OnOk result (out.new.items ≡ out.old.items ++ addr_text addr) }
+    ensures { OnOk result (out.new.items ≡ out.old.items ++ addr_text F.V6 addr) }
 {
     addr.bits().push(out)
 }
@@ -130,17 +139,17 @@ fn push_four(out: &mut Vec<u8>, number: u32) -> Result<(), Memory>
     )
 }
 
-/// Reads a prefix: an address, a slash, a length to 32 without a leading zero. Bits beyond the length are masked away.
-/// Another text is refused.
-pub fn read_prefix(text: &[u8]) -> Result<Prefix, BadPrefix>
-    ensures { result_ok result ≡ prefix_of 32 text.now }
+/// Reads a prefix: an address, a slash, a length to the family's width without a leading zero. Bits beyond the length are
+/// masked away. Another text is refused.
+pub fn read_prefix<F: Texts>(text: &[u8]) -> Result<Prefix<F>, BadPrefix>
+    ensures { result_ok result ≡ prefix_of F.V6 text.now }
 {
     read_length(text).ok_or(BadPrefix)
 }
 
 #[tactic(auto, using(crate::proofs::PartLemmas::no_third_part), unfolding(crate::specs::Texts::prefix_of))]
-fn read_length(text: &[u8]) -> Option<Prefix>
-    ensures { result ≡ prefix_of 32 text.now }
+fn read_length<F: Texts>(text: &[u8]) -> Option<Prefix<F>>
+    ensures { result ≡ prefix_of F.V6 text.now }
 {
     let (addr, rest) = first_part(text, b'/');
     let (length, more) = first_part(rest?, b'/');
@@ -148,14 +157,14 @@ fn read_length(text: &[u8]) -> Option<Prefix>
         return None;
     }
     let addr = read_addr(addr).ok()?;
-    let length = read_number_below(length, 33)?;
+    let length = read_number_below(length, u64::from(F::WIDTH) + 1)?;
     Prefix::new(addr, length as u8)
 }
 
 /// Appends the text of a prefix. For want of memory some front of it may have been appended.
 #[tactic(auto, unfolding(crate::specs::Texts::prefix_text))]
 pub fn push_prefix<F: Texts>(out: &mut Vec<u8>, p: Prefix<F>) -> Result<(), Memory>
-    ensures { OnOk result (out.new.items ≡ out.old.items ++ prefix_text p) }
+    ensures { OnOk result (out.new.items ≡ out.old.items ++ prefix_text F.V6 p) }
 {
     push_addr(out, p.address())?;
     out.push(b'/')?;

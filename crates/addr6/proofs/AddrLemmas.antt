@@ -13,7 +13,7 @@ use Rattle.std.specs.Int.{w128, from_be_bytes}
 use Rattle.std.specs.List.{list_all}
 use Rattle.std.specs.Net.Addr.{octets_of}
 use Rattle.std.specs.Net.Grammar.{IsGroupsAfter, IsGroups, IsElided, IsColonHex}
-use Rattle.addr6.specs.Texts.{groups_of, groups_in, around, from_groups, if_eight, filled, addr6_from, addr6_of}
+use Rattle.addr4.specs.Texts.{groups_of, groups_in, around, from_groups, if_eight, filled, addr6_from, addr6_of}
 use Rattle.addr6.proofs.GroupLemmas.{undotted, groups_pass, groups_told, groups_back, onto_none, onto_some, groups_before, without, around_back}
 
 abbrev pub NoDot : List ℕ → Type 0

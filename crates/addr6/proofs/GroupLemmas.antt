@@ -13,7 +13,7 @@ use Rattle.std.specs.List.{All, list_all, join_with_byte}
 use Rattle.std.specs.Net.Grammar.{IsGroup, IsGroupsAfter, IsGroups, IsDotted}
 use Rattle.addr4.specs.Texts.{parts}
 use Rattle.addr4.proofs.PartLemmas.{parts_some}
-use Rattle.addr6.specs.Texts.{is_group, groups_in, around}
+use Rattle.addr4.specs.Texts.{is_group, groups_in, around}
 
 -- ---- a group
 digits_pass : (ds : List ℕ) → AllDigits 16 ds → list_all (λ c. is_digit c 16) ds ≡ true

@@ -12,9 +12,8 @@ use Rattle.std.specs.Net.Grammar.{IsGroup, IsGroupsAfter, IsGroups}
 use Rattle.std.specs.Net.Text.{hex, groups_text}
 use Rattle.addr4.specs.Blocks.{width, masked_to}
 use Rattle.addr4.specs.Prefixes.{AddressPrefix, IsMasked}
-use Rattle.addr4.specs.Texts.{is_numeral, value_below, number_below, parts, address_prefix_of}
-use Rattle.addr4.proofs.NumberLemmas.{value_small}
-use Rattle.addr6.specs.Texts.{groups_of, addr6_text, addr6_of, prefix6_text, prefix6_from_parts, prefix6_of}
+use Rattle.addr4.specs.Texts.{parts, address_prefix_of, groups_of, addr6_text, addr6_of, prefix_text, prefix_from_parts, prefix_of}
+use Rattle.addr4.proofs.NumberBack.{decimals_pass, number_back}
 use Rattle.addr6.proofs.GroupLemmas.{groups_pass}
 use Rattle.addr6.proofs.AddrLemmas.{full_told, value_back}
 
@@ -71,41 +70,6 @@ short_groups lead text g groups (inr h) = absurd (true≢false (sym h.2))
 pub addr_short : (a : ℕ) → length (addr6_text a) ≤ 39
 addr_short a = short_groups [] (addr6_text a) _ _ (text_groups a)
 
--- ---- lengths
-numeral_by : (a b c d : Bool) → a ≡ false → c ≡ false → d ≡ true → (not a && (b || not c) && d) ≡ true
-numeral_by true b c d ha hc hd = absurd (cc)
-numeral_by false b true d ha hc hd = absurd (cc)
-numeral_by false true false d ha hc hd = hd
-numeral_by false false false d ha hc hd = hd
-
-decimal_digit_passes : (c : ℕ) → digit_value c < 10 → is_ascii_digit c ≡ true
-decimal_digit_passes c h = grind (arith, nat_tests)
-
-decimals_pass : (p : ℕ → Bool) → ((c : ℕ) → digit_value c < 10 → p c ≡ true) → (ds : List ℕ) → AllDigits 10 ds → list_all p ds ≡ true
-decimals_pass p each [] h = refl
-decimals_pass p each (c ∷ cs) h = and_from _ _ (each c h.0) (decimals_pass p each cs h.1)
-
-numeral_above : (n : ℕ) → 0 < n → n < 2 ^ 64 → is_numeral (decimal n) ≡ true
-numeral_above n some wide =
-    let text = decimal n in
-    let numeral = decimal_is_IsNumeral n wide in
-    let long = numeral.0.0 in
-    let first = first_decimal n some wide in
-    let not_empty : nat_eq (length text) 0 ≡ false = grind (arith, nat_tests) in
-    let not_zero : nat_eq (get_or text 0 0) 48 ≡ false = grind (arith, nat_tests) in
-    numeral_by (nat_eq (length text) 0) (nat_eq (length text) 1) (nat_eq (get_or text 0 0) 48) (list_all is_ascii_digit text) not_empty not_zero (decimals_pass is_ascii_digit decimal_digit_passes text numeral.0.1)
-
-is_numeral_decimal : (n : ℕ) → n < 2 ^ 64 → is_numeral (decimal n) ≡ true
-is_numeral_decimal zero wide = ap is_numeral (decimal_digit 0 (omega arith))
-is_numeral_decimal (suc n) wide = numeral_above (suc n) (omega arith) wide
-
-number_back : (bound n : ℕ) → n < bound → n < 2 ^ 64 → number_below bound (decimal n) ≡ Some n
-unfolding number_below
-number_back bound n below wide =
-    let value = (decimal_is_IsNumeral n wide).1 in
-    let small : digits_value 10 (decimal n) < bound = omega arith in
-    ap (λ b. cond b (value_below bound (decimal n)) None) (is_numeral_decimal n wide) ∙ (sym (value_small bound (decimal n) small) ∙ ap Some value)
-
 -- ---- prefixes
 no_slash : (c : ℕ) → digit_value c < 16 → not (nat_eq c 47) ≡ true
 no_slash c h = grind (arith, nat_tests)
@@ -120,8 +84,8 @@ is_not false h = refl
 slashless : (text : List ℕ) → list_all (λ b. not (nat_eq b 47)) text ≡ true → All (λ b. nat_eq b 47 ≡ false) text
 slashless text h k d below = is_not _ (AllPass-from_list_all (λ b. not (nat_eq b 47)) text h k d below)
 
-prefix_parts : (p : AddressPrefix) → p.length ≤ 128 → parts 47 (prefix6_text p) ≡ addr6_text p.address ∷ decimal p.length ∷ []
-unfolding prefix6_text
+prefix_parts : (p : AddressPrefix) → p.length ≤ 128 → parts 47 (prefix_text true p) ≡ addr6_text p.address ∷ decimal p.length ∷ []
+unfolding prefix_text
 prefix_parts p short =
     let front = groups_pass (λ b. not (nat_eq b 47)) no_slash refl [] (addr6_text p.address) (groups_of p.address) refl (text_groups p.address) in
     let back = decimals_pass (λ b. not (nat_eq b 47)) no_slash_10 (decimal p.length) (decimal_is_IsNumeral p.length (omega arith)).0.1 in
@@ -129,9 +93,9 @@ prefix_parts p short =
     ∙ ap (λ ps. addr6_text p.address ∷ ps) (slice_split_none (λ b. nat_eq b 47) (decimal p.length) (slashless _ back))
 
 -- a prefix that was printed is read back
-pub prefix_back : (p : AddressPrefix) → IsMasked width p → p.address < 2 ^ 128 → prefix6_of (prefix6_text p) ≡ Some p
-unfolding prefix6_of
+pub prefix_back : (p : AddressPrefix) → IsMasked width p → p.address < 2 ^ 128 → prefix_of true (prefix_text true p) ≡ Some p
+unfolding prefix_of
 prefix_back p masked fits =
     let itself : masked_to width p.address p.length ≡ p.address = omega (arith, masked.1) in
-    ap prefix6_from_parts (prefix_parts p masked.0) ∙ ap₂ address_prefix_of (addr_back p.address fits) (number_back 129 p.length (omega (arith, masked.0)) (omega (arith, masked.0)))
+    ap (prefix_from_parts true) (prefix_parts p masked.0) ∙ ap₂ address_prefix_of (addr_back p.address fits) (number_back 129 p.length (omega (arith, masked.0)) (omega (arith, masked.0)))
     ∙ ap (λ (a : ℕ). Some (record { address = a; length = p.length })) itself

@@ -1,17 +1,7 @@
--- What texts of IPv6 are, and what std's parser reads.
+-- What the text of an address is.
 use Rattle.std.proofs.Common.{◌≡◌, ℕ, ◌/◌, ◌%◌, ◌^◌, ◌<◌, List, [], ◌∷◌, ◌++◌, None, length, refl, arith, append_assoc, append-nil}
 use Rattle.std.specs.Net.Text.{hex}
-use Rattle.addr4.specs.Texts.{parts}
-use Rattle.addr4.proofs.PartLemmas.{parts_some}
-use Rattle.addr6.specs.Texts.{addr6_text, prefix6_from_parts}
-
-three_parts : (a b : List ℕ) (more : List (List ℕ)) → 0 < length more → prefix6_from_parts (a ∷ b ∷ more) ≡ None
-three_parts a b [] some = absurd (omega arith)
-three_parts a b (c ∷ more) some = refl
-
--- a third part makes no prefix
-pub no_third_part : (a b r : List ℕ) → prefix6_from_parts (a ∷ b ∷ parts 47 r) ≡ None
-no_third_part a b r = three_parts a b (parts 47 r) (parts_some 47 r)
+use Rattle.addr4.specs.Texts.{addr6_text}
 
 words : (xs a b c d e f g h : List ℕ) → (((((((xs ++ a) ++ b) ++ c) ++ d) ++ e) ++ f) ++ g) ++ h ≡ xs ++ (a ++ (b ++ (c ++ (d ++ (e ++ (f ++ (g ++ (h ++ []))))))))
 words xs a b c d e f g h = simp (append_assoc, append-nil)

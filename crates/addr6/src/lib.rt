@@ -1,7 +1,7 @@
 //! The family of 128 bits: IPv6 (RFC 4291), and the texts of its addresses and prefixes.
 #![tactic(auto)]
 
-ghost use Rattle.std.specs.Prelude.{◌≡◌, ℕ, ◌+◌, ◌-◌, ◌*◌, ◌/◌, ◌%◌, ◌^◌, ◌<◌, ◌≤◌, refl};
+ghost use Rattle.std.specs.Prelude.{◌≡◌, ℕ, ◌+◌, ◌-◌, ◌*◌, ◌/◌, ◌%◌, ◌^◌, ◌<◌, ◌≤◌, refl, true};
 
 mod laws;
 #[cfg(test)]
@@ -13,16 +13,21 @@ pub use laws::{
     addresses_are_hex_and_colons, printed_addresses_are_read_back, printed_prefixes_are_read_back,
 };
 use std::cmp::Ordering;
-pub use texts::{push_addr6, push_prefix6, read_addr6, read_prefix6};
 
 /// The bits of an address of IPv6.
 #[derive(Clone, Copy, PartialEq, Eq)]
 pub struct V6(pub u128);
 
 impl Family for V6 {
+    ghost V6 = { true };
+
+    const V6: bool = true;
+
     const WIDTH: u8 = 128;
 
     ghost WIDTH = { 128 };
+
+    ghost width_is = { refl };
 
     ghost number = { λ b. b.0 };
 
@@ -35,6 +40,14 @@ impl Family for V6 {
     }
 
     fn known(self) {}
+
+    fn is_host(self) -> bool {
+        1 < self.0 && self.0 < 0xff << 120
+    }
+
+    fn is_before_groups(self) -> bool {
+        self.0 < 0xff << 120
+    }
 
     fn compare(self, other: V6) -> Ordering {
         self.0.cmp(&other.0)

@@ -1,7 +1,10 @@
 //! Addresses at both ends of what their family has, and texts, those of RFC 4291, section 2.2 and 2.3, among them.
 
-use crate::{V6, push_addr6, push_prefix6, read_addr6, read_prefix6};
-use addr4::{Addr, Family, Memory, Prefix};
+use crate::V6;
+use addr4::{
+    Addr, BadAddr, BadPrefix, Family, Memory, Prefix, push_addr, push_prefix, read_addr,
+    read_prefix,
+};
 use std::alloc::Global;
 use std::test::Fail;
 
@@ -30,6 +33,18 @@ fn bits_and_digits_are_told_from_the_front(rt: HostRuntime) -> Result<(), Fail> 
 /// The prefix of a length, at most 128, that the address lies in.
 fn prefix(address: V6, length: u8) -> Prefix<V6> {
     Prefix::new(Addr::from_bits(address), length % 129).unwrap()
+}
+
+#[test]
+fn hosts_are_told(rt: HostRuntime) -> Result<(), Fail> {
+    assert!(rt; !V6(0).is_host() && !V6(1).is_host() && V6(2).is_host() && ONE.is_host());
+    assert!(rt; V6(0xff00 << 112).masked(16) == V6(0xff00 << 112));
+    assert!(rt; !V6(0xff00 << 112).is_host() && V6((0xff << 120) - 1).is_host());
+    assert!(rt; prefix(V6(0), 0).is_of_hosts() && prefix(V6(0xfe << 120), 8).is_of_hosts());
+    assert!(rt;
+        !prefix(V6(0xff << 120), 8).is_of_hosts() && !prefix(V6(u128::MAX), 128).is_of_hosts()
+    );
+    Ok(())
 }
 
 #[test]
@@ -99,23 +114,31 @@ const NO_PREFIXES: &str = "\
 2001:0DB8:0:CD3/60\n\
 192.0.2.0/24";
 
+fn address_of(text: &str) -> Result<Addr<V6>, BadAddr> {
+    read_addr(text.as_bytes())
+}
+
+fn prefix_of(text: &str) -> Result<Prefix<V6>, BadPrefix> {
+    read_prefix(text.as_bytes())
+}
+
 /// The address that a text spells, as it is printed; none where it spells none.
 fn printed(alloc: Global, text: &str) -> Result<Option<Vec<u8>>, Memory> {
-    let Ok(address) = read_addr6(text.as_bytes()) else {
+    let Ok(address) = address_of(text) else {
         return Ok(None);
     };
     let mut out = Vec::new(alloc);
-    push_addr6(&mut out, address)?;
+    push_addr(&mut out, address)?;
     Ok(Some(out))
 }
 
 /// The same of a prefix.
 fn printed_prefix(alloc: Global, text: &str) -> Result<Option<Vec<u8>>, Memory> {
-    let Ok(prefix) = read_prefix6(text.as_bytes()) else {
+    let Ok(prefix) = prefix_of(text) else {
         return Ok(None);
     };
     let mut out = Vec::new(alloc);
-    push_prefix6(&mut out, prefix)?;
+    push_prefix(&mut out, prefix)?;
     Ok(Some(out))
 }
 
@@ -128,14 +151,14 @@ fn addresses_are_printed_without_double_colons(rt: HostRuntime) -> Result<(), Fa
         let again = printed(rt.alloc(), want)?.ok_or("not read again")?;
         assert!(rt; &again[..] == want.as_bytes());
     }
-    assert!(rt; read_addr6(b"2001:db8::1") == Ok(Addr::from_bits(ONE)));
+    assert!(rt; address_of("2001:db8::1") == Ok(Addr::from_bits(ONE)));
     Ok(())
 }
 
 #[test]
 fn other_texts_are_no_addresses(rt: HostRuntime) -> Result<(), Fail> {
     for text in NO_ADDRESSES.split('\n') {
-        assert!(rt; read_addr6(text.as_bytes()).is_err());
+        assert!(rt; address_of(text).is_err());
     }
     Ok(())
 }
@@ -148,7 +171,7 @@ fn prefixes_are_read_and_printed(rt: HostRuntime) -> Result<(), Fail> {
         assert!(rt; &out[..] == want.as_bytes());
     }
     for text in NO_PREFIXES.split('\n') {
-        assert!(rt; read_prefix6(text.as_bytes()).is_err());
+        assert!(rt; prefix_of(text).is_err());
     }
     Ok(())
 }

@@ -1,14 +1,13 @@
-//! Texts of IPv6's addresses and prefixes (RFC 4291, section 2.2). They are printed without `::`, so that each has one text.
+//! Texts of IPv6's addresses (RFC 4291, section 2.2). They are printed without `::`, so that each has one text.
 
 ghost use Rattle.std.specs.Prelude.{◌≡◌, ◌<◌, ◌++◌, ◌∷◌, ◌==◌, not, OnOk};
 ghost use Rattle.std.specs.Char.{digit_char};
 ghost use Rattle.std.specs.List.{list_all};
 ghost use Rattle.std.specs.Net.Text.{hex, leading_zero_digits};
-ghost use Rattle.std.specs.Result.{result_ok};
-ghost use Rattle.addr6.specs.Texts.{addr6_of, addr6_text, prefix6_of, prefix6_text};
+ghost use Rattle.addr4.specs.Texts.{addr6_of, addr6_text};
 
 use crate::V6;
-use addr4::{Addr, BadAddr, BadPrefix, Memory, Prefix, first_part, push_number, read_number_below};
+use addr4::{Memory, Texts};
 use std::net::Ipv6Addr;
 
 /// A hex digit, in lower case.
@@ -59,12 +58,10 @@ fn push_next_group(out: &mut Vec<u8>, group: u16) -> Result<(), Memory>
     push_group(out, group)
 }
 
-/// Appends the text of an address. For want of memory some front of it may have been appended.
-#[tactic(auto, unfolding(crate::specs::Texts::addr6_text))]
-pub fn push_addr6(out: &mut Vec<u8>, addr: Addr<V6>) -> Result<(), Memory>
-    ensures { OnOk result (out.new.items ≡ out.old.items ++ addr6_text addr) }
+#[tactic(auto, unfolding(addr4::specs::Texts::addr6_text))]
+fn push_groups(out: &mut Vec<u8>, number: u128) -> Result<(), Memory>
+    ensures { OnOk result (out.new.items ≡ out.old.items ++ addr6_text number) }
 {
-    let number = addr.bits().0;
     push_group(out, ((number >> 112) % 0x1_0000) as u16)?;
     push_next_group(out, ((number >> 96) % 0x1_0000) as u16)?;
     push_next_group(out, ((number >> 80) % 0x1_0000) as u16)?;
@@ -73,17 +70,6 @@ pub fn push_addr6(out: &mut Vec<u8>, addr: Addr<V6>) -> Result<(), Memory>
     push_next_group(out, ((number >> 32) % 0x1_0000) as u16)?;
     push_next_group(out, ((number >> 16) % 0x1_0000) as u16)?;
     push_next_group(out, (number % 0x1_0000) as u16)?;
-    Ok(())
-}
-
-/// Appends the text of a prefix. For want of memory some front of it may have been appended.
-#[tactic(auto, unfolding(crate::specs::Texts::prefix6_text))]
-pub fn push_prefix6(out: &mut Vec<u8>, p: Prefix<V6>) -> Result<(), Memory>
-    ensures { OnOk result (out.new.items ≡ out.old.items ++ prefix6_text p) }
-{
-    push_addr6(out, p.address())?;
-    out.push(b'/')?;
-    push_number(out, u64::from(p.length()))?;
     Ok(())
 }
 
@@ -105,35 +91,15 @@ fn read_bits(text: &[u8]) -> Option<u128>
     }
 }
 
-/// Reads an address: eight groups of one to four hex digits with colons between them, or fewer with one `::`, which stands
-/// for one group that is 0 or more. Another text is refused, also one that ends in an IPv4 address.
-pub fn read_addr6(text: &[u8]) -> Result<Addr<V6>, BadAddr>
-    ensures { result_ok result ≡ addr6_of text.now }
-{
-    match read_bits(text) {
-        None => Err(BadAddr),
-        Some(number) => Ok(Addr::from_bits(V6(number))),
+/// An address is eight groups of one to four hex digits with colons between them, or fewer with one `::`, which stands for
+/// one group that is 0 or more. Another text is refused, also one that ends in an IPv4 address.
+impl Texts for V6 {
+    fn push(self, out: &mut Vec<u8>) -> Result<(), Memory> {
+        push_groups(out, self.0)
     }
-}
 
-/// Reads a prefix: an address, a slash, a length to 128 without a leading zero. Bits beyond the length are masked away.
-/// Another text is refused.
-pub fn read_prefix6(text: &[u8]) -> Result<Prefix<V6>, BadPrefix>
-    ensures { result_ok result ≡ prefix6_of text.now }
-{
-    read_length(text).ok_or(BadPrefix)
-}
-
-#[tactic(auto, using(crate::proofs::TextLemmas::no_third_part), unfolding(crate::specs::Texts::prefix6_of))]
-fn read_length(text: &[u8]) -> Option<Prefix<V6>>
-    ensures { result ≡ prefix6_of text.now }
-{
-    let (addr, rest) = first_part(text, b'/');
-    let (length, more) = first_part(rest?, b'/');
-    if let Some(_more) = more {
-        return None;
+    fn read(text: &[u8]) -> Option<V6> {
+        let number = read_bits(text)?;
+        Some(V6(number))
     }
-    let addr = read_addr6(addr).ok()?;
-    let length = read_number_below(length, 129)?;
-    Prefix::new(addr, length as u8)
 }

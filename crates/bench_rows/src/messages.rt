@@ -15,6 +15,8 @@ const PROFILE: Profile = Profile {
     as4: false,
     revised: false,
     reflect: false,
+    v6: false,
+    second: false,
 };
 
 /// The octets of a line `bgp K HEX`; none of another line.
@@ -28,8 +30,8 @@ fn octets_of(alloc: Global, line: &str) -> Option<Vec<u8>> {
 fn prefixes_in(alloc: Global, octets: &[u8]) -> Result<u64, Memory> {
     match read_message(alloc, PROFILE, octets, true)? {
         Message::Update(update) => {
-            let withdrawn = update.withdrawn.as_slice().len() as u64;
-            let announced = update.announced.as_slice().len() as u64;
+            let withdrawn = update.first.withdrawn.as_slice().len() as u64;
+            let announced = update.first.announced.as_slice().len() as u64;
             Ok(withdrawn.wrapping_add(announced))
         }
         _ => Ok(0),

@@ -11,10 +11,10 @@ use std::mem::size_of;
 /// one the rest counts nowhere.
 #[derive(Clone, Copy, PartialEq, Eq)]
 pub struct Candidate {
-    /// How many AS numbers the path has, an AS_SET counting 1 (section 9.1.2.2 a).
-    pub(crate) hops: u128,
     /// How many clusters the route went through (RFC 4456, section 9).
     pub(crate) clusters: u64,
+    /// How many AS numbers the path has, an AS_SET counting 1 (section 9.1.2.2 a).
+    pub(crate) hops: u32,
     /// The degree of preference (RFC 4271, section 9.1.1).
     pub(crate) pref: u32,
     /// The AS within which MULTI_EXIT_DISC is compared (section 9.1.2.2 c).
@@ -35,7 +35,7 @@ pub struct Candidate {
 }
 
 // Lines of candidates are kept, so none is to grow.
-const _: () = prove!(size_of::<Candidate>() <= 64);
+const _: () = prove!(size_of::<Candidate>() <= 40);
 
 impl Candidate {
     /// The candidate that a route is.
@@ -46,7 +46,7 @@ impl Candidate {
         let mut candidate = Candidate {
             local: true,
             pref: route.pref,
-            hops: attrs.path.hops(),
+            hops: attrs.path.hops() as u32,
             origin: attrs.origin,
             neighbour_as: neighbour_as(route),
             med: route.med.unwrap_or(0),

@@ -1,11 +1,13 @@
 -- Words and the segments that they tell.
 use Rattle.std.proofs.Common.{◌≡◌, ℕ, zero, suc, ◌+◌, ◌*◌, ◌%◌, ◌-◌, ◌^◌, ◌≤◌, ◌<◌, Bool, true, false, cond, eqb, List, [], ◌∷◌, ◌++◌, length, get_or, take, drop, refl, sym, ap, ◌∙◌, ◌≢◌, arith}
 use Rattle.std.proofs.lemmas.List.{length-append, length-take-le, take-append-le, take_all}
+use Rattle.std.proofs.lemmas.List.Sums.{sum_by-cons}
 use Rattle.std.specs.Bool.{IsTrue, MatchBool}
 use Rattle.std.specs.Cmp.Lexicographic.{told_text, pointwise}
 use Rattle.bgp_attr.specs.declared.path.SegmentKind.{SegmentKind}
 use Rattle.bgp_attr.specs.declared.path.SegmentKind.TheVariants.{Set, Sequence}
 use Rattle.bgp_attr.specs.declared.path.Segment.{Segment}
+use Rattle.bgp_attr.specs.Paths.{counted, hops}
 use Rattle.bgp_attr.specs.Words.{head_of, count_in, kind_in, segments_after, missing_after}
 
 -- ---- the first words of segments
@@ -187,3 +189,25 @@ no_more_than_words (suc n) (word ∷ words) = let l = no_more_than_words n words
 
 pub few_segments : (words lent : List ℕ) (path : List Segment) → segments_after 0 words ≡ path → lent ≡ words → length lent < 2 ^ 62 → length path < 2 ^ 62
 few_segments words lent path e f few = omega (arith, ap length e, ap length f, no_more_than_words 0 words)
+
+-- ---- how much is counted
+take-rest : (n : ℕ) (words : List ℕ) → length (take n words) + (length words - n) ≤ suc (length words)
+take-rest zero words = omega arith
+take-rest (suc n) [] = omega arith
+take-rest (suc n) (word ∷ words) = omega (arith, take-rest n words)
+
+counted-le : (kind : SegmentKind) (n : ℕ) (words : List ℕ) → counted kind (take n words) + (length words - n) ≤ suc (length words)
+counted-le Set n words = omega arith
+counted-le Sequence n words = take-rest n words
+
+hops-after : (n : ℕ) (words : List ℕ) → hops (segments_after n words) ≤ length words - n
+hops-after n [] = omega arith
+hops-after zero (head ∷ words) =
+    let e : hops (segments_after 0 (head ∷ words)) ≡ counted (kind_in head) (take (count_in head) words) + hops (segments_after (count_in head) words) =
+    sum_by-cons (λ (s : Segment). counted s.kind s.numbers) (record { kind = kind_in head; numbers = take (count_in head) words }) (segments_after (count_in head) words) in
+    omega (arith, e, hops-after (count_in head) words, counted-le (kind_in head) (count_in head) words)
+hops-after (suc n) (word ∷ words) = omega (arith, hops-after n words)
+
+-- no more than there are words
+pub few_hops : (words : List ℕ) → hops (segments_after 0 words) ≤ length words
+few_hops words = omega (arith, hops-after 0 words)

@@ -3,31 +3,36 @@ use Rattle.std.specs.Prelude.{◌≡◌, ℕ, ◌^◌, ◌<◌, ◌≤◌, ◌==
 use Rattle.bgp_attr.specs.declared.speaker.Speaker as declared
 use Rattle.bgp_attr.specs.declared.speaker.Neighbour.{Neighbour}
 use Rattle.bgp_attr.specs.declared.speaker.Profile.{Profile}
-use Rattle.addr4.specs.Families.{IsIpv4}
-use Rattle.bgp_attr.specs.Hosts.{is_host}
+use Rattle.addr4.specs.Families.{IsAddress}
+use Rattle.addr4.specs.Hosts.{is_host}
 
 -- this speaker, whatever the family of its address
 abbrev pub Speaker : Type 0
 Speaker = declared.Speaker ℕ
 
+-- a profile of the network of a family: its routes are said, so it is spoken
+pub record IsProfileOf (v6 : Bool) (p : Profile) : Type 0 where
+  pub second : p.second ≡ v6
+  pub spoken : v6 ≡ true → p.v6 ≡ true
+
 -- AS numbers are below it: those of four octets, or of two
 abbrev pub asn_bound : Bool → ℕ
 asn_bound as4 = if as4 then 2 ^ 32 else 65536
 
--- an AS number from 1 that has its octets, an ID other than 0.0.0.0, and the address of a host
-pub record IsSpeaker (as4 : Bool) (s : Speaker) : Type 0 where
+-- an AS number from 1 that has its octets, an ID other than 0.0.0.0, and the address of a host, of IPv6 or not
+pub record IsSpeaker (v6 as4 : Bool) (s : Speaker) : Type 0 where
   pub asn_least : 0 < s.asn
   pub asn_most : s.asn < asn_bound as4
   pub id_least : 0 < s.id
   pub id_fits : s.id < 2 ^ 32
-  pub host : is_host s.addr ≡ true
-  pub addr_fits : IsIpv4 s.addr
+  pub host : is_host v6 s.addr ≡ true
+  pub addr_fits : IsAddress v6 s.addr
 
--- a speaker with a number from 1 to 64
+-- a speaker of IPv4 with a number from 1 to 64
 pub record IsNeighbour (as4 : Bool) (w : Neighbour) : Type 0 where
   pub least : 0 < w.number
   pub most : w.number ≤ 64
-  pub speaker : IsSpeaker as4 (record { asn = w.asn; id = w.id; addr = w.addr })
+  pub speaker : IsSpeaker false as4 (record { asn = w.asn; id = w.id; addr = w.addr })
 
 -- there are clients only of a route reflector
 abbrev pub MayBeClient : Profile → Bool → Type 0

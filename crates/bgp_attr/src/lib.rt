@@ -3,9 +3,8 @@
 //! [`Attrs`] is what an UPDATE says of a route (RFC 4271, section 4.3 and 5), as far as this speaker keeps it: unrecognized
 //! optional non-transitive attributes are gone by then. [`SharedAttrs`] lends the same attributes to all routes of one
 //! UPDATE. [`Route`] is a row behind the incoming filter. [`Speaker`], [`Neighbour`] and [`Profile`] are the words of the
-//! configuration; what those must be (`IsSpeaker`, `IsNeighbourOf`) is said here for all who take them. [`is_host`] and
-//! [`is_host_prefix`] tell the addresses and prefixes of hosts. Contracts see a path as its list of segments and octets as a list of
-//! numbers, so that two values are equal exactly where everything in them is.
+//! configuration; what those must be (`IsSpeaker`, `IsNeighbourOf`) is said here for all who take them. Contracts see a path as its list of
+//! segments and octets as a list of numbers, so that two values are equal exactly where everything in them is.
 //!
 //! What few routes have, unrecognized attributes and what route reflectors added ([`Reflection`], RFC 4456), stands in boxes of its
 //! own: a route without them has two pointers of nothing.
@@ -22,7 +21,6 @@
 mod attrs;
 mod cluster_list;
 mod fronted;
-mod hosts;
 mod lent;
 mod marks;
 mod octets;
@@ -35,7 +33,6 @@ mod words;
 
 pub use attrs::{Aggregator, Attrs, Origin, SharedAttrs};
 pub use cluster_list::ClusterList;
-pub use hosts::{is_host, is_host_prefix};
 pub use lent::{LentAttrs, LentPath, LentReflection, LentSegment};
 pub use octets::Octets;
 pub use path::{AsPath, Numbers, PathBuilder, Segment, SegmentKind, Segments};

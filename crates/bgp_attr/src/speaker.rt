@@ -43,6 +43,10 @@ pub struct Profile {
     /// This speaker is a route reflector, whose cluster has its identifier (RFC 4456): what reflectors added to routes of internal
     /// peers is read, and peers may be clients.
     pub reflect: bool,
+    /// IPv6 is spoken beside IPv4: its routes are read from MP_REACH_NLRI and MP_UNREACH_NLRI (RFC 4760).
+    pub v6: bool,
+    /// Whose routes are said: those of the second network, which is IPv6's, or of the first, IPv4's.
+    pub second: bool,
 }
 
 impl Profile {

@@ -14,15 +14,16 @@ use Rattle.bgp_wire.specs.declared.attributes.TypeRule.{TypeRule}
 use Rattle.bgp_wire.specs.declared.attributes.Verdict.{Verdict}
 use Rattle.bgp_wire.specs.declared.attributes.Verdict.TheVariants.{Keep, Discard, Withdraw}
 use Rattle.bgp_wire.specs.declared.found.Found.{Found}
-use Rattle.bgp_wire.specs.declared.found.Gathered.{Gathered}
+use Rattle.bgp_wire.specs.declared.gathered.Gathered.{Gathered}
 use Rattle.bgp_wire.specs.Faults.{notice}
 use Rattle.bgp_wire.specs.Paths.{width_of, path_at}
-use Rattle.bgp_wire.specs.Attributes.{Attribute, Kept, is_reflection, rule_of, has_wrong_size, milder, judge_unrecognized, judge_by, judgement}
+use Rattle.bgp_wire.specs.Attributes.{Attribute, Kept, is_reflection, rule_of, has_wrong_size, is_revised, is_multiprotocol, hop_at, milder, judge_unrecognized, judge_by, judgement}
+use Rattle.bgp_wire.specs.Updates.{reach_of, unreach_of}
 use Rattle.bgp_wire.specs.Routes.{kept_of, number_of, aggregator_of, clusters_of, is_unrecognized, AreUnrecognized}
 use Rattle.bgp_wire.specs.Found.{placed, origin_of, found_with, after, is_withdraw, Gathers, has_type, IsGathered, added}
 use Rattle.bgp_wire.proofs.TestLemmas.{not_false, or_false_left, or_false_right}
 use Rattle.bgp_wire.proofs.RouteLaws.{some_same, HasOneMore, recognized_more, unrecognized_more}
-use Rattle.bgp_wire.proofs.TypeLaws.{other_type, no_reflection, recognized_kind, no_rule, kept_type}
+use Rattle.bgp_wire.proofs.TypeLaws.{other_type, no_reflection, no_multiprotocol, recognized_kind, no_rule, kept_type}
 
 pub none_has : (n kind : ℕ) → get_or (replicate n false) kind false ≡ false
 none_has zero kind = refl
@@ -53,19 +54,26 @@ reflected_more : {B : Type 0} (f : Option Attribute → B) (reflect b : Bool) (a
 reflected_more f true b a old new x none adds is = field_more f b a old new x adds is
 reflected_more f false b a old new x none adds is = is
 
+-- and one that is there only where IPv6 is spoken
+spoken_more : {B : Type 0} (f : Option Attribute → Option B) (v6 b : Bool) (a : Attribute) (old new : Option Attribute) (x : Option B) → new ≡ cond b (Some a) old → x ≡ f (cond v6 old None) → cond (v6 && b) (f (Some a)) x ≡ f (cond v6 new None)
+spoken_more f true b a old new x adds is = field_more f b a old new x adds is
+spoken_more f false b a old new x adds is = is
+
 -- one more attribute is found
 gathers_more : (p : Profile) (a : Attribute) (kept more : List Attribute) (found : Found) → kept_of a.kind kept ≡ None → HasOneMore a kept more → Gathers p kept found → Gathers p more (found_with p a found)
 unfolding found_with
 gathers_more p a kept more found new adds g = record {
   origin = field_more (option_map (λ (a : Attribute). origin_of (get_or a.value 0 0))) (eqb a.kind 1) a (kept_of 1 kept) (kept_of 1 more) found.origin (adds 1) g.origin;
   path = field_more (option_and_then (λ (a : Attribute). result_ok (path_at (width_of p.as4) a.value))) (eqb a.kind 2) a (kept_of 2 kept) (kept_of 2 more) found.path (adds 2) g.path;
-  next_hop = field_more (option_map (λ (a : Attribute). in_front (big_number 4 a.value))) (eqb a.kind 3) a (kept_of 3 kept) (kept_of 3 more) found.next_hop (adds 3) g.next_hop;
+  next_hop = field_more (option_map (λ (a : Attribute). hop_at a.value)) (eqb a.kind 3) a (kept_of 3 kept) (kept_of 3 more) found.next_hop (adds 3) g.next_hop;
   med = number 4 found.med g.med;
   local_pref = number 5 found.local_pref g.local_pref;
   atomic = field_more is_some (eqb a.kind 6) a (kept_of 6 kept) (kept_of 6 more) found.atomic (adds 6) g.atomic;
   aggregator = field_more (option_map (aggregator_of p.as4)) (eqb a.kind 7) a (kept_of 7 kept) (kept_of 7 more) found.aggregator (adds 7) g.aggregator;
   originator = reflected_more (option_map (λ (a : Attribute). big_number 4 a.value)) p.reflect (eqb a.kind 9) a (kept_of 9 kept) (kept_of 9 more) found.originator None (adds 9) g.originator;
   clusters = reflected_more clusters_of p.reflect (eqb a.kind 10) a (kept_of 10 kept) (kept_of 10 more) found.clusters [] (adds 10) g.clusters;
+  reach = spoken_more (option_and_then reach_of) p.v6 (eqb a.kind 14) a (kept_of 14 kept) (kept_of 14 more) found.reach (adds 14) g.reach;
+  unreach = spoken_more (option_and_then unreach_of) p.v6 (eqb a.kind 15) a (kept_of 15 kept) (kept_of 15 more) found.unreach (adds 15) g.unreach;
   unrecognized = by_type (is_unrecognized p a.kind) refl;
 }
   where
@@ -122,12 +130,12 @@ still_new Discard a kept kind new apart none = none
 still_new Withdraw a kept kind new apart none = none
 
 -- one more of a type that has come
-pub gathered_again : (p : Profile) (external : Bool) (seen : List ℕ) (kept : Kept) (a : Attribute) (g : Gathered) (verdict : Verdict) → IsGathered p seen kept g → has_type g.seen a.kind ≡ true → milder p Discard (notice 3 1 []) ≡ Ok verdict
+pub gathered_again : (p : Profile) (external : Bool) (seen : List ℕ) (kept : Kept) (a : Attribute) (g : Gathered) (verdict : Verdict) → IsGathered p seen kept g → has_type g.seen a.kind ≡ true → milder (is_revised p a.kind) Discard (notice 3 1 []) ≡ Ok verdict
     → (v : Verdict) × (judgement p external seen a ≡ Ok v) × IsGathered p (seen ++ a.kind ∷ []) (added v a kept) g
 unfolding judgement
 gathered_again p external seen kept a g verdict is came judged = (
   Discard,
-  ap (λ b. cond b (milder p Discard (notice 3 1 [])) (judge_by p external a (rule_of p external a.kind))) some ∙ by_manner p.revised judged,
+  ap (λ b. cond b (milder (is_revised p a.kind) Discard (notice 3 1 [])) (judge_by p external a (rule_of p external a.kind))) some ∙ by_manner (is_revised p a.kind) judged,
   record {
     types = λ kind. is.types kind ∙ by_kind kind (eqb a.kind kind) refl ∙ sym (any_push seen a.kind kind);
     new = λ kind e. is.new kind (or_false_left (list_any (λ k. eqb k kind) seen) _ (sym (any_push seen a.kind kind) ∙ e));
@@ -161,7 +169,7 @@ unfolding judgement
 gathered_one p external seen kept a old new verdict is fresh judged found types withdraw =
     let none : list_any (λ k. eqb k a.kind) seen ≡ false = sym (is.types a.kind) ∙ fresh in
     let free = is.new a.kind none in (
-      ap (λ b. cond b (milder p Discard (notice 3 1 [])) (judge_by p external a (rule_of p external a.kind))) none ∙ judged,
+      ap (λ b. cond b (milder (is_revised p a.kind) Discard (notice 3 1 [])) (judge_by p external a (rule_of p external a.kind))) none ∙ judged,
       record {
         types = λ kind. types kind ∙ ap (λ b. b || eqb a.kind kind) (is.types kind) ∙ sym (any_push seen a.kind kind);
         new = λ kind e.
@@ -177,10 +185,10 @@ some_or_none : {A : Type 0} (o : Option A) (x : A) → o ≡ Some x → o ≡ No
 some_or_none None x e f = absurd (cc)
 some_or_none (Some y) x e f = absurd (cc)
 
-pub rule_within : (p : Profile) (external : Bool) (kind : ℕ) (r : TypeRule) → rule_of p external kind ≡ Some r → IsTrue ((ltb 0 kind && ltb kind 8) || is_reflection p kind)
+pub rule_within : (p : Profile) (external : Bool) (kind : ℕ) (r : TypeRule) → rule_of p external kind ≡ Some r → IsTrue ((ltb 0 kind && ltb kind 8) || (is_reflection p kind || is_multiprotocol p kind))
 rule_within p external kind r e = by_type (is_unrecognized p kind) refl
   where
-    by_type : (b : Bool) → is_unrecognized p kind ≡ b → ((ltb 0 kind && ltb kind 8) || is_reflection p kind) ≡ true
+    by_type : (b : Bool) → is_unrecognized p kind ≡ b → ((ltb 0 kind && ltb kind 8) || (is_reflection p kind || is_multiprotocol p kind)) ≡ true
     by_type true is = absurd (some_or_none (rule_of p external kind) r e (no_rule p external kind is))
     by_type false is = recognized_kind p kind is
 
@@ -201,7 +209,8 @@ found_other p external a found none keep =
     let is : is_unrecognized p a.kind ≡ true = kept_type p external a none keep in
     let other : (k : ℕ) → is_unrecognized p k ≡ false → eqb a.kind k ≡ false = λ k known. other_type p a.kind k is known in
     let no = neither p.reflect (eqb a.kind 9) (eqb a.kind 10) (no_reflection p a.kind is) in
-    rw (other 1 refl, other 2 refl, other 3 refl, other 4 refl, other 5 refl, other 6 refl, other 7 refl, no.0, no.1, is) refl
+    let nor = neither p.v6 (eqb a.kind 14) (eqb a.kind 15) (no_multiprotocol p a.kind is) in
+    rw (other 1 refl, other 2 refl, other 3 refl, other 4 refl, other 5 refl, other 6 refl, other 7 refl, no.0, no.1, nor.0, nor.1, is) refl
   where
     neither : (r a b : Bool) → (r && (a || b)) ≡ false → ((r && a) ≡ false) × ((r && b) ≡ false)
     neither true a b e = (or_false_left a b e, or_false_right a b e)

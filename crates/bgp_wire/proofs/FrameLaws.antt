@@ -11,10 +11,13 @@ use Rattle.bgp_wire.specs.declared.message.RouteRefresh.{RouteRefresh}
 use Rattle.bgp_wire.specs.Faults.{notice, ◌>>=◌}
 use Rattle.bgp_wire.specs.Prefixes.{prefixes_at}
 use Rattle.bgp_wire.specs.Attributes.{Kept, kept_by, attributes_at}
-use Rattle.bgp_wire.specs.Updates.{number_at, is_marked, length_field, has_wrong_length, header_at, Fields, fields_at, lacks, Reading, reading_at, Content, update, keepalive, notification, opening, refresh, refresh_at, content_for, content_at}
+use Rattle.bgp_wire.specs.Updates.{number_at, is_marked, length_field, has_wrong_length, header_at, Fields, fields_at, lacks, bad_prefix, reach_in, unreach_in, Reading, reading_at, Content, update, keepalive, notification, opening, refresh, refresh_at, content_for, content_at}
 use Rattle.bgp_wire.specs.Grammar.{IsFrame, IsReading, IsRefresh, Holds}
 use Rattle.bgp_wire.proofs.TestLemmas.{or_false_left, or_false_right, not_false, and_left, and_right, nonzero, not_zero}
 use Rattle.bgp_wire.proofs.ResultLemmas.{bind_ok, same_ok, guard_ok}
+use Rattle.bgp_wire.specs.Multiprotocol.{IsReach, IsUnreach, announced_by}
+use Rattle.bgp_wire.specs.Routes.{multiprotocol_of, Says}
+use Rattle.bgp_wire.proofs.SpokenLaws.{says_reach, says_unreach, one_reach, one_unreach}
 use Rattle.bgp_wire.proofs.PrefixLaws.{prefixes_take, prefixes_again}
 use Rattle.bgp_wire.proofs.AttributeLaws.{attributes_take, attributes_again}
 
@@ -170,14 +173,14 @@ fields_again bytes f is =
 pub reading_takes : (p : Profile) (external : Bool) (bytes : List ℕ) (r : Reading) → IsFrame bytes 2 (drop 19 bytes) → 23 ≤ length bytes → reading_at p external bytes ≡ Ok r → IsReading p external bytes r
 unfolding reading_at
 reading_takes p external bytes r frame long e =
-    let k4 = λ (w n : List AddressPrefix) (k : Kept) (l : Bool). ok_reading (record { withdrawn = w; announced = n; kept = k.0; withdraw = k.1 || l }) in
-    let a = bind_ok (fields_at bytes) (λ f. prefixes_at f.withdrawn >>= λ w. attributes_at p external [] f.attributes >>= λ k. prefixes_at f.announced >>= λ n. lacks p n k.0 >>= λ l. k4 w n k l) r e in
+    let k4 = λ (w n : List AddressPrefix) (k : Kept) (l : Bool). ok_reading (record { withdrawn = w; announced = n; reach = reach_in p k.0; unreach = unreach_in p k.0; kept = k.0; withdraw = k.1 || l }) in
+    let a = bind_ok (fields_at bytes) (λ f. prefixes_at false bad_prefix f.withdrawn >>= λ w. attributes_at p external [] f.attributes >>= λ k. prefixes_at false bad_prefix f.announced >>= λ n. lacks p n (announced_by (reach_in p k.0)) k.0 >>= λ l. k4 w n k l) r e in
     let f = a.0 in
-    let b = bind_ok (prefixes_at f.withdrawn) (λ w. attributes_at p external [] f.attributes >>= λ k. prefixes_at f.announced >>= λ n. lacks p n k.0 >>= λ l. k4 w n k l) r a.2 in
-    let c = bind_ok (attributes_at p external [] f.attributes) (λ k. prefixes_at f.announced >>= λ n. lacks p n k.0 >>= λ l. k4 b.0 n k l) r b.2 in
-    let d = bind_ok (prefixes_at f.announced) (λ n. lacks p n c.0.0 >>= λ l. k4 b.0 n c.0 l) r c.2 in
-    let g = bind_ok (lacks p d.0 c.0.0) (λ l. k4 b.0 d.0 c.0 l) r d.2 in
-    let made : Reading = record { withdrawn = b.0; announced = d.0; kept = c.0.0; withdraw = c.0.1 || g.0 } in
+    let b = bind_ok (prefixes_at false bad_prefix f.withdrawn) (λ w. attributes_at p external [] f.attributes >>= λ k. prefixes_at false bad_prefix f.announced >>= λ n. lacks p n (announced_by (reach_in p k.0)) k.0 >>= λ l. k4 w n k l) r a.2 in
+    let c = bind_ok (attributes_at p external [] f.attributes) (λ k. prefixes_at false bad_prefix f.announced >>= λ n. lacks p n (announced_by (reach_in p k.0)) k.0 >>= λ l. k4 b.0 n k l) r b.2 in
+    let d = bind_ok (prefixes_at false bad_prefix f.announced) (λ n. lacks p n (announced_by (reach_in p c.0.0)) c.0.0 >>= λ l. k4 b.0 n c.0 l) r c.2 in
+    let g = bind_ok (lacks p d.0 (announced_by (reach_in p c.0.0)) c.0.0) (λ l. k4 b.0 d.0 c.0 l) r d.2 in
+    let made : Reading = record { withdrawn = b.0; announced = d.0; reach = reach_in p c.0.0; unreach = unreach_in p c.0.0; kept = c.0.0; withdraw = c.0.1 || g.0 } in
     let is = fields_take bytes f frame long a.1 in
     let s = attributes_take p external [] f.attributes c.0 c.1 in
     subst (IsReading p external bytes) (same_ok made r g.2) (record {
@@ -191,8 +194,10 @@ reading_takes p external bytes r frame long e =
       frame = is.frame;
       withdrawn_size = is.withdrawn_size;
       attributes_size = is.attributes_size;
-      withdraws = prefixes_take f.withdrawn b.0 b.1;
-      announces = prefixes_take f.announced d.0 d.1;
+      withdraws = prefixes_take false bad_prefix f.withdrawn b.0 b.1;
+      announces = prefixes_take false bad_prefix f.announced d.0 d.1;
+      reaches = subst (λ (k : Kept). Says IsReach (multiprotocol_of p 14 k.0) (reach_in p k.0)) (sym s.kept) (says_reach p external f.attributes s.steps s.runs s.are);
+      unreaches = subst (λ (k : Kept). Says IsUnreach (multiprotocol_of p 15 k.0) (unreach_in p k.0)) (sym s.kept) (says_unreach p external f.attributes s.steps s.runs s.are);
       steps = s.steps;
       runs = s.runs;
       lacking = g.0;
@@ -208,9 +213,11 @@ reading_again p external bytes r is =
     let f : Fields = record { withdrawn = is.withdrawn; attributes = is.attributes; announced = is.announced } in
     let fields : fields_at bytes ≡ Ok f = fields_again bytes f (record { first_high = is.first_high; first_low = is.first_low; second_high = is.second_high; second_low = is.second_low; frame = is.frame; withdrawn_size = is.withdrawn_size; attributes_size = is.attributes_size }) in
     let k : Kept = kept_by is.steps is.runs in
-    let complete : lacks p r.announced k.0 ≡ Ok is.lacking = subst (λ ks. lacks p r.announced ks ≡ Ok is.lacking) is.kept is.complete in
-    rw (fields, prefixes_again is.withdrawn r.withdrawn is.withdraws, attributes_again p external [] is.attributes is.steps is.runs is.are, prefixes_again is.announced r.announced is.announces, complete)
-    (λ i. Ok (record { withdrawn = r.withdrawn; announced = r.announced; kept = sym is.kept i; withdraw = sym is.withdraw i }))
+    let reach : reach_in p k.0 ≡ r.reach = one_reach p external is.attributes is.steps is.runs is.are r.reach (subst (λ ks. Says IsReach (multiprotocol_of p 14 ks) r.reach) is.kept is.reaches) in
+    let unreach : unreach_in p k.0 ≡ r.unreach = one_unreach p external is.attributes is.steps is.runs is.are r.unreach (subst (λ ks. Says IsUnreach (multiprotocol_of p 15 ks) r.unreach) is.kept is.unreaches) in
+    let complete : lacks p r.announced (announced_by (reach_in p k.0)) k.0 ≡ Ok is.lacking = (λ i. lacks p r.announced (announced_by (reach i)) (sym is.kept i)) ∙ is.complete in
+    rw (fields, prefixes_again false bad_prefix is.withdrawn r.withdrawn is.withdraws, attributes_again p external [] is.attributes is.steps is.runs is.are, prefixes_again false bad_prefix is.announced r.announced is.announces, complete)
+    (λ i. Ok (record { withdrawn = r.withdrawn; announced = r.announced; reach = reach i; unreach = unreach i; kept = sym is.kept i; withdraw = sym is.withdraw i }))
 
 -- ---- a ROUTE-REFRESH
 refresh_takes : (bytes : List ℕ) → IsFrame bytes 5 (drop 19 bytes) → length bytes ≡ 23 → IsRefresh bytes (refresh_at bytes)

@@ -1,7 +1,7 @@
 -- A loop that gathers attributes.
 use Rattle.std.proofs.Common.{◌≡◌, ℕ, ◌<◌, Bool, true, false, List, [], ◌∷◌, ◌++◌, length, Some, None, Result, Ok, Err, refl}
 use Rattle.bgp_attr.specs.declared.speaker.Profile.{Profile}
-use Rattle.bgp_wire.specs.declared.found.Gathered.{Gathered}
+use Rattle.bgp_wire.specs.declared.gathered.Gathered.{Gathered}
 use Rattle.bgp_wire.specs.declared.notice.Notice.{Notice}
 use Rattle.bgp_wire.specs.declared.notice.Refusal.{Refusal}
 use Rattle.bgp_wire.specs.Faults.{notice, Fails, Refuses}

@@ -1,10 +1,11 @@
--- The types by which attributes are judged and placed, under names that laws of crates above can use.
+-- The types by which attributes are judged, read and placed, under names that laws of crates above can use.
 use Rattle.std.proofs.Common.{ℕ}
 use Rattle.bgp_wire.specs.declared.attributes.Size.{Size as Sized}
 use Rattle.bgp_wire.specs.declared.attributes.Size.TheVariants as sizes
 use Rattle.bgp_wire.specs.declared.attributes.TypeRule.{TypeRule as Rule}
 use Rattle.bgp_wire.specs.declared.attributes.Verdict.{Verdict as Judgement}
 use Rattle.bgp_wire.specs.declared.attributes.Verdict.TheVariants as verdicts
+use Rattle.bgp_wire.specs.declared.multiprotocol.Reach.{Reach as Reaching}
 use Rattle.bgp_wire.specs.declared.writing.attributes.Place.{Place as Stand}
 use Rattle.bgp_wire.specs.declared.writing.attributes.Place.TheVariants as places
 
@@ -51,5 +52,12 @@ first = places.First
 abbrev pub middle : Place
 middle = places.Middle
 
+abbrev pub inner : Place
+inner = places.Inner
+
 abbrev pub last : Place
 last = places.Last
+
+-- what MP_REACH_NLRI says
+abbrev pub Reach : Type 0
+Reach = Reaching

@@ -2,6 +2,7 @@ pub mod TestLemmas
 pub mod ResultLemmas
 pub mod ItemLaws
 pub mod PrefixLaws
+pub mod MultiprotocolLaws
 pub mod PathLaws
 pub mod ClusterLaws
 pub mod AttributeLoops
@@ -9,7 +10,9 @@ pub mod AttributeLaws
 pub mod FrameLaws
 pub mod TypeLaws
 pub mod RouteLaws
+pub mod SpokenLaws
 pub mod MessageLaws
+pub mod SetLaws
 pub mod FoundLaws
 pub mod GatherLaws
 pub mod ReadingLaws

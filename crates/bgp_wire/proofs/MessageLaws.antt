@@ -1,6 +1,10 @@
 -- Exactly one of message and fault is there.
-use Rattle.std.proofs.Common.{◌≡◌, ℕ, Bool, true, false, cond, eqb, not, List, [], ◌∷◌, ◌++◌, Option, Some, None, Result, Ok, Err, refl, sym, ap, subst, ◌∙◌, inl, inr}
+use Rattle.std.proofs.Common.{◌≡◌, ℕ, ◌<◌, Bool, true, false, cond, eqb, not, ◌&&◌, length, List, [], ◌∷◌, ◌++◌, Option, Some, None, Result, Ok, Err, refl, sym, ap, subst, ◌∙◌, inl, inr, arith}
+use Rattle.std.specs.Prelude.{option_map}
 use Rattle.addr4.specs.Prefixes.{AddressPrefix}
+use Rattle.bgp_wire.specs.declared.multiprotocol.Reach.{Reach}
+use Rattle.bgp_wire.specs.Said.{Said}
+use Rattle.bgp_wire.specs.Multiprotocol.{announced_by, hop_by, withdrawn_by}
 use Rattle.bgp_attr.specs.Attributes.{Attrs}
 use Rattle.bgp_attr.specs.declared.speaker.Profile.{Profile}
 use Rattle.bgp_wire.specs.declared.notice.Notice.{Notice}
@@ -9,13 +13,13 @@ use Rattle.bgp_wire.specs.declared.message.RouteRefresh.{RouteRefresh}
 use Rattle.bgp_wire.specs.declared.message.Message.{Message}
 use Rattle.bgp_wire.specs.declared.message.Message.TheVariants as messages
 use Rattle.bgp_wire.specs.Faults.{notice, err_of, ◌>>=◌}
-use Rattle.bgp_wire.specs.Attributes.{Attribute, kept_by}
-use Rattle.bgp_wire.specs.Routes.{AreAttrs}
+use Rattle.bgp_wire.specs.Attributes.{Attribute, hop_at, kept_by}
+use Rattle.bgp_wire.specs.Routes.{hop_of, AreAttrs}
 use Rattle.bgp_wire.specs.Updates.{Reading, Content, update, keepalive, notification, opening, refresh, refresh_at, has_kind, missing, lack, lacks, header_at, reading_at, content_for, content_at, fault}
-use Rattle.bgp_wire.specs.Grammar.{IsReading, IsRefresh, Holds, without, AreAttrsFor, IsUpdateBy, IsMessageBy, GivesUpdate, GivesMessage, Reads, Answers, OneAnswer}
+use Rattle.bgp_wire.specs.Grammar.{IsReading, IsRefresh, Holds, without, AreAttrsFor, IsSaidBy, IsUpdateBy, IsMessageBy, GivesUpdate, GivesMessage, Reads, Answers, OneAnswer}
 use Rattle.bgp_wire.proofs.TestLemmas.{or_false_right}
 use Rattle.bgp_wire.proofs.ResultLemmas.{same_ok, not_both}
-use Rattle.bgp_wire.proofs.RouteLaws.{HasAll, attrs_made, one_attrs}
+use Rattle.bgp_wire.proofs.RouteLaws.{HasAll, has_kept, attrs_made, one_attrs}
 use Rattle.bgp_wire.proofs.FrameLaws.{content_takes, content_again}
 
 never : (p : Profile) (kind : ℕ) → lack p (Some kind) ≡ Ok false → ⊥
@@ -26,44 +30,79 @@ never p kind e = by_test p.revised e
     by_test false e = absurd (not_both _ false e)
 
 -- an announcement that lacks nothing
-pub has_all : (p : Profile) (kept : List Attribute) → lack p (missing kept) ≡ Ok false → HasAll kept
-has_all p kept e = by_tests (has_kind 1 kept) (has_kind 2 kept) (has_kind 3 kept) refl refl refl e
+pub has_all : (p : Profile) (ipv4 : Bool) (kept : List Attribute) → lack p (missing ipv4 kept) ≡ Ok false → HasAll kept × (ipv4 ≡ true → has_kind 3 kept ≡ true)
+has_all p ipv4 kept e = by_tests ipv4 (has_kind 1 kept) (has_kind 2 kept) (has_kind 3 kept) refl refl refl e
   where
-    by_tests : (a b c : Bool) → has_kind 1 kept ≡ a → has_kind 2 kept ≡ b → has_kind 3 kept ≡ c → lack p (cond (not a) (Some 1) (cond (not b) (Some 2) (cond (not c) (Some 3) None))) ≡ Ok false → HasAll kept
-    by_tests true true true f g h e = record { origin = f; path = g; next_hop = h }
-    by_tests false b c f g h e = absurd (never p 1 e)
-    by_tests true false c f g h e = absurd (never p 2 e)
-    by_tests true true false f g h e = absurd (never p 3 e)
+    by_tests : (v a b c : Bool) → has_kind 1 kept ≡ a → has_kind 2 kept ≡ b → has_kind 3 kept ≡ c → lack p (cond (not a) (Some 1) (cond (not b) (Some 2) (cond (v && not c) (Some 3) None))) ≡ Ok false → HasAll kept × (v ≡ true → has_kind 3 kept ≡ true)
+    by_tests v true true true f g h e = (record { origin = f; path = g }, λ _. h)
+    by_tests v false b c f g h e = absurd (never p 1 e)
+    by_tests v true false c f g h e = absurd (never p 2 e)
+    by_tests true true true false f g h e = absurd (never p 3 e)
+    by_tests false true true false f g h e = (record { origin = f; path = g }, λ is. absurd (cc))
 
-made_for : (p : Profile) (external : Bool) (bytes : List ℕ) (r : Reading) (is : IsReading p external bytes r) → is.lacking ≡ false → (ps : List AddressPrefix) → lacks p ps r.kept ≡ Ok is.lacking → (attrs : Option Attrs) × AreAttrsFor p external r.kept ps attrs
-made_for p external bytes r is none [] complete = (None, refl)
-made_for p external bytes r is none (n ∷ ps) complete =
-    let has : HasAll (kept_by is.steps is.runs).0 = subst HasAll is.kept (has_all p r.kept (complete ∙ ap (λ b. Ok b) none)) in
-    let made = attrs_made p external is.attributes is.steps is.runs is.are has in
-    (Some made.0, subst (λ kept. AreAttrs p external kept made.0) (sym is.kept) made.1)
+-- what the prefixes of IPv4 and of IPv6 that are announced have
+pub record HasFor (ns ms : List AddressPrefix) (kept : List Attribute) : Type 0 where
+  pub first : 0 < length ns → HasAll kept × ((n : ℕ) × (hop_of kept ≡ Some n))
+  pub second : 0 < length ms → HasAll kept
+
+pub has_for : (p : Profile) (first second : List AddressPrefix) (kept : List Attribute) → lacks p first second kept ≡ Ok false → HasFor first second kept
+has_for p [] [] kept e = record { first = λ some. absurd (omega arith); second = λ some. absurd (omega arith) }
+has_for p [] (m ∷ ms) kept e = record { first = λ some. absurd (omega arith); second = λ _. (has_all p false kept e).0 }
+has_for p (n ∷ ns) ms kept e =
+    let has = has_all p true kept e in
+    let h = has_kept 3 kept (has.1 refl) in
+    record { first = λ _. (has.0, (hop_at h.0.value, ap (option_map (λ (a : Attribute). hop_at a.value)) h.1)); second = λ _. has.0 }
+
+-- IPv6's next hop stands with its prefixes
+pub hop_beside : (r : Option Reach) → 0 < length (announced_by r) → (n : ℕ) × (hop_by r ≡ Some n)
+hop_beside None some = absurd (omega arith)
+hop_beside (Some r) some = (r.next_hop, refl)
+
+made_for : (p : Profile) (external : Bool) (bytes : List ℕ) (r : Reading) → IsReading p external bytes r → (hop : Option ℕ) (ps : List AddressPrefix) → (0 < length ps → HasAll r.kept × ((n : ℕ) × (hop ≡ Some n))) → (attrs : Option Attrs) × AreAttrsFor p external r.kept hop ps attrs
+made_for p external bytes r is hop [] has = (None, refl)
+made_for p external bytes r is hop (n ∷ ps) has =
+    let all = has (omega arith) in
+    let made = attrs_made p external is.attributes is.steps is.runs is.are (subst HasAll is.kept all.0) hop all.1.0 all.1.1 in
+    (Some made.0, subst (λ kept. AreAttrs p external kept hop made.0) (sym is.kept) made.1)
+
+-- what is said of a family is there
+said_made : (p : Profile) (external : Bool) (bytes : List ℕ) (r : Reading) → IsReading p external bytes r → (withdraw : Bool) (hop : Option ℕ) (ws ns : List AddressPrefix) → (withdraw ≡ false → 0 < length ns → HasAll r.kept × ((n : ℕ) × (hop ≡ Some n)))
+    → (s : Said) × IsSaidBy p external r.kept withdraw hop ws ns s
+said_made p external bytes r is true hop ws ns has = (record { withdrawn = without ns ws ++ ns; announced = []; attrs = None }, record { withdrawn = refl; announced = refl; attrs = refl })
+said_made p external bytes r is false hop ws ns has =
+    let made = made_for p external bytes r is hop ns (has refl) in
+    (record { withdrawn = ws; announced = ns; attrs = made.0 }, record { withdrawn = refl; announced = refl; attrs = made.1 })
 
 -- an UPDATE is there
 update_made : (p : Profile) (external : Bool) (bytes : List ℕ) (r : Reading) → IsReading p external bytes r → (u : Update) × IsUpdateBy p external r r.withdraw u
-update_made p external bytes r is = by_test r.withdraw refl
+update_made p external bytes r is =
+    let first = said_made p external bytes r is r.withdraw (hop_of r.kept) r.withdrawn r.announced (λ e some. (has e).first some) in
+    let second = said_made p external bytes r is r.withdraw (hop_by r.reach) (withdrawn_by r.unreach) (announced_by r.reach) (λ e some. ((has e).second some, hop_beside r.reach some)) in
+    (record { first = first.0; second = second.0 }, record { first = first.1; second = second.1 })
   where
-    by_test : (b : Bool) → r.withdraw ≡ b → (u : Update) × IsUpdateBy p external r b u
-    by_test true e = (record { withdrawn = without r.announced r.withdrawn ++ r.announced; announced = []; attrs = None }, record { withdrawn = refl; announced = refl; attrs = refl })
-    by_test false e =
-        let made = made_for p external bytes r is (or_false_right (kept_by is.steps is.runs).1 is.lacking (sym is.withdraw ∙ e)) r.announced is.complete in
-        (record { withdrawn = r.withdrawn; announced = r.announced; attrs = made.0 }, record { withdrawn = refl; announced = refl; attrs = made.1 })
+    has : r.withdraw ≡ false → HasFor r.announced (announced_by r.reach) r.kept
+    has e =
+        let none = or_false_right (kept_by is.steps is.runs).1 is.lacking (sym is.withdraw ∙ e) in
+        has_for p r.announced (announced_by r.reach) r.kept (is.complete ∙ ap (λ b. Ok b) none)
 
-one_attrs_for : (p : Profile) (external : Bool) (kept : List Attribute) (ns : List AddressPrefix) (a b : Option Attrs) → AreAttrsFor p external kept ns a → AreAttrsFor p external kept ns b → a ≡ b
-one_attrs_for p external kept [] a b f g = f ∙ sym g
-one_attrs_for p external kept (n ∷ ns) None b f g = absurd f
-one_attrs_for p external kept (n ∷ ns) (Some a) None f g = absurd g
-one_attrs_for p external kept (n ∷ ns) (Some a) (Some b) f g = ap (λ x. Some x) (one_attrs p external kept a b f g)
+one_attrs_for : (p : Profile) (external : Bool) (kept : List Attribute) (hop : Option ℕ) (ns : List AddressPrefix) (a b : Option Attrs) → AreAttrsFor p external kept hop ns a → AreAttrsFor p external kept hop ns b → a ≡ b
+one_attrs_for p external kept hop [] a b f g = f ∙ sym g
+one_attrs_for p external kept hop (n ∷ ns) None b f g = absurd f
+one_attrs_for p external kept hop (n ∷ ns) (Some a) None f g = absurd g
+one_attrs_for p external kept hop (n ∷ ns) (Some a) (Some b) f g = ap (λ x. Some x) (one_attrs p external kept hop a b f g)
+
+one_said : (p : Profile) (external : Bool) (kept : List Attribute) (withdraw : Bool) (hop : Option ℕ) (ws ns : List AddressPrefix) (s t : Said) → IsSaidBy p external kept withdraw hop ws ns s → IsSaidBy p external kept withdraw hop ws ns t → s ≡ t
+one_said p external kept true hop ws ns s t f g = λ i. record { withdrawn = (f.withdrawn ∙ sym g.withdrawn) i; announced = (f.announced ∙ sym g.announced) i; attrs = (f.attrs ∙ sym g.attrs) i }
+one_said p external kept false hop ws ns s t f g =
+    let attrs = one_attrs_for p external kept hop ns s.attrs t.attrs f.attrs g.attrs in
+    λ i. record { withdrawn = (f.withdrawn ∙ sym g.withdrawn) i; announced = (f.announced ∙ sym g.announced) i; attrs = attrs i }
 
 -- and it is one alone
 pub one_update : (p : Profile) (external : Bool) (r : Reading) (withdraw : Bool) (u v : Update) → IsUpdateBy p external r withdraw u → IsUpdateBy p external r withdraw v → u ≡ v
-one_update p external r true u v f g = λ i. record { withdrawn = (f.withdrawn ∙ sym g.withdrawn) i; announced = (f.announced ∙ sym g.announced) i; attrs = (f.attrs ∙ sym g.attrs) i }
-one_update p external r false u v f g =
-    let attrs = one_attrs_for p external r.kept r.announced u.attrs v.attrs f.attrs g.attrs in
-    λ i. record { withdrawn = (f.withdrawn ∙ sym g.withdrawn) i; announced = (f.announced ∙ sym g.announced) i; attrs = attrs i }
+one_update p external r withdraw u v f g =
+    let first = one_said p external r.kept withdraw (hop_of r.kept) r.withdrawn r.announced u.first v.first f.first g.first in
+    let second = one_said p external r.kept withdraw (hop_by r.reach) (withdrawn_by r.unreach) (announced_by r.reach) u.second v.second f.second g.second in
+    λ i. record { first = first i; second = second i }
 
 -- ---- messages
 

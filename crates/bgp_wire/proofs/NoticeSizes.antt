@@ -10,10 +10,14 @@ use Rattle.bgp_wire.specs.declared.notice.Notice.{Notice}
 use Rattle.bgp_wire.specs.Notices.{FitsMessage}
 use Rattle.bgp_wire.specs.Faults.{notice, ◌>>=◌, err_of}
 use Rattle.bgp_wire.specs.Items.{items_within}
-use Rattle.bgp_wire.specs.Prefixes.{prefix_at, octets_for, masked}
+use Rattle.bgp_wire.specs.Prefixes.{prefix_at, prefixes_at, octets_for, masked}
+use Rattle.bgp_wire.specs.Multiprotocol.{bad_value, announced_by, if_ipv6, is_hop_length, reach_behind, reach_at, unreach_at}
+use Rattle.byteorder.specs.Endian.{big_number}
+use Rattle.addr4.specs.Families.{bits_of}
+use Rattle.addr4.specs.Hosts.{is_host}
 use Rattle.bgp_wire.specs.Paths.{segment_at, segment_of, kind_of, path_at, width_of}
-use Rattle.bgp_wire.specs.Attributes.{Attribute, Kept, is_no_host, judge_unrecognized, value_fault, judge_value, has_wrong_size, has_wrong_flags, judge_recognized, judge_by, rule_of, judgement, with_verdict, size_at, cut, attribute_at, attributes_step, attributes_within}
-use Rattle.bgp_wire.specs.Updates.{Fields, header_at, fields_at, lack, lacks, missing, reading_at, content_for, content_at, fault, update, number_at, is_marked, has_wrong_length, length_field}
+use Rattle.bgp_wire.specs.Attributes.{Attribute, Kept, is_revised, hop_at, judge_unrecognized, value_fault, judge_value, has_wrong_size, has_wrong_flags, judge_recognized, judge_by, rule_of, judgement, with_verdict, size_at, cut, attribute_at, attributes_step, attributes_within}
+use Rattle.bgp_wire.specs.Updates.{Fields, header_at, fields_at, lack, lacks, missing, bad_prefix, reach_in, reading_at, content_for, content_at, fault, update, number_at, is_marked, has_wrong_length, length_field}
 
 -- a fault has at most so many octets of data
 abbrev pub LowFault : ℕ → Option Notice → Type 0
@@ -54,10 +58,10 @@ items_low k first_of low (suc n) (b ∷ bytes) =
     low_bind _ _ (λ first. items_within first_of n first.1 >>= λ others. Ok (first.0 ∷ others)) (low (b ∷ bytes))
     (λ first _. low_bind _ _ (λ others. Ok (first.0 ∷ others)) (items_low k first_of low n first.1) (λ _ _. low_ok))
 
-prefix_low : (k : ℕ) (bytes : List ℕ) → IsLow k (prefix_at bytes)
+prefix_low : (k : ℕ) (v6 : Bool) (bad : Notice) → length bad.octets ≤ k → (bytes : List ℕ) → IsLow k (prefix_at v6 bad bytes)
 unfolding prefix_at
-prefix_low k [] = low_none
-prefix_low k (bits ∷ rest) = low_two k (nat_lt 32 bits) (nat_lt (length rest) (octets_for bits)) (notice 3 10 []) (notice 3 10 []) (masked (take (octets_for bits) rest) bits, drop (octets_for bits) rest) (omega arith) (omega arith)
+prefix_low k v6 bad short [] = low_err short
+prefix_low k v6 bad short (bits ∷ rest) = low_two k (nat_lt (bits_of v6) bits) (nat_lt (length rest) (octets_for bits)) bad bad (masked (take (octets_for bits) rest) bits, drop (octets_for bits) rest) short short
 
 segment_low : (k width : ℕ) (bytes : List ℕ) → IsLow k (segment_at width bytes)
 unfolding segment_at
@@ -69,9 +73,28 @@ segment_low k width (code ∷ count ∷ rest) = by_kind (kind_of code)
     by_kind None = low_none
     by_kind (Some kind) = low_cond _ _ _ _ low_none low_ok
 
-value_low : (k : ℕ) (p : Profile) (o : Option Notice) → LowFault k o → IsLow k (judge_value p o)
-value_low k p None low = low_ok
-value_low k p (Some n) low = low_cond _ _ _ _ low_ok (low_err low)
+value_low : (k : ℕ) (revised : Bool) (o : Option Notice) → LowFault k o → IsLow k (judge_value revised o)
+value_low k revised None low = low_ok
+value_low k revised (Some n) low = low_cond _ _ _ _ low_ok (low_err low)
+
+prefixes_low : (k : ℕ) (v6 : Bool) (bad : Notice) → length bad.octets ≤ k → (bytes : List ℕ) → IsLow k (prefixes_at v6 bad bytes)
+prefixes_low k v6 bad short bytes = items_low k (prefix_at v6 bad) (prefix_low k v6 bad short) (length bytes) bytes
+
+ipv6_low : {A : Type 0} (k : ℕ) (bad : Notice) (read : List ℕ → Result A Notice) → length bad.octets ≤ k → ((rest : List ℕ) → IsLow k (read rest)) → (value : List ℕ) → IsLow k (if_ipv6 bad read value)
+unfolding if_ipv6
+ipv6_low k bad read short low [] = low_err short
+ipv6_low k bad read short low (high ∷ []) = low_err short
+ipv6_low k bad read short low (high ∷ next ∷ []) = low_err short
+ipv6_low k bad read short low (high ∷ next ∷ subsequent ∷ rest) =
+    low_cond k (nat_eq high 0 && (nat_eq next 2 && nat_eq subsequent 1)) _ _ (low_bind k (read rest) (λ x. Ok (Some x)) (low rest) (λ _ _. low_ok)) low_ok
+
+reach_low : (k : ℕ) (bad : Notice) → length bad.octets ≤ k → (rest : List ℕ) → IsLow k (reach_behind bad rest)
+unfolding reach_behind
+reach_low k bad short [] = low_err short
+reach_low k bad short (size ∷ rest) =
+    low_cond k (not (is_hop_length size) || nat_lt (length rest) (size + 1)) _ _ (low_err short)
+    (low_cond k (not (is_host true (big_number 16 rest))) _ _ (low_err short)
+    (low_bind k (prefixes_at true bad (drop (size + 1) rest)) (λ announced. Ok (record { next_hop = big_number 16 rest; announced = announced })) (prefixes_low k true bad short (drop (size + 1) rest)) (λ _ _. low_ok)))
 
 module _ (k : ℕ) (p : Profile) (external : Bool) (a : Attribute) (short : length a.octets ≤ k) where
   fault_by : (b : Bool) (subcode : ℕ) → LowFault k (cond b (Some (notice 3 subcode a.octets)) None)
@@ -88,12 +111,20 @@ module _ (k : ℕ) (p : Profile) (external : Bool) (a : Attribute) (short : leng
   value_fault_low : (as4 : Bool) → LowFault k (value_fault as4 a)
   unfolding value_fault
   value_fault_low as4 =
-      let first = get_or a.value 0 0 in
-      let origin = cond (nat_lt 2 first) (Some (notice 3 6 a.octets)) None in
-      let hop = cond (is_no_host first) (Some (notice 3 8 a.octets)) None in
-      fault_cond (nat_eq a.kind 1) origin (cond (nat_eq a.kind 2) (err_of (path_at (width_of as4) a.value)) (cond (nat_eq a.kind 3) hop None)) (fault_by (nat_lt 2 first) 6)
-      (fault_cond (nat_eq a.kind 2) (err_of (path_at (width_of as4) a.value)) (cond (nat_eq a.kind 3) hop None) (path_low (width_of as4))
-      (fault_cond (nat_eq a.kind 3) hop None (fault_by (is_no_host first) 8) tt))
+      let bad = bad_value a.octets in
+      let origin = cond (nat_lt 2 (get_or a.value 0 0)) (Some (notice 3 6 a.octets)) None in
+      let path = err_of (path_at (width_of as4) a.value) in
+      let hop = cond (is_host false (hop_at a.value)) None (Some (notice 3 8 a.octets)) in
+      let reach = err_of (reach_at bad a.value) in
+      let unreach = err_of (unreach_at bad a.value) in
+      let at_15 = cond (nat_eq a.kind 15) unreach None in
+      let at_14 = cond (nat_eq a.kind 14) reach at_15 in
+      let at_3 = cond (nat_eq a.kind 3) hop at_14 in
+      fault_cond (nat_eq a.kind 1) origin (cond (nat_eq a.kind 2) path at_3) (fault_by (nat_lt 2 (get_or a.value 0 0)) 6)
+      (fault_cond (nat_eq a.kind 2) path at_3 (path_low (width_of as4))
+      (fault_cond (nat_eq a.kind 3) hop at_14 (fault_cond (is_host false (hop_at a.value)) None (Some (notice 3 8 a.octets)) tt short)
+      (fault_cond (nat_eq a.kind 14) reach at_15 (ipv6_low k bad (reach_behind bad) short (reach_low k bad short) a.value).low
+      (fault_cond (nat_eq a.kind 15) unreach None (ipv6_low k bad (prefixes_at true bad) short (prefixes_low k true bad short) a.value).low tt))))
 
   unrecognized_low : IsLow k (judge_unrecognized p a)
   unrecognized_low = low_cond _ _ _ _ (low_err short) (low_cond _ _ _ _ low_ok low_ok)
@@ -101,8 +132,8 @@ module _ (k : ℕ) (p : Profile) (external : Bool) (a : Attribute) (short : leng
   recognized_low : (r : _) → IsLow k (judge_recognized p external a r)
   recognized_low r =
       low_cond k (p.revised && (external && nat_eq a.kind 5)) _ _ low_ok
-      (low_cond k (has_wrong_flags r a) _ _ (low_cond k p.revised _ _ low_ok (low_err short))
-      (low_cond k (has_wrong_size r.size a.value) _ _ (low_cond k p.revised _ _ low_ok (low_err short)) (value_low k p (value_fault p.as4 a) (value_fault_low p.as4))))
+      (low_cond k (has_wrong_flags r a) _ _ (low_cond k (is_revised p a.kind) _ _ low_ok (low_err short))
+      (low_cond k (has_wrong_size r.size a.value) _ _ (low_cond k (is_revised p a.kind) _ _ low_ok (low_err short)) (value_low k (is_revised p a.kind) (value_fault p.as4 a) (value_fault_low p.as4))))
 
   by_rule : (o : Option _) → IsLow k (judge_by p external a o)
   by_rule None = unrecognized_low
@@ -110,7 +141,7 @@ module _ (k : ℕ) (p : Profile) (external : Bool) (a : Attribute) (short : leng
 
   judgement_low : (seen : List ℕ) → IsLow k (judgement p external seen a)
   unfolding judgement
-  judgement_low seen = low_cond k (list_any (λ kind. nat_eq kind a.kind) seen) _ _ (low_cond k p.revised _ _ low_ok (low_none {code = 3} {subcode = 1})) (by_rule (rule_of p external a.kind))
+  judgement_low seen = low_cond k (list_any (λ kind. nat_eq kind a.kind) seen) _ _ (low_cond k (is_revised p a.kind) _ _ low_ok (low_none {code = 3} {subcode = 1})) (by_rule (rule_of p external a.kind))
 
 -- an attribute and what follows it are parts of the octets
 abbrev ArePartsOf : ℕ → Option (Attribute × List ℕ) → Type 0
@@ -168,22 +199,23 @@ fields_low k bytes = low_two k (nat_lt (length bytes) (number_at bytes 19 + 23))
 one_low : {A : Type 0} {k code subcode kind : ℕ} → 1 ≤ k → IsLow {A = A} k (Err (notice code subcode (kind ∷ [])))
 one_low one = record { low = omega arith }
 
-lacks_low : (k : ℕ) (p : Profile) → 1 ≤ k → (announced : List AddressPrefix) (kept : List Attribute) → IsLow k (lacks p announced kept)
-lacks_low k p one [] kept = low_ok
-lacks_low k p one (n ∷ ns) kept = by_missing (missing kept)
-  where
-    by_missing : (o : Option ℕ) → IsLow k (lack p o)
-    by_missing None = low_ok
-    by_missing (Some kind) = low_cond _ _ _ _ low_ok (one_low one)
+lack_low : (k : ℕ) (p : Profile) → 1 ≤ k → (o : Option ℕ) → IsLow k (lack p o)
+lack_low k p one None = low_ok
+lack_low k p one (Some kind) = low_cond _ _ _ _ low_ok (one_low one)
+
+lacks_low : (k : ℕ) (p : Profile) → 1 ≤ k → (first second : List AddressPrefix) (kept : List Attribute) → IsLow k (lacks p first second kept)
+lacks_low k p one [] [] kept = low_ok
+lacks_low k p one [] (m ∷ ms) kept = lack_low k p one (missing false kept)
+lacks_low k p one (n ∷ ns) ms kept = lack_low k p one (missing true kept)
 
 reading_low : (p : Profile) (external : Bool) (bytes : List ℕ) → length bytes ≤ 4096 → IsLow 4073 (reading_at p external bytes)
 unfolding reading_at
 reading_low p external bytes top =
     low_bind _ _ _ (fields_low 4073 bytes) (λ f e.
-    low_bind _ _ _ (items_low 4073 prefix_at (prefix_low 4073) (length f.withdrawn) f.withdrawn) (λ w _.
+    low_bind _ _ _ (prefixes_low 4073 false bad_prefix (omega arith) f.withdrawn) (λ w _.
     low_bind _ _ _ (attributes_low 4073 (length f.attributes) p external [] f.attributes (short f (subst (IsShorter (length bytes)) e (fields_short bytes)).short)) (λ k _.
-    low_bind _ _ _ (items_low 4073 prefix_at (prefix_low 4073) (length f.announced) f.announced) (λ n _.
-    low_bind _ _ _ (lacks_low 4073 p (omega arith) n k.0) (λ _ _. low_ok)))))
+    low_bind _ _ _ (prefixes_low 4073 false bad_prefix (omega arith) f.announced) (λ n _.
+    low_bind _ _ _ (lacks_low 4073 p (omega arith) n (announced_by (reach_in p k.0)) k.0) (λ _ _. low_ok)))))
   where
     short : (f : Fields) → length f.attributes ≤ length bytes - 23 → length f.attributes ≤ 4073
     short f le = omega (arith, le, top)

@@ -1,5 +1,5 @@
 -- What a peer said can be said again.
-use Rattle.std.proofs.Common.{◌≡◌, ℕ, zero, suc, ◌-◌, ◌*◌, ◌/◌, ◌%◌, ◌^◌, ◌<◌, Bool, true, false, cond, eqb, not, ◌||◌, ◌&&◌, List, [], ◌∷◌, ◌++◌, length, drop, Option, Some, None, refl, sym, ap, subst, ◌∙◌, inl, inr, arith}
+use Rattle.std.proofs.Common.{◌≡◌, ℕ, zero, suc, ◌-◌, ◌*◌, ◌/◌, ◌%◌, ◌^◌, ◌<◌, ◌≤◌, Bool, true, false, cond, eqb, not, ◌||◌, ◌&&◌, List, [], ◌∷◌, ◌++◌, length, drop, Option, Some, None, refl, sym, ap, subst, ◌∙◌, inl, inr, arith}
 use Rattle.std.specs.Prelude.{All, filter, option_map, slice_index, IsSomeAnd}
 use Rattle.std.proofs.lemmas.Bool.{eqb-true, eq-eqb}
 use Rattle.byteorder.specs.Endian.{big_number}
@@ -17,12 +17,15 @@ use Rattle.bgp_wire.specs.declared.attributes.TypeRule.{TypeRule}
 use Rattle.bgp_wire.specs.declared.attributes.Verdict.{Verdict}
 use Rattle.bgp_wire.specs.declared.attributes.Verdict.TheVariants.{Keep, Discard, Withdraw}
 use Rattle.bgp_wire.specs.Faults.{notice}
+use Rattle.bgp_wire.specs.declared.multiprotocol.Reach.{Reach}
+use Rattle.bgp_wire.specs.Multiprotocol.{IsReach, IsUnreach, announced_by, hop_by, withdrawn_by}
 use Rattle.bgp_wire.specs.Prefixes.{IsPrefix, ArePrefixes}
 use Rattle.bgp_wire.specs.Paths.{width_of, numbers_at, IsSegment, IsPath}
-use Rattle.bgp_wire.specs.Attributes.{Attribute, IsAttribute, AreAttributes, kept_by, rule_of, has_wrong_size, is_no_host, is_old_form, is_reflection, value_fault, judge_by}
-use Rattle.bgp_wire.specs.Routes.{kept_of, number_of, aggregator_of, clusters_of, is_unrecognized, AscendsFrom, value_of, AreUnrecognized, AreAttrs}
-use Rattle.addr4.specs.Families.{IsIpv4Prefix, in_front, IsIpv4}
-use Rattle.addr4.proofs.FrontLemmas.{front_shr, front_ipv4}
+use Rattle.bgp_wire.specs.Attributes.{Attribute, IsAttribute, AreAttributes, kept_by, rule_of, has_wrong_size, hop_at, is_old_form, is_reflection, value_fault, judge_by}
+use Rattle.bgp_wire.specs.Routes.{kept_of, hop_of, multiprotocol_of, Says, number_of, aggregator_of, clusters_of, is_unrecognized, AscendsFrom, value_of, AreUnrecognized, AreAttrs}
+use Rattle.addr4.specs.Families.{bits_of, IsPrefixOf}
+use Rattle.addr4.specs.Hosts.{is_host}
+use Rattle.addr4.proofs.FrontLemmas.{front_ipv4}
 use Rattle.bgp_wire.specs.Readable.{IsReadableSegment, IsHost, reads_reflection, IsReadable}
 use Rattle.bgp_wire.proofs.TestLemmas.{and_left, not_both, not_false, unequal}
 use Rattle.bgp_wire.proofs.RouteLaws.{IsKept, IsGood, kept_are, recognized_is_good, value_below}
@@ -82,22 +85,27 @@ number_fits n xs octets = big_from-lt 0 n xs (octet_at xs octets)
 
 -- ---- prefixes
 
-address_prefix_read : (octets : List ℕ) (p : AddressPrefix) → Octets octets → IsPrefix octets p → IsIpv4Prefix p
-address_prefix_read octets p are is =
+few_bits : (v6 : Bool) → bits_of v6 ≤ 128
+few_bits true = omega arith
+few_bits false = omega arith
+
+address_prefix_read : (v6 : Bool) (octets : List ℕ) (p : AddressPrefix) → Octets octets → IsPrefix v6 octets p → IsPrefixOf v6 p
+address_prefix_read v6 octets p are is =
     let bits : Octets is.bits = (subst Octets is.spelled are).1 in
-    let fits = number_fits 4 is.bits bits in
-    let address : p.address ≡ masked_to width (in_front (big_number 4 is.bits)) p.length = ap (λ (q : AddressPrefix). q.address) is.value in
+    let fits = number_fits 16 is.bits bits in
+    let number = big_number 16 is.bits in
+    let address : p.address ≡ masked_to width number p.length = ap (λ (q : AddressPrefix). q.address) is.value in
     record {
-      masked = (omega (arith, is.short), ap (λ n. n % size_of_length width p.length) address ∙ masked_down (in_front (big_number 4 is.bits)) (size_of_length width p.length) (size_pos width p.length));
+      masked = (omega (arith, is.short, few_bits v6), ap (λ n. n % size_of_length width p.length) address ∙ masked_down number (size_of_length width p.length) (size_pos width p.length));
       fits = omega (arith, address, fits);
       short = is.short;
     }
 
-pub address_prefixes_read : (bytes : List ℕ) (ps : List AddressPrefix) → Octets bytes → ArePrefixes bytes ps → Every IsIpv4Prefix ps
-address_prefixes_read bytes [] octets are = tt
-address_prefixes_read bytes (p ∷ ps) octets are =
+pub address_prefixes_read : (v6 : Bool) (bytes : List ℕ) (ps : List AddressPrefix) → Octets bytes → ArePrefixes v6 bytes ps → Every (IsPrefixOf v6) ps
+address_prefixes_read v6 bytes [] octets are = tt
+address_prefixes_read v6 bytes (p ∷ ps) octets are =
     let parts = subst Octets are.2 octets in
-    (address_prefix_read are.0 p (every_front (λ n. n < 256) are.0 are.1 parts) are.3, address_prefixes_read are.1 ps (every_back (λ n. n < 256) are.0 are.1 parts) are.4)
+    (address_prefix_read v6 are.0 p (every_front (λ n. n < 256) are.0 are.1 parts) are.3, address_prefixes_read v6 are.1 ps (every_back (λ n. n < 256) are.0 are.1 parts) are.4)
 
 -- ---- paths
 
@@ -170,19 +178,18 @@ pub found_from : {B : Type 0} (f : Attribute → B) (o : Option Attribute) (x : 
 found_from f None x e = absurd (not_some x e)
 found_from f (Some a) x e = (a, refl, some_same (f a) x e)
 
-host_read : (p : Profile) (external : Bool) (a : Attribute) (n : ℕ) → IsHeld p external 3 a → in_front (big_number 4 a.value) ≡ n → IsHost n
+-- NEXT_HOP is a host's
+hop_read : (p : Profile) (external : Bool) (a : Attribute) → IsHeld p external 3 a → IsHost false (hop_at a.value)
 unfolding rule_of value_fault
-host_read p external a n held e =
-    let octets = value_octets a held.is held.octets in
-    let fits = number_fits 4 a.value octets in
+hop_read p external a held =
+    let fits = number_fits 4 a.value (value_octets a held.is held.octets) in
     let fault : value_fault p.as4 a ≡ None = (good p external 3 a (record { optional = false; transitive = true; size = Fixed 4 }) refl held).value in
-    let at : value_fault p.as4 a ≡ cond (is_no_host (slice_index a.value 0)) (Some (notice 3 8 a.octets)) None = ap (λ k. value_fault p.as4 (record a { kind = k })) held.same in
-    let first : big_number 4 a.value / 2 ^ 24 ≡ slice_index a.value 0 = omega (arith, octet_at a.value octets 0, octet_at a.value octets 1, octet_at a.value octets 2, octet_at a.value octets 3) in
-    record { ipv4 = subst IsIpv4 e (front_ipv4 (big_number 4 a.value) (omega (arith, fits))); first = ap (λ n. is_no_host (n / 2 ^ 120)) (sym e) ∙ ap is_no_host (front_shr (big_number 4 a.value) 24 ∙ first) ∙ by_test (is_no_host (slice_index a.value 0)) (sym at ∙ fault) }
+    let at : value_fault p.as4 a ≡ cond (is_host false (hop_at a.value)) None (Some (notice 3 8 a.octets)) = ap (λ k. value_fault p.as4 (record a { kind = k })) held.same in
+    record { of = front_ipv4 (big_number 4 a.value) (omega (arith, fits)); host = by_test (is_host false (hop_at a.value)) (sym at ∙ fault) }
   where
-    by_test : (b : Bool) → cond b (Some (notice 3 8 a.octets)) None ≡ None → b ≡ false
-    by_test true e = absurd (not_some (notice 3 8 a.octets) (sym e))
-    by_test false e = refl
+    by_test : (b : Bool) → cond b None (Some (notice 3 8 a.octets)) ≡ None → b ≡ true
+    by_test false e = absurd (not_some (notice 3 8 a.octets) (sym e))
+    by_test true e = refl
 
 -- ---- unrecognized attributes
 
@@ -244,13 +251,13 @@ from_internal : (external : Bool) (o : Option ℕ) (n : ℕ) → cond external N
 from_internal true o n e = absurd (not_some n e)
 from_internal false o n e = (refl, e)
 
-pub attrs_read : (p : Profile) (external : Bool) (bytes : List ℕ) (steps : List (Attribute × Verdict)) (runs : Bool) (attrs : Attrs) → AreAttributes p external [] bytes steps runs → Octets bytes → AreAttrs p external (kept_by steps runs).0 attrs
-    → IsReadable p external attrs
-attrs_read p external bytes steps runs attrs are octets is = record {
+pub attrs_read : (v6 : Bool) (p : Profile) (external : Bool) (bytes : List ℕ) (steps : List (Attribute × Verdict)) (runs : Bool) (hop : Option ℕ) (attrs : Attrs) → AreAttributes p external [] bytes steps runs → Octets bytes → ((n : ℕ) → hop ≡ Some n → IsHost v6 n)
+    → AreAttrs p external (kept_by steps runs).0 hop attrs → IsReadable v6 p external attrs
+attrs_read v6 p external bytes steps runs hop attrs are octets host is = record {
   path =
       let s = some_in (kept_of 2 kept) (λ a. IsPath (width_of p.as4) a.value attrs.path) is.path in
       every_all (IsReadableSegment p.as4) attrs.path (path_read p.as4 s.0.value attrs.path (value 2 s.0 s.1) s.2);
-  next_hop = let h = found_from (λ (a : Attribute). in_front (big_number 4 a.value)) (kept_of 3 kept) attrs.next_hop is.next_hop in host_read p external h.0 attrs.next_hop (at 3 h.0 h.1) h.2;
+  next_hop = host attrs.next_hop is.next_hop;
   med = λ n e. number 4 n (sym is.med ∙ e);
   local_pref = λ n e. let l = from_internal external (number_of 5 kept) n (sym is.local_pref ∙ e) in (l.0, number 5 n l.1);
   aggregator = λ g e. aggregator g (sym is.aggregator ∙ e);
@@ -302,3 +309,42 @@ attrs_read p external bytes steps runs attrs are octets is = record {
         let octets = value_octets a.0 h.is h.octets in
         subst (λ (g : Aggregator). (g.asn < 256 ^ width_of p.as4) × (g.addr < 2 ^ 32)) a.2
         (number_fits (width_of p.as4) a.0.value octets, number_fits 4 (drop (width_of p.as4) a.0.value) (octets_drop (width_of p.as4) a.0.value octets))
+
+-- ---- next hops, and what stands in MP_REACH_NLRI and MP_UNREACH_NLRI
+
+pub first_hop_read : (p : Profile) (external : Bool) (bytes : List ℕ) (steps : List (Attribute × Verdict)) (runs : Bool) → AreAttributes p external [] bytes steps runs → Octets bytes → (n : ℕ) → hop_of (kept_by steps runs).0 ≡ Some n → IsHost false n
+first_hop_read p external bytes steps runs are octets n e =
+    let h = found_from (λ (a : Attribute). hop_at a.value) (kept_of 3 (kept_by steps runs).0) n e in
+    subst (IsHost false) h.2 (hop_read p external h.0 (held p external bytes steps runs are octets 3 h.0 h.1))
+
+said_from : {A : Type 0} (v6 : Bool) (o : Option Attribute) (Is : List ℕ → A → Type 0) (x : A) → Says Is (cond v6 o None) (Some x) → (a : Attribute) × (o ≡ Some a) × Is a.value x
+said_from false o Is x says = absurd (not_some x (sym says))
+said_from true None Is x says = absurd (not_some x (sym says))
+said_from true (Some a) Is x says = (a, refl, says)
+
+-- what such an attribute says stands in octets
+spoken_octets : {A : Type 0} (p : Profile) (external : Bool) (bytes : List ℕ) (steps : List (Attribute × Verdict)) (runs : Bool) → AreAttributes p external [] bytes steps runs → Octets bytes
+    → (kind : ℕ) (Is : List ℕ → A → Type 0) (x : A) → Says Is (multiprotocol_of p kind (kept_by steps runs).0) (Some x) → (value : List ℕ) × Octets value × Is value x
+spoken_octets p external bytes steps runs are octets kind Is x says =
+    let a = said_from p.v6 (kept_of kind (kept_by steps runs).0) Is x says in
+    let h = held p external bytes steps runs are octets kind a.0 a.1 in
+    (a.0.value, value_octets a.0 h.is h.octets, a.2)
+
+pub second_announced_read : (p : Profile) (external : Bool) (bytes : List ℕ) (steps : List (Attribute × Verdict)) (runs : Bool) → AreAttributes p external [] bytes steps runs → Octets bytes
+    → (r : Option Reach) → Says IsReach (multiprotocol_of p 14 (kept_by steps runs).0) r → Every (IsPrefixOf true) (announced_by r) × ((n : ℕ) → hop_by r ≡ Some n → IsHost true n)
+second_announced_read p external bytes steps runs are octets None says = (tt, λ n e. absurd (not_some n e))
+second_announced_read p external bytes steps runs are octets (Some r) says =
+    let v = spoken_octets p external bytes steps runs are octets 14 IsReach r says in
+    let is = v.2 in
+    let behind = (subst Octets is.spelled v.1).1.1.1.1 in
+    let fits = number_fits 16 is.hop (every_front (λ n. n < 256) is.hop (is.reserved ∷ is.prefixes) behind) in (
+      address_prefixes_read true is.prefixes r.announced (every_back (λ n. n < 256) is.hop (is.reserved ∷ is.prefixes) behind).1 is.announces,
+      λ n e. subst (IsHost true) (some_same r.next_hop n e) (record { of = omega (arith, is.next_hop, fits); host = is.host }),
+    )
+
+pub second_withdrawn_read : (p : Profile) (external : Bool) (bytes : List ℕ) (steps : List (Attribute × Verdict)) (runs : Bool) → AreAttributes p external [] bytes steps runs → Octets bytes
+    → (ps : Option (List AddressPrefix)) → Says IsUnreach (multiprotocol_of p 15 (kept_by steps runs).0) ps → Every (IsPrefixOf true) (withdrawn_by ps)
+second_withdrawn_read p external bytes steps runs are octets None says = tt
+second_withdrawn_read p external bytes steps runs are octets (Some ps) says =
+    let v = spoken_octets p external bytes steps runs are octets 15 IsUnreach ps says in
+    address_prefixes_read true v.2.prefixes ps (subst Octets v.2.spelled v.1).1.1.1 v.2.withdraws

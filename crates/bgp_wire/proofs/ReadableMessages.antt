@@ -9,12 +9,14 @@ use Rattle.bgp_attr.specs.declared.speaker.Profile.{Profile}
 use Rattle.bgp_wire.specs.declared.message.Update.{Update}
 use Rattle.bgp_wire.specs.declared.message.Message.{Message}
 use Rattle.bgp_wire.specs.declared.message.Message.TheVariants as messages
-use Rattle.bgp_wire.specs.Routes.{AreAttrs}
+use Rattle.bgp_wire.specs.Routes.{hop_of, multiprotocol_of, Says, AreAttrs}
 use Rattle.bgp_wire.specs.Updates.{Reading}
-use Rattle.bgp_wire.specs.Grammar.{IsReading, AreAttrsFor, IsUpdateBy, without, Reads, Answers}
-use Rattle.addr4.specs.Families.{IsIpv4Prefix}
-use Rattle.bgp_wire.specs.Readable.{IsReadable, IsReadableUpdate, IsReadableMessage, AreOctets}
-use Rattle.bgp_wire.proofs.ReadableLaws.{Every, every_all, all_every, every_append, every_back, every_front, every_filter, Octets, address_prefixes_read, attrs_read}
+use Rattle.bgp_wire.specs.Grammar.{IsReading, AreAttrsFor, IsSaidBy, IsUpdateBy, without, Reads, Answers}
+use Rattle.addr4.specs.Families.{IsPrefixOf}
+use Rattle.bgp_wire.specs.Said.{Said}
+use Rattle.bgp_wire.specs.Multiprotocol.{IsReach, IsUnreach, announced_by, hop_by, withdrawn_by}
+use Rattle.bgp_wire.specs.Readable.{IsHost, IsReadable, IsReadableSaid, IsReadableUpdate, IsReadableMessage, AreOctets}
+use Rattle.bgp_wire.proofs.ReadableLaws.{Every, every_all, all_every, every_append, every_back, every_front, every_filter, Octets, address_prefixes_read, attrs_read, first_hop_read, second_announced_read, second_withdrawn_read}
 
 -- the octets of the fields
 pub record FieldOctets (p : Profile) (external : Bool) (bytes : List ℕ) (r : Reading) (is : IsReading p external bytes r) : Type 0 where
@@ -38,38 +40,47 @@ field_octets p external bytes r is octets =
     }
 
 -- what is known of an UPDATE that was read
-attrs_readable : (p : Profile) (external : Bool) (bytes : List ℕ) (r : Reading) (is : IsReading p external bytes r) → Octets bytes → (ns : List AddressPrefix) (attrs : Option Attrs) → AreAttrsFor p external r.kept ns attrs → ForSome attrs (IsReadable p external)
-attrs_readable p external bytes r is octets [] attrs are a e = absurd (never (sym are ∙ e))
+attrs_readable : (v6 : Bool) (p : Profile) (external : Bool) (bytes : List ℕ) (r : Reading) (is : IsReading p external bytes r) → Octets bytes → (hop : Option ℕ) (ns : List AddressPrefix) (attrs : Option Attrs) → ((n : ℕ) → hop ≡ Some n → IsHost v6 n)
+    → AreAttrsFor p external r.kept hop ns attrs → ForSome attrs (IsReadable v6 p external)
+attrs_readable v6 p external bytes r is octets hop [] attrs host are a e = absurd (never (sym are ∙ e))
   where
     never : ◌≡◌ {A = Option Attrs} None (Some a) → ⊥
     never e = absurd (cc)
-attrs_readable p external bytes r is octets (n ∷ ns) None are a e = absurd are
-attrs_readable p external bytes r is octets (n ∷ ns) (Some b) are a e =
+attrs_readable v6 p external bytes r is octets hop (n ∷ ns) None host are a e = absurd are
+attrs_readable v6 p external bytes r is octets hop (n ∷ ns) (Some b) host are a e =
     let f = field_octets p external bytes r is octets in
     let same : b ≡ a = cc in
-    subst (IsReadable p external) same (attrs_read p external is.attributes is.steps is.runs b is.are f.attributes (subst (λ kept. AreAttrs p external kept b) is.kept are))
+    subst (IsReadable v6 p external) same (attrs_read v6 p external is.attributes is.steps is.runs hop b is.are f.attributes host (subst (λ kept. AreAttrs p external kept hop b) is.kept are))
 
-readable_by : (p : Profile) (external : Bool) (bytes : List ℕ) (r : Reading) (is : IsReading p external bytes r) → Octets bytes → (withdraw : Bool) (u : Update) → IsUpdateBy p external r withdraw u → IsReadableUpdate p external u
-readable_by p external bytes r is octets true u by =
-    let f = field_octets p external bytes r is octets in
-    let withdrawn = address_prefixes_read is.withdrawn r.withdrawn f.withdrawn is.withdraws in
-    let announced = address_prefixes_read is.announced r.announced f.announced is.announces in
-    let all : Every IsIpv4Prefix (without r.announced r.withdrawn ++ r.announced) = every_append IsIpv4Prefix (without r.announced r.withdrawn) r.announced (every_filter IsIpv4Prefix _ r.withdrawn withdrawn) announced in
+readable_said : (v6 : Bool) (p : Profile) (external : Bool) (bytes : List ℕ) (r : Reading) → IsReading p external bytes r → Octets bytes → (withdraw : Bool) (hop : Option ℕ) (ws ns : List AddressPrefix) (s : Said) → ((n : ℕ) → hop ≡ Some n → IsHost v6 n)
+    → Every (IsPrefixOf v6) ws → Every (IsPrefixOf v6) ns → IsSaidBy p external r.kept withdraw hop ws ns s → IsReadableSaid v6 p external s
+readable_said v6 p external bytes r is octets true hop ws ns s host withdrawn announced by =
+    let all : Every (IsPrefixOf v6) (without ns ws ++ ns) = every_append (IsPrefixOf v6) (without ns ws) ns (every_filter (IsPrefixOf v6) _ ws withdrawn) announced in
     record {
-      withdrawn = every_all IsIpv4Prefix u.withdrawn (subst (Every IsIpv4Prefix) (sym by.withdrawn) all);
-      announced = every_all IsIpv4Prefix u.announced (subst (Every IsIpv4Prefix) (sym by.announced) tt);
+      withdrawn = every_all (IsPrefixOf v6) s.withdrawn (subst (Every (IsPrefixOf v6)) (sym by.withdrawn) all);
+      announced = every_all (IsPrefixOf v6) s.announced (subst (Every (IsPrefixOf v6)) (sym by.announced) tt);
       attrs = λ a e. absurd (never a (sym by.attrs ∙ e));
     }
   where
     never : (a : Attrs) → ◌≡◌ {A = Option Attrs} None (Some a) → ⊥
     never a e = absurd (cc)
-readable_by p external bytes r is octets false u by =
+readable_said v6 p external bytes r is octets false hop ws ns s host withdrawn announced by = record {
+  withdrawn = every_all (IsPrefixOf v6) s.withdrawn (subst (Every (IsPrefixOf v6)) (sym by.withdrawn) withdrawn);
+  announced = every_all (IsPrefixOf v6) s.announced (subst (Every (IsPrefixOf v6)) (sym by.announced) announced);
+  attrs = attrs_readable v6 p external bytes r is octets hop ns s.attrs host by.attrs;
+}
+
+readable_by : (p : Profile) (external : Bool) (bytes : List ℕ) (r : Reading) (is : IsReading p external bytes r) → Octets bytes → (withdraw : Bool) (u : Update) → IsUpdateBy p external r withdraw u → IsReadableUpdate p external u
+readable_by p external bytes r is octets withdraw u by false =
     let f = field_octets p external bytes r is octets in
-    record {
-      withdrawn = every_all IsIpv4Prefix u.withdrawn (subst (Every IsIpv4Prefix) (sym by.withdrawn) (address_prefixes_read is.withdrawn r.withdrawn f.withdrawn is.withdraws));
-      announced = every_all IsIpv4Prefix u.announced (subst (Every IsIpv4Prefix) (sym by.announced) (address_prefixes_read is.announced r.announced f.announced is.announces));
-      attrs = attrs_readable p external bytes r is octets r.announced u.attrs by.attrs;
-    }
+    readable_said false p external bytes r is octets withdraw (hop_of r.kept) r.withdrawn r.announced u.first
+    (λ n e. first_hop_read p external is.attributes is.steps is.runs is.are f.attributes n (ap hop_of (sym is.kept) ∙ e))
+    (address_prefixes_read false is.withdrawn r.withdrawn f.withdrawn is.withdraws) (address_prefixes_read false is.announced r.announced f.announced is.announces) by.first
+readable_by p external bytes r is octets withdraw u by true =
+    let f = field_octets p external bytes r is octets in
+    let announced = second_announced_read p external is.attributes is.steps is.runs is.are f.attributes r.reach (subst (λ kept. Says IsReach (multiprotocol_of p 14 kept) r.reach) is.kept is.reaches) in
+    let withdrawn = second_withdrawn_read p external is.attributes is.steps is.runs is.are f.attributes r.unreach (subst (λ kept. Says IsUnreach (multiprotocol_of p 15 kept) r.unreach) is.kept is.unreaches) in
+    readable_said true p external bytes r is octets withdraw (hop_by r.reach) (withdrawn_by r.unreach) (announced_by r.reach) u.second announced.1 withdrawn announced.0 by.second
 
 pub read_is_readable : (p : Profile) (external : Bool) (bytes : List ℕ) (u : Update) → AreOctets bytes → Reads p external bytes (messages.Update u) → IsReadableUpdate p external u
 read_is_readable p external bytes u octets reads = readable_by p external bytes reads.0 reads.1 (all_every (λ b. b < 256) bytes octets) reads.0.withdraw u reads.2

@@ -5,7 +5,6 @@ use Rattle.std.specs.List.{list_any, position_or_len}
 use Rattle.std.proofs.lemmas.Bool.{ltb-false, ltb-true, eqb-true, eqb-false, eq-eqb, cases_lt}
 use Rattle.std.proofs.lemmas.List.Sums.{prefix_len-le-length}
 use Rattle.byteorder.specs.Endian.{big_number}
-use Rattle.addr4.specs.Families.{in_front}
 use Rattle.bgp_attr.specs.Attributes.{Attrs}
 use Rattle.bgp_attr.specs.declared.attrs.Origin.{Origin}
 use Rattle.bgp_attr.specs.declared.attrs.Origin.TheVariants.{Igp, Egp, Incomplete}
@@ -19,7 +18,7 @@ use Rattle.bgp_wire.specs.declared.attributes.Verdict.TheVariants.{Keep, Discard
 use Rattle.bgp_wire.specs.declared.notice.Notice.{Notice}
 use Rattle.bgp_wire.specs.Faults.{notice, err_of}
 use Rattle.bgp_wire.specs.Paths.{width_of, IsPath, path_at}
-use Rattle.bgp_wire.specs.Attributes.{Attribute, rule_of, has_wrong_flags, has_wrong_size, milder, value_fault, judge_value, judge_recognized, judge_by, judgement, AreAttributes, kept_by}
+use Rattle.bgp_wire.specs.Attributes.{Attribute, rule_of, has_wrong_flags, has_wrong_size, milder, value_fault, judge_value, judge_recognized, judge_by, judgement, is_revised, AreAttributes, kept_by}
 use Rattle.bgp_wire.specs.Routes.{kept_of, number_of, code_of_origin, aggregator_of, clusters_of, is_unrecognized, AscendsFrom, value_of, AreUnrecognized, AreAttrs}
 use Rattle.bgp_wire.specs.Found.{placed}
 use Rattle.bgp_wire.proofs.TestLemmas.{or_false_left, or_false_right, unequal}
@@ -165,12 +164,9 @@ unrecognized_more p a kept more us unknown new adds are = record {
 abbrev pub IsKept : Profile → Bool → Attribute → Type 0
 IsKept p external a = judge_by p external a (rule_of p external a.kind) ≡ Ok Keep
 
-not_keep : (p : Profile) (mild : Verdict) (n : Notice) → (mild ≡ Keep → ⊥) → milder p mild n ≡ Ok Keep → ⊥
-not_keep p mild n other e = by_test p.revised e
-  where
-    by_test : (b : Bool) → cond b (Ok mild) (Err n) ≡ Ok Keep → ⊥
-    by_test true e = other (same_ok mild Keep e)
-    by_test false e = absurd (not_both n Keep e)
+not_keep : (revised : Bool) (mild : Verdict) (n : Notice) → (mild ≡ Keep → ⊥) → milder revised mild n ≡ Ok Keep → ⊥
+not_keep true mild n other e = other (same_ok mild Keep e)
+not_keep false mild n other e = absurd (not_both n Keep e)
 
 discard_not_keep : Discard ≡ Keep → ⊥
 discard_not_keep e = absurd (cc)
@@ -193,22 +189,23 @@ pub record IsGood (as4 : Bool) (r : TypeRule) (a : Attribute) : Type 0 where
 
 pub recognized_is_good : (p : Profile) (external : Bool) (a : Attribute) (r : TypeRule) → judge_recognized p external a r ≡ Ok Keep → IsGood p.as4 r a
 recognized_is_good p external a r e =
-    let r3 = judge_value p (value_fault p.as4 a) in
-    let r2 = cond (has_wrong_size r.size a.value) (milder p (cond (eqb a.kind 6 || eqb a.kind 7) Discard Withdraw) (notice 3 5 a.octets)) r3 in
-    let r1 = cond (has_wrong_flags r a) (milder p Withdraw (notice 3 4 a.octets)) r2 in
+    let revised = is_revised p a.kind in
+    let r3 = judge_value revised (value_fault p.as4 a) in
+    let r2 = cond (has_wrong_size r.size a.value) (milder revised (cond (eqb a.kind 6 || eqb a.kind 7) Discard Withdraw) (notice 3 5 a.octets)) r3 in
+    let r1 = cond (has_wrong_flags r a) (milder revised Withdraw (notice 3 4 a.octets)) r2 in
     let x = passes (p.revised && (external && eqb a.kind 5)) (Ok Discard) r1 (λ d. discard_not_keep (same_ok Discard Keep d)) e in
-    let y = passes (has_wrong_flags r a) (milder p Withdraw (notice 3 4 a.octets)) r2 (not_keep p Withdraw (notice 3 4 a.octets) withdraw_not_keep) x.1 in
-    let z = passes (has_wrong_size r.size a.value) (milder p (cond (eqb a.kind 6 || eqb a.kind 7) Discard Withdraw) (notice 3 5 a.octets)) r3 (not_keep p (cond (eqb a.kind 6 || eqb a.kind 7) Discard Withdraw) (notice 3 5 a.octets) (mild_not_keep (eqb a.kind 6 || eqb a.kind 7))) y.1 in
+    let y = passes (has_wrong_flags r a) (milder revised Withdraw (notice 3 4 a.octets)) r2 (not_keep revised Withdraw (notice 3 4 a.octets) withdraw_not_keep) x.1 in
+    let z = passes (has_wrong_size r.size a.value) (milder revised (cond (eqb a.kind 6 || eqb a.kind 7) Discard Withdraw) (notice 3 5 a.octets)) r3 (not_keep revised (cond (eqb a.kind 6 || eqb a.kind 7) Discard Withdraw) (notice 3 5 a.octets) (mild_not_keep (eqb a.kind 6 || eqb a.kind 7))) y.1 in
     record { flags = y.0; size = z.0; value = by_fault (value_fault p.as4 a) z.1 }
   where
-    by_fault : (o : Option Notice) → judge_value p o ≡ Ok Keep → o ≡ None
+    by_fault : (o : Option Notice) → judge_value (is_revised p a.kind) o ≡ Ok Keep → o ≡ None
     by_fault None e = refl
-    by_fault (Some n) e = absurd (not_keep p Withdraw n withdraw_not_keep e)
+    by_fault (Some n) e = absurd (not_keep (is_revised p a.kind) Withdraw n withdraw_not_keep e)
 
 -- an attribute that is kept is of a type that hasn't come, and judged by its own
 judged_kept : (p : Profile) (external : Bool) (seen : List ℕ) (a : Attribute) → judgement p external seen a ≡ Ok Keep → (list_any (λ kind. eqb kind a.kind) seen ≡ false) × IsKept p external a
 unfolding judgement
-judged_kept p external seen a e = passes (list_any (λ kind. eqb kind a.kind) seen) (milder p Discard (notice 3 1 [])) (judge_by p external a (rule_of p external a.kind)) (not_keep p Discard (notice 3 1 []) discard_not_keep) e
+judged_kept p external seen a e = passes (list_any (λ kind. eqb kind a.kind) seen) (milder (is_revised p a.kind) Discard (notice 3 1 [])) (judge_by p external a (rule_of p external a.kind)) (not_keep (is_revised p a.kind) Discard (notice 3 1 []) discard_not_keep) e
 
 any_before : (xs ys : List ℕ) (kind : ℕ) → list_any (λ k. eqb k kind) (xs ++ ys) ≡ false → list_any (λ k. eqb k kind) xs ≡ false
 any_before [] ys kind e = refl
@@ -323,18 +320,16 @@ has_kept kind (a ∷ kept) e = by_test (eqb a.kind kind) refl e (λ e. has_kept 
 pub some_and : (o : Option Attribute) (a : Attribute) (P : Attribute → Type 0) → o ≡ Some a → P a → IsSomeAnd o P
 some_and o a P e h = subst (λ o. IsSomeAnd o P) (sym e) h
 
--- ORIGIN, AS_PATH and NEXT_HOP are kept
+-- ORIGIN and AS_PATH are kept
 pub record HasAll (kept : List Attribute) : Type 0 where
   pub origin : list_any (λ a. eqb a.kind 1) kept ≡ true
   pub path : list_any (λ a. eqb a.kind 2) kept ≡ true
-  pub next_hop : list_any (λ a. eqb a.kind 3) kept ≡ true
 
-pub attrs_made : (p : Profile) (external : Bool) (bytes : List ℕ) (steps : List (Attribute × Verdict)) (runs : Bool) → AreAttributes p external [] bytes steps runs → HasAll (kept_by steps runs).0 → (attrs : Attrs) × AreAttrs p external (kept_by steps runs).0 attrs
-attrs_made p external bytes steps runs are has =
+pub attrs_made : (p : Profile) (external : Bool) (bytes : List ℕ) (steps : List (Attribute × Verdict)) (runs : Bool) → AreAttributes p external [] bytes steps runs → HasAll (kept_by steps runs).0 → (hop : Option ℕ) (n : ℕ) → hop ≡ Some n → (attrs : Attrs) × AreAttrs p external (kept_by steps runs).0 hop attrs
+attrs_made p external bytes steps runs are has hop n hop_is =
     let kept = (kept_by steps runs).0 in
     let o = has_kept 1 kept has.origin in
     let s = has_kept 2 kept has.path in
-    let h = has_kept 3 kept has.next_hop in
     let ok = kept_are p external [] bytes steps runs are 1 o.0 o.1 in
     let sk = kept_are p external [] bytes steps runs are 2 s.0 s.1 in
     let og = good_of p external o.0 _ ok.kept (rule_at_1 p external o.0.kind ok.is) in
@@ -345,7 +340,7 @@ attrs_made p external bytes steps runs are has =
       record {
         origin = origin.0;
         path = path.0;
-        next_hop = in_front (big_number 4 h.0.value);
+        next_hop = n;
         med = number_of 4 kept;
         local_pref = cond external None (number_of 5 kept);
         atomic = is_some (kept_of 6 kept);
@@ -356,7 +351,7 @@ attrs_made p external bytes steps runs are has =
       record {
         origin = ap (option_map (λ (a : Attribute). get_or a.value 0 0)) o.1 ∙ ap (λ n. Some n) origin.1;
         path = some_and (kept_of 2 kept) s.0 (λ a. IsPath (width_of p.as4) a.value path.0) s.1 (path_takes (width_of p.as4) s.0.value path.0 path.1);
-        next_hop = ap (option_map (λ (a : Attribute). in_front (big_number 4 a.value))) h.1;
+        next_hop = hop_is;
         med = refl;
         local_pref = refl;
         atomic = refl;
@@ -382,8 +377,8 @@ one_path : (width : ℕ) (o : Option Attribute) (a b : List Segment) → IsSomeA
 one_path width None a b f g = absurd f
 one_path width (Some x) a b f g = same_ok a b (sym (path_again width x.value a f) ∙ path_again width x.value b g)
 
-pub one_attrs : (p : Profile) (external : Bool) (kept : List Attribute) (a b : Attrs) → AreAttrs p external kept a → AreAttrs p external kept b → a ≡ b
-one_attrs p external kept a b f g =
+pub one_attrs : (p : Profile) (external : Bool) (kept : List Attribute) (hop : Option ℕ) (a b : Attrs) → AreAttrs p external kept hop a → AreAttrs p external kept hop b → a ≡ b
+one_attrs p external kept hop a b f g =
     let origin = one_origin a.origin b.origin (some_same _ _ (sym f.origin ∙ g.origin)) in
     let path = one_path (width_of p.as4) (kept_of 2 kept) a.path b.path f.path g.path in
     let next_hop = some_same a.next_hop b.next_hop (sym f.next_hop ∙ g.next_hop) in

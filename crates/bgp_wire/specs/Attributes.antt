@@ -11,7 +11,11 @@ use Rattle.bgp_wire.specs.declared.attributes.Verdict.{Verdict}
 use Rattle.bgp_wire.specs.declared.attributes.Verdict.TheVariants.{Keep, Discard, Withdraw}
 use Rattle.bgp_wire.specs.declared.notice.Notice.{Notice}
 use Rattle.bgp_wire.specs.Faults.{notice, err_of, ◌>>=◌}
+use Rattle.byteorder.specs.Endian.{big_number}
+use Rattle.addr4.specs.Families.{in_front}
+use Rattle.addr4.specs.Hosts.{is_host}
 use Rattle.bgp_wire.specs.Paths.{width_of, path_at}
+use Rattle.bgp_wire.specs.Multiprotocol.{bad_value, reach_at, unreach_at}
 
 -- an attribute as it came: its flags, type and value, and all its octets
 pub record Attribute : Type 0 where
@@ -65,6 +69,10 @@ rule optional transitive size = Some (record { optional = optional; transitive =
 abbrev pub is_reflection : Profile → ℕ → Bool
 is_reflection p kind = p.reflect && (kind == 9 || kind == 10)
 
+-- MP_REACH_NLRI and MP_UNREACH_NLRI, where IPv6 is spoken (RFC 4760, sections 3 and 4)
+abbrev pub is_multiprotocol : Profile → ℕ → Bool
+is_multiprotocol p kind = p.v6 && (kind == 14 || kind == 15)
+
 -- those of a route reflector, from an internal peer alone: what external ones say of them is dropped
 abbrev pub reflection_rule : Profile → Bool → ℕ → Option TypeRule
 reflection_rule p external kind =
@@ -81,11 +89,17 @@ rule_of p external kind =
     else if kind == 5 then rule false true (Fixed 4)
     else if kind == 6 then rule false true (Fixed 0)
     else if kind == 7 then rule true true (Fixed (if p.as4 then 8 else 6))
+    else if is_multiprotocol p kind then rule true false Any
     else reflection_rule p external kind
 
--- a fault, or something milder where errors are handled in the revised manner
-abbrev pub milder : Profile → Verdict → Notice → Result Verdict Notice
-milder p mild n = if p.revised then Ok mild else Err n
+-- whether errors of a type are handled in the revised manner: those of MP_REACH_NLRI and MP_UNREACH_NLRI never are, since what is to be
+-- withdrawn can't be told without these
+abbrev pub is_revised : Profile → ℕ → Bool
+is_revised p kind = p.revised && not (is_multiprotocol p kind)
+
+-- a fault, or something milder in that manner
+abbrev pub milder : Bool → Verdict → Notice → Result Verdict Notice
+milder revised mild n = if revised then Ok mild else Err n
 
 -- AS4_PATH and AS4_AGGREGATOR, which mean nothing among speakers that use four octets (RFC 6793, section 4.1)
 abbrev pub is_old_form : Profile → ℕ → Bool
@@ -97,21 +111,23 @@ judge_unrecognized p a =
     else if is_transitive a && not (is_old_form p a.kind || is_reflection p a.kind) then Ok Keep
     else Ok Discard
 
--- a first octet that no address of a host has
-abbrev pub is_no_host : ℕ → Bool
-is_no_host first = first == 0 || first == 127 || not (nat_lt first 224)
+-- the address that NEXT_HOP is
+abbrev pub hop_at : List ℕ → ℕ
+hop_at value = in_front (big_number 4 value)
 
 -- the fault of a value of the right length, if it has one
 unfoldable pub value_fault : Bool → Attribute → Option Notice
 value_fault as4 a =
     if a.kind == 1 then (if nat_lt 2 (slice_index a.value 0) then Some (notice 3 6 a.octets) else None)
     else if a.kind == 2 then err_of (path_at (width_of as4) a.value)
-    else if a.kind == 3 then (if is_no_host (slice_index a.value 0) then Some (notice 3 8 a.octets) else None)
+    else if a.kind == 3 then (if is_host false (hop_at a.value) then None else Some (notice 3 8 a.octets))
+    else if a.kind == 14 then err_of (reach_at (bad_value a.octets) a.value)
+    else if a.kind == 15 then err_of (unreach_at (bad_value a.octets) a.value)
     else None
 
-abbrev pub judge_value : Profile → Option Notice → Result Verdict Notice
-judge_value p None = Ok Keep
-judge_value p (Some n) = milder p Withdraw n
+abbrev pub judge_value : Bool → Option Notice → Result Verdict Notice
+judge_value revised None = Ok Keep
+judge_value revised (Some n) = milder revised Withdraw n
 
 abbrev pub has_wrong_size : Size → List ℕ → Bool
 has_wrong_size Any value = false
@@ -124,9 +140,9 @@ has_wrong_flags r a = not (beq (is_optional a) r.optional && beq (is_transitive 
 abbrev pub judge_recognized : Profile → Bool → Attribute → TypeRule → Result Verdict Notice
 judge_recognized p external a r =
     if p.revised && (external && a.kind == 5) then Ok Discard
-    else if has_wrong_flags r a then milder p Withdraw (notice 3 4 a.octets)
-    else if has_wrong_size r.size a.value then milder p (if a.kind == 6 || a.kind == 7 then Discard else Withdraw) (notice 3 5 a.octets)
-    else judge_value p (value_fault p.as4 a)
+    else if has_wrong_flags r a then milder (is_revised p a.kind) Withdraw (notice 3 4 a.octets)
+    else if has_wrong_size r.size a.value then milder (is_revised p a.kind) (if a.kind == 6 || a.kind == 7 then Discard else Withdraw) (notice 3 5 a.octets)
+    else judge_value (is_revised p a.kind) (value_fault p.as4 a)
 
 abbrev pub judge_by : Profile → Bool → Attribute → Option TypeRule → Result Verdict Notice
 judge_by p external a None = judge_unrecognized p a
@@ -135,7 +151,7 @@ judge_by p external a (Some r) = judge_recognized p external a r
 -- what becomes of an attribute after those of these types
 unfoldable pub judgement : Profile → Bool → List ℕ → Attribute → Result Verdict Notice
 judgement p external seen a =
-    if list_any (λ kind. kind == a.kind) seen then milder p Discard (notice 3 1 [])
+    if list_any (λ kind. kind == a.kind) seen then milder (is_revised p a.kind) Discard (notice 3 1 [])
     else judge_by p external a (rule_of p external a.kind)
 
 -- attributes, each with what becomes of it; and whether what follows them runs beyond the end, which only the revised manner reads

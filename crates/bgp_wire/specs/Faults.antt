@@ -1,7 +1,7 @@
 -- What is read, or the first fault.
 use Rattle.std.specs.Prelude.{◌≡◌, ℕ, List, Option, Some, None, Result, Ok, Err}
 use Rattle.bgp_wire.specs.declared.notice.FaultKind.{FaultKind}
-use Rattle.bgp_wire.specs.declared.notice.FaultKind.TheVariants.{NotSynchronized, BadMessageLength, BadMessageType, MalformedAttributes, UnrecognizedWellKnown, MissingWellKnown, BadFlags, BadLength, BadOrigin, BadNextHop, BadNetwork, MalformedPath}
+use Rattle.bgp_wire.specs.declared.notice.FaultKind.TheVariants.{NotSynchronized, BadMessageLength, BadMessageType, MalformedAttributes, UnrecognizedWellKnown, MissingWellKnown, BadFlags, BadLength, BadOrigin, BadNextHop, BadOptional, BadNetwork, MalformedPath}
 use Rattle.bgp_wire.specs.declared.notice.Notice.{Notice}
 use Rattle.bgp_wire.specs.declared.notice.Refusal.{Refusal}
 use Rattle.bgp_wire.specs.declared.notice.Refusal.TheVariants as refusals
@@ -18,6 +18,7 @@ code_of BadFlags = 3
 code_of BadLength = 3
 code_of BadOrigin = 3
 code_of BadNextHop = 3
+code_of BadOptional = 3
 code_of BadNetwork = 3
 code_of MalformedPath = 3
 
@@ -32,6 +33,7 @@ subcode_of BadFlags = 4
 subcode_of BadLength = 5
 subcode_of BadOrigin = 6
 subcode_of BadNextHop = 8
+subcode_of BadOptional = 9
 subcode_of BadNetwork = 10
 subcode_of MalformedPath = 11
 

@@ -1,11 +1,14 @@
 -- What is gathered of the attributes, from left to right.
-use Rattle.std.specs.Prelude.{◌≡◌, ℕ, List, [], ◌∷◌, ◌++◌, slice_index, slice_index_or, Option, Some, None, is_some, option_map, option_and_then, Result, Ok, Err, Bool, true, false, nat_lt, ◌==◌, ◌&&◌, not, if◌then◌else◌}
+use Rattle.std.specs.Prelude.{◌≡◌, ℕ, List, [], ◌∷◌, ◌++◌, slice_index, slice_index_or, Option, Some, None, is_some, option_map, option_and_then, Result, Ok, Err, Bool, true, false, nat_lt, ◌==◌, ◌&&◌, not, ⊤, if◌then◌else◌}
 use Rattle.std.specs.List.{list_any}
 use Rattle.std.specs.Result.{result_ok}
 use Rattle.byteorder.specs.Endian.{big_number}
-use Rattle.addr4.specs.Families.{in_front}
+use Rattle.bgp_wire.specs.declared.multiprotocol.Reach.{Reach}
+use Rattle.bgp_wire.specs.Said.{Said}
+use Rattle.bgp_wire.specs.Multiprotocol.{announced_by, hop_by, withdrawn_by}
 use Rattle.addr4.specs.Prefixes.{AddressPrefix}
 use Rattle.bgp_attr.specs.Attributes.{Attrs}
+use Rattle.bgp_attr.specs.declared.attrs.Attrs as declared
 use Rattle.bgp_attr.specs.declared.attrs.Origin.{Origin}
 use Rattle.bgp_attr.specs.declared.attrs.Origin.TheVariants.{Igp, Egp, Incomplete}
 use Rattle.bgp_attr.specs.declared.path.Segment.{Segment}
@@ -14,16 +17,16 @@ use Rattle.bgp_attr.specs.declared.unrecognized.Unrecognized.{Unrecognized}
 use Rattle.bgp_wire.specs.declared.attributes.Verdict.{Verdict}
 use Rattle.bgp_wire.specs.declared.attributes.Verdict.TheVariants.{Keep, Discard, Withdraw}
 use Rattle.bgp_wire.specs.declared.found.Found.{Found}
-use Rattle.bgp_wire.specs.declared.found.Gathered.{Gathered}
-use Rattle.bgp_wire.specs.declared.found.TypeSet.{TypeSet}
+use Rattle.bgp_wire.specs.declared.gathered.Gathered.{Gathered}
+use Rattle.bgp_wire.specs.declared.types.TypeSet.{TypeSet}
 use Rattle.bgp_wire.specs.declared.message.Update.{Update}
 use Rattle.bgp_wire.specs.declared.notice.Notice.{Notice}
 use Rattle.bgp_wire.specs.declared.notice.Refusal.{Refusal}
 use Rattle.bgp_wire.specs.Faults.{Fails}
 use Rattle.bgp_wire.specs.Paths.{width_of, path_at}
-use Rattle.bgp_wire.specs.Attributes.{Attribute, Kept, judgement, attributes_at}
+use Rattle.bgp_wire.specs.Attributes.{Attribute, Kept, hop_at, judgement, attributes_at}
 use Rattle.bgp_wire.specs.Routes.{kept_of, number_of, hop_of, aggregator_of, clusters_at, clusters_of, is_unrecognized, AreUnrecognized}
-use Rattle.bgp_wire.specs.Updates.{lack}
+use Rattle.bgp_wire.specs.Updates.{lack, reach_of, unreach_of, reach_in, unreach_in}
 use Rattle.bgp_wire.specs.Grammar.{without}
 
 -- an attribute among those of ascending type
@@ -39,13 +42,15 @@ unfoldable pub found_with : Profile → Attribute → Found → Found
 found_with p a found = record {
   origin = if a.kind == 1 then Some (origin_of (slice_index a.value 0)) else found.origin;
   path = if a.kind == 2 then result_ok (path_at (width_of p.as4) a.value) else found.path;
-  next_hop = if a.kind == 3 then Some (in_front (big_number 4 a.value)) else found.next_hop;
+  next_hop = if a.kind == 3 then Some (hop_at a.value) else found.next_hop;
   med = if a.kind == 4 then Some (big_number 4 a.value) else found.med;
   local_pref = if a.kind == 5 then Some (big_number 4 a.value) else found.local_pref;
   atomic = if a.kind == 6 then true else found.atomic;
   aggregator = if a.kind == 7 then Some (aggregator_of p.as4 a) else found.aggregator;
   originator = if p.reflect && a.kind == 9 then Some (big_number 4 a.value) else found.originator;
   clusters = if p.reflect && a.kind == 10 then clusters_at a.value else found.clusters;
+  reach = if p.v6 && a.kind == 14 then reach_of a else found.reach;
+  unreach = if p.v6 && a.kind == 15 then unreach_of a else found.unreach;
   unrecognized = if is_unrecognized p a.kind then placed (record { kind = a.kind; value = a.value }) found.unrecognized else found.unrecognized;
 }
 
@@ -76,6 +81,8 @@ pub record Gathers (p : Profile) (kept : List Attribute) (found : Found) : Type 
   pub aggregator : found.aggregator ≡ option_map (aggregator_of p.as4) (kept_of 7 kept)
   pub originator : found.originator ≡ (if p.reflect then number_of 9 kept else None)
   pub clusters : found.clusters ≡ (if p.reflect then clusters_of (kept_of 10 kept) else [])
+  pub reach : found.reach ≡ reach_in p kept
+  pub unreach : found.unreach ≡ unreach_in p kept
   pub unrecognized : AreUnrecognized p kept found.unrecognized
 
 -- whether a type has come
@@ -108,19 +115,35 @@ abbrev pub IsGatheredTo : Profile → Bool → List ℕ → Result Gathered Refu
 IsGatheredTo p external bytes (Ok g) = (kept : Kept) × (attributes_at p external [] bytes ≡ Ok kept) × Gathers p kept.0 g.found × (g.withdraw ≡ kept.1)
 IsGatheredTo p external bytes (Err e) = Fails e (attributes_at p external [] bytes)
 
--- the lowest of ORIGIN, AS_PATH and NEXT_HOP that wasn't found
-abbrev pub missing_from : Found → Option ℕ
-missing_from found =
+-- the lowest of ORIGIN, AS_PATH and, where prefixes of IPv4 are announced, NEXT_HOP that wasn't found
+abbrev pub missing_from : Bool → Found → Option ℕ
+missing_from ipv4 found =
     if not (is_some found.origin) then Some 1
     else if not (is_some found.path) then Some 2
-    else if not (is_some found.next_hop) then Some 3
+    else if ipv4 && not (is_some found.next_hop) then Some 3
     else None
 
-abbrev pub lacks_from : Profile → List AddressPrefix → Found → Result Bool Notice
-lacks_from p [] found = Ok false
-lacks_from p (n ∷ ns) found = lack p (missing_from found)
+abbrev pub lacks_from : Profile → List AddressPrefix → List AddressPrefix → Found → Result Bool Notice
+lacks_from p [] [] found = Ok false
+lacks_from p [] (m ∷ ms) found = lack p (missing_from false found)
+lacks_from p (n ∷ ns) ms found = lack p (missing_from true found)
 
--- the attributes of a route, where ORIGIN, AS_PATH and NEXT_HOP were found
+-- attributes without a next hop, with one, if both are there
+abbrev pub joined : Option (declared.Attrs ⊤) → Option ℕ → Option Attrs
+joined (Some a) (Some next_hop) = Some (record {
+  origin = a.origin;
+  path = a.path;
+  next_hop = next_hop;
+  med = a.med;
+  local_pref = a.local_pref;
+  atomic = a.atomic;
+  aggregator = a.aggregator;
+  reflection = a.reflection;
+  unrecognized = a.unrecognized;
+})
+joined a next_hop = None
+
+-- the attributes of one family's routes, where ORIGIN, AS_PATH and their next hop were found
 abbrev pub attrs_by : Bool → Found → Option Origin → Option (List Segment) → Option ℕ → Option Attrs
 attrs_by external found (Some origin) (Some path) (Some next_hop) = Some (record {
   origin = origin;
@@ -135,14 +158,21 @@ attrs_by external found (Some origin) (Some path) (Some next_hop) = Some (record
 })
 attrs_by external found origin path next_hop = None
 
-abbrev pub attrs_from : Bool → Found → Option Attrs
-attrs_from external found = attrs_by external found found.origin found.path found.next_hop
+abbrev pub attrs_from : Bool → Found → Option ℕ → Option Attrs
+attrs_from external found hop = attrs_by external found found.origin found.path hop
 
-abbrev pub attrs_for : Bool → Found → List AddressPrefix → Option Attrs
-attrs_for external found [] = None
-attrs_for external found (n ∷ ns) = attrs_from external found
+abbrev pub attrs_for : Bool → Found → Option ℕ → List AddressPrefix → Option Attrs
+attrs_for external found hop [] = None
+attrs_for external found hop (n ∷ ns) = attrs_from external found hop
 
--- the UPDATE of these prefixes and of what was found
+-- what is said of one family's prefixes, by what was found
+abbrev pub said_by : Bool → Bool → Found → Option ℕ → List AddressPrefix → List AddressPrefix → Said
+said_by external true found hop withdrawn announced = record { withdrawn = without announced withdrawn ++ announced; announced = []; attrs = None }
+said_by external false found hop withdrawn announced = record { withdrawn = withdrawn; announced = announced; attrs = attrs_for external found hop announced }
+
+-- the UPDATE of IPv4's prefixes and of what was found
 abbrev pub update_of : Bool → Bool → List AddressPrefix → List AddressPrefix → Found → Update
-update_of external true withdrawn announced found = record { withdrawn = without announced withdrawn ++ announced; announced = []; attrs = None }
-update_of external false withdrawn announced found = record { withdrawn = withdrawn; announced = announced; attrs = attrs_for external found announced }
+update_of external withdraw withdrawn announced found = record {
+  first = said_by external withdraw found found.next_hop withdrawn announced;
+  second = said_by external withdraw found (hop_by found.reach) (withdrawn_by found.unreach) (announced_by found.reach);
+}

@@ -1,5 +1,5 @@
 -- What messages are, by cases on their octets (RFC 4271, section 4; RFC 2918, section 3).
-use Rattle.std.specs.Prelude.{◌≡◌, ◌⊎◌, ℕ, ◌+◌, ◌*◌, ◌≤◌, ◌==◌, ◌&&◌, ◌||◌, List, [], ◌∷◌, ◌++◌, length, replicate, filter, Option, Some, None, Result, Ok, Err, Bool, true, false, not}
+use Rattle.std.specs.Prelude.{◌≡◌, ◌⊎◌, ℕ, if◌then◌else◌, ◌+◌, ◌*◌, ◌≤◌, ◌==◌, ◌&&◌, ◌||◌, List, [], ◌∷◌, ◌++◌, length, replicate, filter, Option, Some, None, Result, Ok, Err, Bool, true, false, not}
 use Rattle.std.specs.List.{list_any}
 use Rattle.addr4.specs.Prefixes.{AddressPrefix, same_prefix}
 use Rattle.bgp_attr.specs.Attributes.{Attrs}
@@ -13,8 +13,10 @@ use Rattle.bgp_wire.specs.declared.message.Message.TheVariants as messages
 use Rattle.bgp_wire.specs.declared.attributes.Verdict.{Verdict}
 use Rattle.bgp_wire.specs.Faults.{Fails}
 use Rattle.bgp_wire.specs.Prefixes.{ArePrefixes}
+use Rattle.bgp_wire.specs.Said.{Said}
+use Rattle.bgp_wire.specs.Multiprotocol.{IsReach, IsUnreach, announced_by, hop_by, withdrawn_by}
 use Rattle.bgp_wire.specs.Attributes.{Attribute, AreAttributes, kept_by}
-use Rattle.bgp_wire.specs.Routes.{AreAttrs}
+use Rattle.bgp_wire.specs.Routes.{hop_of, multiprotocol_of, Says, AreAttrs}
 use Rattle.bgp_wire.specs.Updates.{Reading, Content, update, keepalive, notification, opening, refresh, lacks, fault}
 
 -- a marker of ones, the length of the whole, a type, and a body
@@ -37,14 +39,16 @@ pub record IsReading (p : Profile) (external : Bool) (bytes : List ℕ) (r : Rea
   pub frame : IsFrame bytes 2 (first_high ∷ first_low ∷ (withdrawn ++ (second_high ∷ second_low ∷ (attributes ++ announced))))
   pub withdrawn_size : first_high * 256 + first_low ≡ length withdrawn
   pub attributes_size : second_high * 256 + second_low ≡ length attributes
-  pub withdraws : ArePrefixes withdrawn r.withdrawn
-  pub announces : ArePrefixes announced r.announced
+  pub withdraws : ArePrefixes false withdrawn r.withdrawn
+  pub announces : ArePrefixes false announced r.announced
+  pub reaches : Says IsReach (multiprotocol_of p 14 r.kept) r.reach
+  pub unreaches : Says IsUnreach (multiprotocol_of p 15 r.kept) r.unreach
   pub steps : List (Attribute × Verdict)
   pub runs : Bool
   pub lacking : Bool
   pub are : AreAttributes p external [] attributes steps runs
   pub kept : r.kept ≡ (kept_by steps runs).0
-  pub complete : lacks p r.announced r.kept ≡ Ok lacking
+  pub complete : lacks p r.announced (announced_by r.reach) r.kept ≡ Ok lacking
   pub withdraw : r.withdraw ≡ ((kept_by steps runs).1 || lacking)
 
 -- the four octets of a ROUTE-REFRESH: the address family, a reserved octet, which may be any, and the subsequent address family
@@ -56,9 +60,9 @@ pub record IsRefresh (bytes : List ℕ) (r : RouteRefresh) : Type 0 where
   pub frame : IsFrame bytes 5 (high ∷ low ∷ reserved ∷ r.safi ∷ [])
   pub afi : high * 256 + low ≡ r.afi
 
--- whether it asks for the routes that are spoken here, those of IPv4 unicast; one that asks for others is ignored (RFC 2918, section 4)
-abbrev pub is_served : RouteRefresh → Bool
-is_served r = r.afi == 1 && r.safi == 1
+-- whether it asks for the routes of a family that is spoken here, unicast ones; one that asks for others is ignored (RFC 2918, section 4)
+abbrev pub is_served : Bool → RouteRefresh → Bool
+is_served v6 r = r.afi == (if v6 then 2 else 1) && r.safi == 1
 
 -- what the octets hold, by cases on the whole
 abbrev pub Holds : Profile → Bool → List ℕ → Content → Type 0
@@ -73,25 +77,31 @@ abbrev pub without : List AddressPrefix → List AddressPrefix → List AddressP
 without others ps = filter (λ p. not (list_any (λ other. same_prefix other p) others)) ps
 
 -- attributes are there exactly where a prefix is announced
-abbrev pub AreAttrsFor : Profile → Bool → List Attribute → List AddressPrefix → Option Attrs → Type 0
-AreAttrsFor p external kept [] attrs = attrs ≡ None
-AreAttrsFor p external kept (n ∷ ns) None = ⊥
-AreAttrsFor p external kept (n ∷ ns) (Some attrs) = AreAttrs p external kept attrs
+abbrev pub AreAttrsFor : Profile → Bool → List Attribute → Option ℕ → List AddressPrefix → Option Attrs → Type 0
+AreAttrsFor p external kept hop [] attrs = attrs ≡ None
+AreAttrsFor p external kept hop (n ∷ ns) None = ⊥
+AreAttrsFor p external kept hop (n ∷ ns) (Some attrs) = AreAttrs p external kept hop attrs
 
--- an UPDATE by what it holds. One that is a withdraw announces nothing, and all its prefixes are withdrawn (RFC 7606, section 2)
-pub record IsWithdraw (r : Reading) (u : Update) : Type 0 where
-  pub withdrawn : u.withdrawn ≡ without r.announced r.withdrawn ++ r.announced
-  pub announced : u.announced ≡ []
-  pub attrs : u.attrs ≡ None
+-- What an UPDATE says of one family, whose prefixes it withdraws and announces. One that is a withdraw announces nothing, and all its
+-- prefixes are withdrawn (RFC 7606, section 2)
+pub record IsWithdraw (ws ns : List AddressPrefix) (s : Said) : Type 0 where
+  pub withdrawn : s.withdrawn ≡ without ns ws ++ ns
+  pub announced : s.announced ≡ []
+  pub attrs : s.attrs ≡ None
 
-pub record IsPlain (p : Profile) (external : Bool) (r : Reading) (u : Update) : Type 0 where
-  pub withdrawn : u.withdrawn ≡ r.withdrawn
-  pub announced : u.announced ≡ r.announced
-  pub attrs : AreAttrsFor p external r.kept r.announced u.attrs
+pub record IsPlain (p : Profile) (external : Bool) (kept : List Attribute) (hop : Option ℕ) (ws ns : List AddressPrefix) (s : Said) : Type 0 where
+  pub withdrawn : s.withdrawn ≡ ws
+  pub announced : s.announced ≡ ns
+  pub attrs : AreAttrsFor p external kept hop ns s.attrs
 
-abbrev pub IsUpdateBy : Profile → Bool → Reading → Bool → Update → Type 0
-IsUpdateBy p external r true u = IsWithdraw r u
-IsUpdateBy p external r false u = IsPlain p external r u
+abbrev pub IsSaidBy : Profile → Bool → List Attribute → Bool → Option ℕ → List AddressPrefix → List AddressPrefix → Said → Type 0
+IsSaidBy p external kept true hop withdrawn announced s = IsWithdraw withdrawn announced s
+IsSaidBy p external kept false hop withdrawn announced s = IsPlain p external kept hop withdrawn announced s
+
+-- an UPDATE by what it holds: of both families, with one set of attributes but for the next hop
+pub record IsUpdateBy (p : Profile) (external : Bool) (r : Reading) (withdraw : Bool) (u : Update) : Type 0 where
+  pub first : IsSaidBy p external r.kept withdraw (hop_of r.kept) r.withdrawn r.announced u.first
+  pub second : IsSaidBy p external r.kept withdraw (hop_by r.reach) (withdrawn_by r.unreach) (announced_by r.reach) u.second
 
 -- an UPDATE was read, or its first fault
 abbrev pub GivesUpdate : Profile → Bool → Result Update Refusal → Result Reading Notice → Type 0

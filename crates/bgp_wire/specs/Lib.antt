@@ -1,6 +1,8 @@
 pub mod Faults
 pub mod Items
 pub mod Prefixes
+pub mod Said
+pub mod Multiprotocol
 pub mod Paths
 pub mod Attributes
 pub mod Routes

@@ -1,5 +1,5 @@
 -- The octets that are sent: of all that read alike, one spelling (RFC 4271, sections 4.1, 4.3, 4.5 and 5).
-use Rattle.std.specs.Prelude.{◌≡◌, ℕ, ◌+◌, ◌≤◌, ◌<◌, List, [], ◌∷◌, ◌++◌, length, take, map, filter, replicate, All, Option, Some, None, Bool, true, false, nat_lt, ◌==◌, not, ◌||◌, if◌then◌else◌, ◌/◌, ◌^◌}
+use Rattle.std.specs.Prelude.{◌≡◌, ℕ, ◌+◌, ◌≤◌, ◌<◌, List, [], ◌∷◌, ◌++◌, length, take, map, filter, replicate, All, Option, Some, None, Bool, true, false, nat_lt, ◌==◌, not, ◌||◌, ◌&&◌, if◌then◌else◌, ◌/◌, ◌^◌}
 use Rattle.std.specs.List.{flat_map}
 use Rattle.std.specs.Option.{ForSome}
 use Rattle.byteorder.specs.Endian.{big_bytes}
@@ -10,16 +10,16 @@ use Rattle.bgp_attr.specs.declared.path.Segment.{Segment}
 use Rattle.bgp_attr.specs.declared.unrecognized.Unrecognized.{Unrecognized}
 use Rattle.bgp_attr.specs.Reflections.{Reflected}
 use Rattle.bgp_wire.specs.declared.writing.attributes.Place.{Place}
-use Rattle.bgp_wire.specs.declared.writing.attributes.Place.TheVariants.{First, Middle, Last}
-use Rattle.bgp_wire.specs.declared.message.Update.{Update}
+use Rattle.bgp_wire.specs.declared.writing.attributes.Place.TheVariants.{First, Middle, Inner, Last}
+use Rattle.bgp_wire.specs.Said.{Said}
 use Rattle.bgp_wire.specs.Prefixes.{octets_for}
 use Rattle.bgp_wire.specs.Paths.{width_of, code_of}
 use Rattle.bgp_wire.specs.Attributes.{Attribute}
 use Rattle.bgp_wire.specs.Routes.{code_of_origin}
 
--- a length in bits, and the fewest octets that hold so many
+-- a length in bits, and the fewest octets that hold so many: of 16, whatever the family
 abbrev pub prefix_octets : AddressPrefix → List ℕ
-prefix_octets p = p.length ∷ take (octets_for p.length) (big_bytes 4 (p.address / 2 ^ 96))
+prefix_octets p = p.length ∷ take (octets_for p.length) (big_bytes 16 p.address)
 
 -- a type, a count, and the AS numbers
 abbrev pub segment_octets : ℕ → Segment → List ℕ
@@ -58,11 +58,12 @@ aggregator_value as4 g = big_bytes (width_of as4) g.asn ++ big_bytes 4 g.addr
 abbrev pub aggregator_flags : Bool → ℕ
 aggregator_flags partial = if partial then 224 else 192
 
--- whether a type stands in this place: before ORIGIN, between AGGREGATOR and ORIGINATOR_ID, or behind both
+-- whether a type stands in this place: before ORIGIN, between AGGREGATOR and ORIGINATOR_ID, before MP_REACH_NLRI, or behind that
 abbrev pub stands_in : Place → ℕ → Bool
 stands_in First kind = kind == 0
 stands_in Middle kind = kind == 8
-stands_in Last kind = not (kind == 0 || kind == 8)
+stands_in Inner kind = not (kind == 0 || kind == 8) && nat_lt kind 14
+stands_in Last kind = not (kind == 0 || kind == 8) && not (nat_lt kind 14)
 
 -- an unrecognized one: it has passed a speaker that doesn't recognize it, so it is partial
 abbrev pub unrecognized_attribute : Unrecognized → Attribute
@@ -81,10 +82,31 @@ clusters_attributes (c ∷ cs) = spelled 128 10 (flat_map (big_bytes 4) (c ∷ c
 abbrev pub reflection_attributes : Reflected → List Attribute
 reflection_attributes r = optional (λ n. spelled 128 9 (big_bytes 4 n)) r.originator ++ clusters_attributes r.clusters
 
--- ORIGIN, AS_PATH and NEXT_HOP
-abbrev pub mandatory_attributes : Bool → Attrs → List Attribute
-mandatory_attributes as4 a =
-    spelled 64 1 (code_of_origin a.origin ∷ []) ∷ spelled 64 2 (path_octets (width_of as4) a.path) ∷ spelled 64 3 (big_bytes 4 (a.next_hop / 2 ^ 96)) ∷ []
+-- one prefix, if it is there
+abbrev pub listed : Option AddressPrefix → List AddressPrefix
+listed None = []
+listed (Some p) = p ∷ []
+
+abbrev pub prefixes_octets : List AddressPrefix → List ℕ
+prefixes_octets ps = flat_map prefix_octets ps
+
+-- NEXT_HOP, for prefixes of IPv4
+abbrev pub hop_attributes : Bool → ℕ → List Attribute
+hop_attributes false next_hop = spelled 64 3 (big_bytes 4 (next_hop / 2 ^ 96)) ∷ []
+hop_attributes true next_hop = []
+
+-- MP_REACH_NLRI, for prefixes of IPv6: their families, a next hop of 16 octets behind its length, a reserved octet, and the prefixes
+-- (RFC 4760, section 3)
+abbrev pub reach_value : ℕ → List AddressPrefix → List ℕ
+reach_value next_hop ps = 0 ∷ 2 ∷ 1 ∷ 16 ∷ (big_bytes 16 next_hop ++ 0 ∷ prefixes_octets ps)
+
+abbrev pub reach_attributes : Bool → ℕ → List AddressPrefix → List Attribute
+reach_attributes false next_hop ps = []
+reach_attributes true next_hop ps = spelled 128 14 (reach_value next_hop ps) ∷ []
+
+-- ORIGIN, AS_PATH and, for prefixes of IPv4, NEXT_HOP
+abbrev pub mandatory_attributes : Bool → Bool → Attrs → List Attribute
+mandatory_attributes v6 as4 a = spelled 64 1 (code_of_origin a.origin ∷ []) ∷ spelled 64 2 (path_octets (width_of as4) a.path) ∷ hop_attributes v6 a.next_hop
 
 -- MULTI_EXIT_DISC, LOCAL_PREF, ATOMIC_AGGREGATE and AGGREGATOR, if they are there
 abbrev pub further_attributes : Bool → Attrs → List Attribute
@@ -94,14 +116,21 @@ further_attributes as4 a =
     ++ (if a.atomic then spelled 64 6 [] ∷ [] else [])
     ++ optional (λ g. spelled (aggregator_flags g.partial) 7 (aggregator_value as4 g)) a.aggregator
 
--- all by ascending type
-abbrev pub sent_attributes : Bool → Attrs → List Attribute
-sent_attributes as4 a =
+-- those up to CLUSTER_LIST, by ascending type
+abbrev pub leading_attributes : Bool → Bool → Attrs → List Attribute
+leading_attributes v6 as4 a =
     unrecognized_attributes First a.unrecognized
-    ++ mandatory_attributes as4 a
+    ++ mandatory_attributes v6 as4 a
     ++ further_attributes as4 a
     ++ unrecognized_attributes Middle a.unrecognized
     ++ reflection_attributes a.reflection
+
+-- all by ascending type, of prefixes of a family
+abbrev pub sent_attributes : Bool → Bool → Attrs → List AddressPrefix → List Attribute
+sent_attributes v6 as4 a ps =
+    leading_attributes v6 as4 a
+    ++ unrecognized_attributes Inner a.unrecognized
+    ++ reach_attributes v6 a.next_hop ps
     ++ unrecognized_attributes Last a.unrecognized
 
 abbrev pub octets_of : List Attribute → List ℕ
@@ -117,15 +146,28 @@ framed kind body = replicate 16 255 ++ big_bytes 2 (19 + length body) ++ kind �
 abbrev pub fields_octets : List ℕ → List ℕ → List ℕ → List ℕ
 fields_octets withdrawn attributes announced = big_bytes 2 (length withdrawn) ++ withdrawn ++ big_bytes 2 (length attributes) ++ attributes ++ announced
 
-abbrev pub attrs_octets : Bool → Option Attrs → List ℕ
-attrs_octets as4 None = []
-attrs_octets as4 (Some a) = octets_of (sent_attributes as4 a)
+abbrev pub attrs_octets : Bool → Bool → Option Attrs → List AddressPrefix → List ℕ
+attrs_octets v6 as4 None ps = []
+attrs_octets v6 as4 (Some a) ps = octets_of (sent_attributes v6 as4 a ps)
 
-abbrev pub prefixes_octets : List AddressPrefix → List ℕ
-prefixes_octets ps = flat_map prefix_octets ps
+-- MP_UNREACH_NLRI, where prefixes of IPv6 are withdrawn: their families, and the prefixes (RFC 4760, section 4)
+abbrev pub unreach_value : List AddressPrefix → List ℕ
+unreach_value ps = 0 ∷ 2 ∷ 1 ∷ prefixes_octets ps
 
-abbrev pub update_octets : Bool → Update → List ℕ
-update_octets as4 u = framed 2 (fields_octets (prefixes_octets u.withdrawn) (attrs_octets as4 u.attrs) (prefixes_octets u.announced))
+abbrev pub unreach_octets : Bool → List AddressPrefix → List ℕ
+unreach_octets false ps = []
+unreach_octets true [] = []
+unreach_octets true (p ∷ ps) = (spelled 128 15 (unreach_value (p ∷ ps))).octets
+
+-- prefixes of IPv4 stand in fields of their own
+abbrev pub own_octets : Bool → List AddressPrefix → List ℕ
+own_octets false ps = prefixes_octets ps
+own_octets true ps = []
+
+-- An UPDATE of one family's prefixes. IPv4's have fields of their own, IPv6's stand in attributes: those that are announced in MP_REACH_NLRI
+-- among the others, those that are withdrawn in MP_UNREACH_NLRI
+abbrev pub update_octets : Bool → Bool → Said → List ℕ
+update_octets v6 as4 s = framed 2 (fields_octets (own_octets v6 s.withdrawn) (unreach_octets v6 s.withdrawn ++ attrs_octets v6 as4 s.attrs s.announced) (own_octets v6 s.announced))
 
 abbrev pub notification_octets : ℕ → ℕ → List ℕ → List ℕ
 notification_octets code subcode octets = framed 3 (code ∷ subcode ∷ octets)

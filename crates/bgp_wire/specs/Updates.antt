@@ -1,5 +1,5 @@
 -- Whole messages, with the first fault (RFC 4271, sections 4.1, 4.3, 6.1 and 6.3; RFC 2918, section 3).
-use Rattle.std.specs.Prelude.{ℕ, ◌+◌, ◌*◌, List, [], ◌∷◌, length, take, drop, slice_index, Option, Some, None, Result, Ok, Err, Bool, true, false, nat_lt, ◌==◌, ◌||◌, not, if◌then◌else◌}
+use Rattle.std.specs.Prelude.{ℕ, ◌+◌, ◌*◌, ◌&&◌, option_and_then, List, [], ◌∷◌, length, take, drop, slice_index, Option, Some, None, Result, Ok, Err, Bool, true, false, nat_lt, ◌==◌, ◌||◌, not, if◌then◌else◌}
 use Rattle.std.specs.List.{list_any, list_all}
 use Rattle.addr4.specs.Prefixes.{AddressPrefix}
 use Rattle.bgp_attr.specs.declared.speaker.Profile.{Profile}
@@ -7,8 +7,12 @@ use Rattle.bgp_wire.specs.declared.header.UpdateFields.{UpdateFields}
 use Rattle.bgp_wire.specs.declared.message.RouteRefresh.{RouteRefresh}
 use Rattle.bgp_wire.specs.declared.notice.Notice.{Notice}
 use Rattle.bgp_wire.specs.Faults.{notice, err_of, ◌>>=◌}
+use Rattle.std.specs.Result.{result_ok}
+use Rattle.bgp_wire.specs.declared.multiprotocol.Reach.{Reach}
 use Rattle.bgp_wire.specs.Prefixes.{prefixes_at}
+use Rattle.bgp_wire.specs.Multiprotocol.{bad_value, reach_at, unreach_at, announced_by}
 use Rattle.bgp_wire.specs.Attributes.{Attribute, attributes_at}
+use Rattle.bgp_wire.specs.Routes.{multiprotocol_of}
 
 -- two octets as a number
 abbrev pub number_at : List ℕ → ℕ → ℕ
@@ -61,18 +65,34 @@ fields_at bytes =
 abbrev pub has_kind : ℕ → List Attribute → Bool
 has_kind kind kept = list_any (λ a. a.kind == kind) kept
 
--- the lowest type that an announcement lacks: ORIGIN, AS_PATH or NEXT_HOP
-abbrev pub missing : List Attribute → Option ℕ
-missing kept =
+-- what a kept attribute of these types says
+abbrev pub reach_of : Attribute → Option Reach
+reach_of a = option_and_then (λ r. r) (result_ok (reach_at (bad_value a.octets) a.value))
+
+abbrev pub unreach_of : Attribute → Option (List AddressPrefix)
+unreach_of a = option_and_then (λ ps. ps) (result_ok (unreach_at (bad_value a.octets) a.value))
+
+abbrev pub reach_in : Profile → List Attribute → Option Reach
+reach_in p kept = option_and_then reach_of (multiprotocol_of p 14 kept)
+
+abbrev pub unreach_in : Profile → List Attribute → Option (List AddressPrefix)
+unreach_in p kept = option_and_then unreach_of (multiprotocol_of p 15 kept)
+
+-- the lowest type that an announcement lacks: ORIGIN or AS_PATH, or, where prefixes of IPv4 are announced, NEXT_HOP
+abbrev pub missing : Bool → List Attribute → Option ℕ
+missing ipv4 kept =
     if not (has_kind 1 kept) then Some 1
     else if not (has_kind 2 kept) then Some 2
-    else if not (has_kind 3 kept) then Some 3
+    else if ipv4 && not (has_kind 3 kept) then Some 3
     else None
 
--- what an UPDATE holds: its prefixes, the attributes that are kept, and whether it is a withdraw
+-- what an UPDATE holds: the prefixes of IPv4 in its own fields, those of IPv6 in MP_REACH_NLRI and MP_UNREACH_NLRI, the attributes that are
+-- kept, and whether it is a withdraw
 pub record Reading : Type 0 where
   pub withdrawn : List AddressPrefix
   pub announced : List AddressPrefix
+  pub reach : Option Reach
+  pub unreach : Option (List AddressPrefix)
   pub kept : List Attribute
   pub withdraw : Bool
 
@@ -80,18 +100,30 @@ abbrev pub lack : Profile → Option ℕ → Result Bool Notice
 lack p None = Ok false
 lack p (Some kind) = if p.revised then Ok true else Err (notice 3 3 (kind ∷ []))
 
-abbrev pub lacks : Profile → List AddressPrefix → List Attribute → Result Bool Notice
-lacks p [] kept = Ok false
-lacks p (n ∷ ns) kept = lack p (missing kept)
+-- by the prefixes of IPv4 and of IPv6 that are announced
+abbrev pub lacks : Profile → List AddressPrefix → List AddressPrefix → List Attribute → Result Bool Notice
+lacks p [] [] kept = Ok false
+lacks p [] (m ∷ ms) kept = lack p (missing false kept)
+lacks p (n ∷ ns) ms kept = lack p (missing true kept)
+
+abbrev pub bad_prefix : Notice
+bad_prefix = notice 3 10 []
 
 unfoldable pub reading_at : Profile → Bool → List ℕ → Result Reading Notice
 reading_at p external bytes = do
   fields ← fields_at bytes
-  withdrawn ← prefixes_at fields.withdrawn
+  withdrawn ← prefixes_at false bad_prefix fields.withdrawn
   kept ← attributes_at p external [] fields.attributes
-  announced ← prefixes_at fields.announced
-  lacking ← lacks p announced kept.0
-  Ok (record { withdrawn = withdrawn; announced = announced; kept = kept.0; withdraw = kept.1 || lacking })
+  announced ← prefixes_at false bad_prefix fields.announced
+  lacking ← lacks p announced (announced_by (reach_in p kept.0)) kept.0
+  Ok (record {
+    withdrawn = withdrawn;
+    announced = announced;
+    reach = reach_in p kept.0;
+    unreach = unreach_in p kept.0;
+    kept = kept.0;
+    withdraw = kept.1 || lacking;
+  })
 
 -- what a ROUTE-REFRESH asks for: the family behind the header, and behind it and the reserved octet that of its routes
 abbrev pub refresh_at : List ℕ → RouteRefresh

@@ -2,7 +2,7 @@
 
 ghost use Rattle.std.specs.Prelude.{◌≡◌, ◌^◌, ◌<◌, IfSome, option_map, slice_index};
 ghost use Rattle.bgp_wire.specs.Faults.{Gives, notice, code_of, subcode_of};
-ghost use Rattle.bgp_wire.specs.Attributes.{attribute_of, has_wrong_flags, has_wrong_size, is_old_form, judge_unrecognized, is_no_host, attribute_at, milder, rule, is_reflection, reflection_rule, rule_of, size_at};
+ghost use Rattle.bgp_wire.specs.Attributes.{attribute_of, has_wrong_flags, has_wrong_size, is_old_form, judge_unrecognized, attribute_at, milder, rule, is_reflection, is_multiprotocol, is_revised, reflection_rule, rule_of, size_at};
 
 use crate::notice::{FaultKind, Refusal, refused};
 use bgp_attr::Profile;
@@ -25,6 +25,10 @@ pub(crate) const AGGREGATOR: u8 = 7;
 pub(crate) const ORIGINATOR_ID: u8 = 9;
 
 pub(crate) const CLUSTER_LIST: u8 = 10;
+
+pub(crate) const MP_REACH_NLRI: u8 = 14;
+
+pub(crate) const MP_UNREACH_NLRI: u8 = 15;
 
 const AS4_PATH: u8 = 17;
 
@@ -151,6 +155,20 @@ fn is_reflection(profile: Profile, kind: u8) -> bool
     profile.reflect && (kind == ORIGINATOR_ID || kind == CLUSTER_LIST)
 }
 
+/// MP_REACH_NLRI and MP_UNREACH_NLRI, where IPv6 is spoken (RFC 4760, sections 3 and 4).
+pub(crate) fn is_multiprotocol(profile: Profile, kind: u8) -> bool
+    ensures { result ≡ is_multiprotocol profile kind }
+{
+    profile.v6 && (kind == MP_REACH_NLRI || kind == MP_UNREACH_NLRI)
+}
+
+/// Whether errors of a type are handled in the revised manner. Those of MP_REACH_NLRI and MP_UNREACH_NLRI never are.
+pub(crate) fn is_revised(profile: Profile, kind: u8) -> bool
+    ensures { result ≡ is_revised profile kind }
+{
+    profile.revised && !is_multiprotocol(profile, kind)
+}
+
 /// The types that a route reflector recognizes, from an internal peer alone (RFC 4456, section 8).
 fn reflection_rule(profile: Profile, external: bool, kind: u8) -> Option<TypeRule>
     ensures { result ≡ reflection_rule profile external kind }
@@ -165,7 +183,7 @@ fn reflection_rule(profile: Profile, external: bool, kind: u8) -> Option<TypeRul
     }
 }
 
-/// The recognized types (RFC 4271, section 5; RFC 4456, section 8).
+/// The recognized types (RFC 4271, section 5; RFC 4456, section 8; RFC 4760).
 #[tactic(auto, unfolding(crate::specs::Attributes::rule_of))]
 pub(crate) fn rule_of(profile: Profile, external: bool, kind: u8) -> Option<TypeRule>
     ensures { result ≡ rule_of profile external kind }
@@ -178,6 +196,7 @@ pub(crate) fn rule_of(profile: Profile, external: bool, kind: u8) -> Option<Type
         LOCAL_PREF => rule(false, true, Size::Fixed(4)),
         ATOMIC_AGGREGATE => rule(false, true, Size::Fixed(0)),
         AGGREGATOR => rule(true, true, Size::Fixed(if profile.as4 { 8 } else { 6 })),
+        _ if is_multiprotocol(profile, kind) => rule(true, false, Size::Any),
         _ => reflection_rule(profile, external, kind),
     }
 }
@@ -185,14 +204,14 @@ pub(crate) fn rule_of(profile: Profile, external: bool, kind: u8) -> Option<Type
 /// A fault, or something milder where errors are handled in the revised manner.
 pub(crate) fn milder(
     alloc: Global,
-    profile: Profile,
+    revised: bool,
     mild: Verdict,
     kind: FaultKind,
     octets: &[u8],
 ) -> Result<Verdict, Refusal>
-    ensures { Gives (λ v. v) result (milder profile mild (notice (code_of kind) (subcode_of kind) octets.now)) }
+    ensures { Gives (λ v. v) result (milder revised mild (notice (code_of kind) (subcode_of kind) octets.now)) }
 {
-    if profile.revised {
+    if revised {
         Ok(mild)
     } else {
         Err(refused(alloc, kind, octets))
@@ -244,11 +263,4 @@ pub(crate) fn judge_unrecognized(
     } else {
         Ok(Verdict::Discard)
     }
-}
-
-/// A first octet that no address of a host has.
-pub(crate) fn is_no_host(first: u8) -> bool
-    ensures { result ≡ is_no_host first }
-{
-    first == 0 || first == 127 || first >= 224
 }

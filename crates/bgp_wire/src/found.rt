@@ -1,103 +1,29 @@
 //! What attributes say, gathered from left to right.
 
-ghost use Rattle.std.specs.Prelude.{◌≡◌, ◌+◌, ◌≤◌, length, true, false, Bool, [], IfOk, IfErr, IfSome, position, OnOk, OnErr, insert, unwrap_or, slice_index, IsTrue, nat_lt, ◌<◌, ◌&&◌, ℕ, ◌==◌, ◌||◌};
+ghost use Rattle.std.specs.Prelude.{◌≡◌, ◌≤◌, length, true, [], OnOk, slice_index, IsTrue, nat_lt, ◌&&◌, ◌||◌};
 ghost use Rattle.bgp_wire.specs.Faults.{Gives, notice};
 ghost use Rattle.bgp_wire.specs.Paths.{width_of};
 ghost use Rattle.bgp_attr.specs.declared.speaker.Profile.{Profile as HowRead};
-ghost use Rattle.bgp_wire.specs.Attributes.{attribute_of, is_reflection, judge_value, judge_unrecognized, judge_recognized, judge_by, judgement, rule_of, value_fault};
+ghost use Rattle.bgp_wire.specs.Attributes.{attribute_of, is_reflection, is_multiprotocol, is_revised, hop_at, judge_value, judge_unrecognized, judge_recognized, judge_by, rule_of, value_fault};
 ghost use Rattle.bgp_wire.specs.Routes.{aggregator_of};
-ghost use Rattle.bgp_wire.specs.Found.{has_type, placed, origin_of, found_with, Takes, Gathers, IsGathered, GathersOne, RefusesOne, IsGatheredTo};
+ghost use Rattle.bgp_wire.specs.Found.{origin_of, found_with, Takes, Gathers};
 
+use crate::ascending::Ascending;
 use crate::attributes::{
-    AGGREGATOR, AS_PATH, ATOMIC_AGGREGATE, LOCAL_PREF, MULTI_EXIT_DISC, NEXT_HOP, ORIGIN,
-    ORIGINATOR_ID, RawAttribute, TypeRule, Verdict, has_wrong_flags, has_wrong_size, is_no_host,
-    judge_unrecognized, milder, read_attribute, rule_of,
+    AGGREGATOR, AS_PATH, ATOMIC_AGGREGATE, LOCAL_PREF, MP_REACH_NLRI, MULTI_EXIT_DISC, NEXT_HOP,
+    ORIGIN, ORIGINATOR_ID, RawAttribute, TypeRule, Verdict, has_wrong_flags, has_wrong_size,
+    is_multiprotocol, is_revised, judge_unrecognized, milder, rule_of,
 };
 use crate::clusters::read_clusters;
-use crate::notice::{FaultKind, Refusal, refused};
+use crate::message::Prefixes;
+use crate::multiprotocol::{Reach, read_reach, read_unreach};
+use crate::notice::{FaultKind, Refusal};
 use crate::numbers::{as_number, four_octets, width};
 use crate::path::read_path;
-use addr4::{Addr, Memory, RouterId};
-use bgp_attr::{
-    Aggregator, AsPath, ClusterList, Octets, Origin, Profile, Unrecognized, UnrecognizedAttrs,
-};
+use addr4::{Addr, RouterId};
+use addr6::V6;
+use bgp_attr::{Aggregator, AsPath, ClusterList, Octets, Origin, Profile, Unrecognized};
 use std::alloc::Global;
-use std::marker::Model;
-
-/// Types of attributes.
-#[derive(Drop)]
-pub(crate) struct TypeSet {
-    has: [bool; 256],
-}
-
-impl TypeSet {
-    fn new() -> TypeSet
-        ensures { (kind : ℕ) → has_type result kind ≡ false }
-    {
-        TypeSet { has: [false; 256] }
-    }
-
-    fn has(&self, kind: u8) -> bool
-        ensures { result ≡ has_type self.now kind }
-    {
-        self.has[usize::from(kind)]
-    }
-
-    fn add(&mut self, kind: u8)
-        ensures { (k : ℕ) → has_type self.new k ≡ (has_type self.old k || (kind == k)) }
-    {
-        self.has[usize::from(kind)] = true;
-    }
-}
-
-/// Unrecognized attributes, by ascending type.
-#[derive(Drop)]
-pub(crate) struct Ascending {
-    items: Vec<Unrecognized>,
-}
-
-impl Model for Ascending {
-    ghost use Rattle.std.specs.Prelude.{List};
-    ghost use Rattle.bgp_attr.specs.declared.unrecognized.Unrecognized.{Unrecognized};
-
-    ghost Value = { List Unrecognized };
-
-    ghost view = { λ a. a.items.items };
-}
-
-/// The place of the first attribute above a type.
-fn first_above(items: &[Unrecognized], kind: u8) -> Option<usize>
-    ensures place { result ≡ position (λ other. nat_lt kind other.kind) items.now }
-    ensures within { IfSome result (λ at. at < length items.now) }
-{
-    items.iter().position(|other| kind < other.kind)
-}
-
-impl Ascending {
-    fn new(alloc: Global) -> Ascending
-        ensures { result ≡ [] }
-    {
-        Ascending {
-            items: Vec::new(alloc),
-        }
-    }
-
-    fn place(&mut self, item: Unrecognized) -> Result<(), Refusal>
-        ensures ok { OnOk result (self.new ≡ placed item self.old) }
-        ensures err { IfErr result (λ e. e ≡ Refusal.Memory) }
-    {
-        let end = self.items.len();
-        let at = first_above(self.items.as_slice(), item.kind).unwrap_or(end);
-        self.items.insert(at, item)?;
-        Ok(())
-    }
-
-    pub(crate) fn into_attrs(self, alloc: Global) -> Result<UnrecognizedAttrs, Memory>
-        ensures { IfOk result (λ attrs. attrs ≡ self) }
-    {
-        UnrecognizedAttrs::from_vec(alloc, self.items)
-    }
-}
 
 /// What was found so far; nothing of a type stands for no attribute of that type.
 #[derive(Drop)]
@@ -113,16 +39,11 @@ pub(crate) struct Found {
     pub(crate) originator: Option<RouterId>,
     /// CLUSTER_LIST.
     pub(crate) clusters: ClusterList,
+    /// MP_REACH_NLRI, of IPv6.
+    pub(crate) reach: Option<Reach>,
+    /// MP_UNREACH_NLRI, of IPv6.
+    pub(crate) unreach: Option<Prefixes<V6>>,
     pub(crate) unrecognized: Ascending,
-}
-
-/// What was gathered so far.
-#[derive(Drop)]
-pub(crate) struct Gathered {
-    seen: TypeSet,
-    pub(crate) found: Found,
-    /// Whether the UPDATE is a withdraw (RFC 7606, section 2).
-    pub(crate) withdraw: bool,
 }
 
 fn origin_of(code: u8) -> Origin
@@ -143,6 +64,13 @@ fn first_octet(octets: &[u8]) -> u8
     octets.first().copied().unwrap_or(0)
 }
 
+/// The address of four octets.
+fn hop_at(octets: &[u8]) -> Addr
+    ensures { result ≡ hop_at octets.now }
+{
+    Addr::new(four_octets(octets))
+}
+
 fn aggregator_of(as4: bool, raw: &RawAttribute) -> Aggregator
     requires { width_of as4 ≤ length raw.now.value.now }
     ensures { result ≡ aggregator_of as4 (attribute_of raw.now) }
@@ -155,7 +83,7 @@ fn aggregator_of(as4: bool, raw: &RawAttribute) -> Aggregator
 }
 
 impl Found {
-    fn new(alloc: Global) -> Found
+    pub(crate) fn new(alloc: Global) -> Found
         ensures { (p : HowRead) → Gathers p [] result }
     {
         Found {
@@ -168,6 +96,8 @@ impl Found {
             aggregator: None,
             originator: None,
             clusters: ClusterList::new(alloc),
+            reach: None,
+            unreach: None,
             unrecognized: Ascending::new(alloc),
         }
     }
@@ -180,16 +110,60 @@ impl Found {
         raw: &RawAttribute,
     ) -> Result<Verdict, Refusal>
         requires { raw.now.kind ≡ 2 }
-        ensures { Takes profile (attribute_of raw.now) self.old self.new result (judge_value profile (value_fault profile.as4 (attribute_of raw.now))) }
+        ensures { Takes profile (attribute_of raw.now) self.old self.new result (judge_value (is_revised profile raw.now.kind) (value_fault profile.as4 (attribute_of raw.now))) }
     {
         match read_path(alloc, profile.as4, raw.value) {
             Ok(path) => {
                 self.path = Some(path);
                 Ok(Verdict::Keep)
             }
-            Err(Refusal::Fault(_)) if profile.revised => Ok(Verdict::Withdraw),
+            Err(Refusal::Fault(_)) if is_revised(profile, raw.kind) => Ok(Verdict::Withdraw),
             Err(refusal) => Err(refusal),
         }
+    }
+
+    /// NEXT_HOP, of four octets.
+    #[tactic(auto, unfolding(crate::specs::Attributes::value_fault, crate::specs::Found::found_with))]
+    fn take_next_hop(
+        &mut self,
+        alloc: Global,
+        profile: Profile,
+        raw: &RawAttribute,
+    ) -> Result<Verdict, Refusal>
+        requires { raw.now.kind ≡ 3 }
+        ensures { Takes profile (attribute_of raw.now) self.old self.new result (judge_value (is_revised profile raw.now.kind) (value_fault profile.as4 (attribute_of raw.now))) }
+    {
+        let next_hop = hop_at(raw.value);
+        if !next_hop.is_host() {
+            return milder(
+                alloc,
+                is_revised(profile, raw.kind),
+                Verdict::Withdraw,
+                FaultKind::BadNextHop,
+                raw.octets,
+            );
+        }
+        self.next_hop = Some(next_hop);
+        Ok(Verdict::Keep)
+    }
+
+    /// MP_REACH_NLRI or MP_UNREACH_NLRI. A value of another family says nothing.
+    #[tactic(auto, unfolding(crate::specs::Attributes::value_fault, crate::specs::Found::found_with))]
+    fn take_multiprotocol(
+        &mut self,
+        alloc: Global,
+        profile: Profile,
+        raw: &RawAttribute,
+    ) -> Result<Verdict, Refusal>
+        requires { is_multiprotocol profile raw.now.kind ≡ true }
+        ensures { Takes profile (attribute_of raw.now) self.old self.new result (judge_value (is_revised profile raw.now.kind) (value_fault profile.as4 (attribute_of raw.now))) }
+    {
+        if raw.kind == MP_REACH_NLRI {
+            self.reach = read_reach(alloc, raw.octets, raw.value)?;
+        } else {
+            self.unreach = read_unreach(alloc, raw.octets, raw.value)?;
+        }
+        Ok(Verdict::Keep)
     }
 
     /// Takes an attribute of a recognized type, whose flags and length are right, by its value (RFC 4271, section 6.3).
@@ -200,16 +174,16 @@ impl Found {
         profile: Profile,
         raw: &RawAttribute,
     ) -> Result<Verdict, Refusal>
-        requires recognized { IsTrue ((nat_lt 0 raw.now.kind && nat_lt raw.now.kind 8) || is_reflection profile raw.now.kind) }
+        requires recognized { IsTrue ((nat_lt 0 raw.now.kind && nat_lt raw.now.kind 8) || (is_reflection profile raw.now.kind || is_multiprotocol profile raw.now.kind)) }
         requires aggregator { raw.now.kind ≡ 7 → width_of profile.as4 ≤ length raw.now.value.now }
-        ensures { Takes profile (attribute_of raw.now) self.old self.new result (judge_value profile (value_fault profile.as4 (attribute_of raw.now))) }
+        ensures { Takes profile (attribute_of raw.now) self.old self.new result (judge_value (is_revised profile raw.now.kind) (value_fault profile.as4 (attribute_of raw.now))) }
     {
         if raw.kind == ORIGIN {
             let code = first_octet(raw.value);
             if code > 2 {
                 return milder(
                     alloc,
-                    profile,
+                    is_revised(profile, raw.kind),
                     Verdict::Withdraw,
                     FaultKind::BadOrigin,
                     raw.octets,
@@ -219,16 +193,7 @@ impl Found {
         } else if raw.kind == AS_PATH {
             return self.take_path(alloc, profile, raw);
         } else if raw.kind == NEXT_HOP {
-            if is_no_host(first_octet(raw.value)) {
-                return milder(
-                    alloc,
-                    profile,
-                    Verdict::Withdraw,
-                    FaultKind::BadNextHop,
-                    raw.octets,
-                );
-            }
-            self.next_hop = Some(Addr::new(four_octets(raw.value)));
+            return self.take_next_hop(alloc, profile, raw);
         } else if raw.kind == MULTI_EXIT_DISC {
             self.med = Some(four_octets(raw.value));
         } else if raw.kind == LOCAL_PREF {
@@ -237,6 +202,8 @@ impl Found {
             self.atomic = true;
         } else if raw.kind == AGGREGATOR {
             self.aggregator = Some(aggregator_of(profile.as4, raw));
+        } else if is_multiprotocol(profile, raw.kind) {
+            return self.take_multiprotocol(alloc, profile, raw);
         } else if raw.kind == ORIGINATOR_ID {
             self.originator = Some(RouterId::new(four_octets(raw.value)));
         } else {
@@ -260,10 +227,11 @@ impl Found {
         if profile.revised && external && raw.kind == LOCAL_PREF {
             return Ok(Verdict::Discard);
         }
+        let revised = is_revised(profile, raw.kind);
         if has_wrong_flags(rule, raw) {
             return milder(
                 alloc,
-                profile,
+                revised,
                 Verdict::Withdraw,
                 FaultKind::BadFlags,
                 raw.octets,
@@ -275,7 +243,7 @@ impl Found {
             } else {
                 Verdict::Withdraw
             };
-            return milder(alloc, profile, mild, FaultKind::BadLength, raw.octets);
+            return milder(alloc, revised, mild, FaultKind::BadLength, raw.octets);
         }
         self.take_value(alloc, profile, raw)
     }
@@ -304,7 +272,7 @@ impl Found {
         }
     }
 
-    fn take(
+    pub(crate) fn take(
         &mut self,
         alloc: Global,
         profile: Profile,
@@ -318,72 +286,4 @@ impl Found {
             None => self.take_unrecognized(alloc, profile, external, raw),
         }
     }
-}
-
-impl Gathered {
-    fn new(alloc: Global) -> Gathered
-        ensures { (p : HowRead) → IsGathered p [] ([], false) result }
-    {
-        Gathered {
-            seen: TypeSet::new(),
-            found: Found::new(alloc),
-            withdraw: false,
-        }
-    }
-
-    /// Judges an attribute, and gathers what it says where it is kept.
-    #[tactic(auto, unfolding(crate::specs::Attributes::judgement))]
-    fn take(
-        &mut self,
-        alloc: Global,
-        profile: Profile,
-        external: bool,
-        raw: &RawAttribute,
-    ) -> Result<(), Refusal>
-        ensures ok { OnOk result (GathersOne profile external (attribute_of raw.now) self.old self.new) }
-        ensures err { IfErr result (λ e. RefusesOne profile external (attribute_of raw.now) self.old e) }
-    {
-        if self.seen.has(raw.kind) {
-            milder(
-                alloc,
-                profile,
-                Verdict::Discard,
-                FaultKind::MalformedAttributes,
-                &[],
-            )?;
-            return Ok(());
-        }
-        let verdict = self.found.take(alloc, profile, external, raw)?;
-        self.withdraw |= verdict.is_withdraw();
-        self.seen.add(raw.kind);
-        Ok(())
-    }
-}
-
-/// The attributes of an UPDATE, from left to right (RFC 4271, section 6.3).
-pub(crate) fn read_attributes(
-    alloc: Global,
-    profile: Profile,
-    external: bool,
-    bytes: &[u8],
-) -> Result<Gathered, Refusal>
-    ensures { IsGatheredTo profile external bytes.now result }
-{
-    let mut gathered = Gathered::new(alloc);
-    let mut rest = bytes;
-    'attributes: while !rest.is_empty() {
-        let (raw, after) = match read_attribute(rest) {
-            None => {
-                if profile.revised {
-                    gathered.withdraw = true;
-                    return Ok(gathered);
-                }
-                return Err(refused(alloc, FaultKind::MalformedAttributes, &[]));
-            }
-            Some(found) => found,
-        };
-        gathered.take(alloc, profile, external, &raw)?;
-        rest = after;
-    }
-    Ok(gathered)
 }

@@ -18,23 +18,31 @@
 //! written is read as it was, the crate `wire_laws` says.
 #![tactic(auto)]
 
+mod ascending;
 mod attributes;
 mod clusters;
+mod common;
 mod found;
+mod gathered;
 mod header;
 mod laws;
 mod message;
+mod multiprotocol;
 mod notice;
 mod numbers;
 mod path;
 mod prefixes;
 mod reading;
+mod types;
+mod update;
+mod wire;
 mod writing;
 
 pub use laws::{notices_fit, one_of_message_and_fault};
-pub use message::{Message, Prefixes, RouteRefresh, Update};
+pub use message::{Message, Prefixes, RouteRefresh, Said, Update};
 pub use notice::Notice;
 pub use reading::read_message;
+pub use wire::Wire;
 pub use writing::{
     announcement_fits, announcement_length, attributes_length, write_announcement,
     write_notification, write_update, write_withdrawal,

@@ -3,17 +3,18 @@
 ghost use Rattle.std.specs.Prelude.{◌≡◌};
 
 use crate::notice::Notice;
-use addr4::Prefix;
+use addr4::{Addr, Family, Prefix, V4};
+use addr6::V6;
 use bgp_attr::Attrs;
 use std::marker::Model;
 
 /// Prefixes in a row. Contracts see the list of them.
 #[derive(Drop)]
-pub struct Prefixes {
-    items: Vec<Prefix>,
+pub struct Prefixes<F: Family = V4> {
+    items: Vec<Prefix<F>>,
 }
 
-impl Model for Prefixes {
+impl<F: Family> Model for Prefixes<F> {
     ghost use Rattle.std.specs.Prelude.{List};
     ghost use Rattle.addr4.specs.Prefixes.{AddressPrefix};
 
@@ -22,35 +23,57 @@ impl Model for Prefixes {
     ghost view = { λ p. p.items.items };
 }
 
-impl Prefixes {
+impl<F: Family> Prefixes<F> {
     /// Takes no memory.
-    pub fn from_vec(items: Vec<Prefix>) -> Prefixes
+    pub fn from_vec(items: Vec<Prefix<F>>) -> Prefixes<F>
         ensures { result ≡ items.items }
     {
         Prefixes { items }
     }
 
-    pub fn as_slice(&self) -> &[Prefix]
+    pub(crate) fn into_vec(self) -> Vec<Prefix<F>>
+        ensures { result.items ≡ self }
+    {
+        self.items
+    }
+
+    pub fn as_slice(&self) -> &[Prefix<F>]
         ensures { result.now ≡ self.now }
     {
         self.items.as_slice()
     }
 }
 
-/// What an UPDATE says: the prefixes that it withdraws, and those that it announces with their attributes, in the order
-/// of its octets. A prefix may stand in both lists.
+/// What an UPDATE says of one family's prefixes: those that it withdraws, and those that it announces with their attributes, in
+/// the order of its octets. A prefix may stand in both lists. Contracts see the same record for either family.
+#[derive(Drop)]
+pub struct Said<F: Family = V4> {
+    pub withdrawn: Prefixes<F>,
+    pub announced: Prefixes<F>,
+    /// In an UPDATE that was read, there exactly where a prefix is announced.
+    pub attrs: Option<Attrs<Addr<F>>>,
+}
+
+impl<F: Family> Model for Said<F> {
+    ghost use Rattle.bgp_wire.specs.Said.{Said};
+
+    ghost Value = { Said };
+
+    ghost view = { λ s. record { withdrawn = s.withdrawn; announced = s.announced; attrs = s.attrs } };
+}
+
+/// What an UPDATE says of IPv4's prefixes, and of IPv6's.
 #[derive(Drop)]
 pub struct Update {
-    pub withdrawn: Prefixes,
-    pub announced: Prefixes,
-    /// In an UPDATE that was read, there exactly where a prefix is announced.
-    pub attrs: Option<Attrs>,
+    pub first: Said<V4>,
+    /// Where IPv6 isn't spoken, nothing.
+    pub second: Said<V6>,
 }
 
 /// What a ROUTE-REFRESH asks to be sent again (RFC 2918, section 3). Its reserved octet is ignored.
 #[derive(Clone, Copy)]
 pub struct RouteRefresh {
-    /// The address family: 1 is IPv4 (RFC 4760, section 8).
+    /// The address family: 1 is IPv4, and 2 is IPv6 (RFC 4760, section 8).
     pub afi: u16,
     /// The subsequent address family: 1 is unicast.
     pub safi: u8,
@@ -59,12 +82,13 @@ pub struct RouteRefresh {
 impl RouteRefresh {
     ghost use Rattle.bgp_wire.specs.Grammar.{is_served};
 
-    /// Whether it asks for the routes that are spoken here: IPv4 unicast. One that asks for others is ignored (RFC 2918,
+    /// Whether it asks for the family's unicast routes. One that asks for those of no family that is spoken is ignored (RFC 2918,
     /// section 4).
-    pub fn is_served(&self) -> bool
-        ensures { result ≡ is_served self.now }
+    pub fn is_served<F: Family>(&self) -> bool
+        ensures { result ≡ is_served F.V6 self.now }
     {
-        self.afi == 1 && self.safi == 1
+        let afi = if F::V6 { 2 } else { 1 };
+        self.afi == afi && self.safi == 1
     }
 }
 

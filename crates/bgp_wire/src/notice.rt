@@ -30,6 +30,8 @@ pub(crate) enum FaultKind {
     BadLength,
     BadOrigin,
     BadNextHop,
+    /// Of the value of MP_REACH_NLRI or MP_UNREACH_NLRI.
+    BadOptional,
     BadNetwork,
     MalformedPath,
 }
@@ -58,6 +60,7 @@ impl FaultKind {
             FaultKind::BadLength => 5,
             FaultKind::BadOrigin => 6,
             FaultKind::BadNextHop => 8,
+            FaultKind::BadOptional => 9,
             FaultKind::BadNetwork => 10,
             FaultKind::MalformedPath => 11,
         }

@@ -51,6 +51,30 @@ fn octet(octets: &[u8], i: usize) -> u8
     octets.get(i).copied().unwrap_or(0)
 }
 
+/// The number of sixteen octets, of which the missing ones are 0.
+pub(crate) fn sixteen_octets(octets: &[u8]) -> u128
+    ensures { result ≡ big_number 16 octets.now }
+{
+    u128::from_be_bytes([
+        octet(octets, 0),
+        octet(octets, 1),
+        octet(octets, 2),
+        octet(octets, 3),
+        octet(octets, 4),
+        octet(octets, 5),
+        octet(octets, 6),
+        octet(octets, 7),
+        octet(octets, 8),
+        octet(octets, 9),
+        octet(octets, 10),
+        octet(octets, 11),
+        octet(octets, 12),
+        octet(octets, 13),
+        octet(octets, 14),
+        octet(octets, 15),
+    ])
+}
+
 /// The number of four octets, of which the missing ones are 0.
 pub(crate) fn four_octets(octets: &[u8]) -> u32
     ensures { result ≡ big_number 4 octets.now }

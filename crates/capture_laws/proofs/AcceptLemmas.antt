@@ -6,7 +6,7 @@ use Rattle.std.proofs.lemmas.Bool.Decides.{nat_tests}
 use Rattle.std.proofs.lemmas.List.{length-set}
 use Rattle.bgp_attr.specs.Speakers.{Speaker}
 use Rattle.journal_text.specs.declared.line.Code.TheVariants.{E3, E6}
-use Rattle.event_text.specs.declared.event.Event.{Event}
+use Rattle.event_text.specs.Event.{Event}
 use Rattle.event_text.specs.declared.event.Event.TheVariants as events
 use Rattle.event_text.specs.declared.declared.DeclaredPeer.{DeclaredPeer}
 use Rattle.event_text.specs.Events.{read_event}
@@ -187,6 +187,7 @@ others addr ps e = place_past addr ps (by_test (nat_lt (position_or_len (λ p. n
 
 record Agrees (as4 : Bool) (w : Written) (d : Declaration) : Type 0 where
   me : Speaker
+  first : d.v6 ≡ false
   wide : d.profile.as4 ≡ as4
   speaker_is : d.speaker ≡ Some me
   local_is : w.local ≡ Some me.addr
@@ -225,7 +226,7 @@ module _ (as4 : Bool) (w : Written) (d : Declaration) (g : Agrees as4 w d) where
       by_test true = refl
       by_test false = refl
 
-  may_declare : (k asn addr : ℕ) → k ≡ length w.peers + 1 → k ≤ 64 → place_of addr w.peers ≡ None → IsForeign addr w.local → refusal_by g.me d.peers (events.Peer k (speaker asn addr) false) ≡ None
+  may_declare : (k asn addr : ℕ) → k ≡ length w.peers + 1 → k ≤ 64 → place_of addr w.peers ≡ None → IsForeign addr w.local → refusal_by false g.me d.peers (events.Peer k (speaker asn addr) false) ≡ None
   may_declare k asn addr next few new foreign =
       let number : is_none (peer_at k d.peers) ≡ true = ap is_none (no_peer 1 k w.peers d.peers g.peers (omega (arith, next))) in
       let address : has_addr addr d.peers ≡ false = no_addr 1 addr w.peers d.peers g.peers (others addr w.peers new) in
@@ -234,7 +235,7 @@ module _ (as4 : Bool) (w : Written) (d : Declaration) (g : Agrees as4 w d) where
       ap (λ b. cond b (Some E3) (cond (nat_le k 64) None (Some E6))) (free (is_none (peer_at k d.peers)) (has_addr addr d.peers) (nat_eq g.me.addr addr) number address local)
       ∙ ap (λ b. cond b None (Some E6)) within
 
-  may_by : (l : Line) → Asks as4 w l → refusal_by g.me d.peers (event_of_line l) ≡ None
+  may_by : (l : Line) → Asks as4 w l → refusal_by false g.me d.peers (event_of_line l) ≡ None
   may_by lines.As4 asks = absurd (begun_written w g.me.addr g.local_is asks.1)
   may_by (lines.Local asn addr) asks = absurd (begun_written w g.me.addr g.local_is asks.0)
   may_by (lines.Peer k asn addr) asks = may_declare k asn addr asks.0 asks.1 asks.2 asks.3
@@ -245,15 +246,15 @@ module _ (as4 : Bool) (w : Written) (d : Declaration) (g : Agrees as4 w d) where
 
   may : (l : Line) → Asks as4 w l → refusal d (event_of_line l) ≡ None
   unfolding refusal
-  may l asks = ap (λ (s : Option Speaker). refusal_at d.profile s d.peers (event_of_line l)) g.speaker_is ∙ may_by l asks
+  may l asks = ap (λ (v6 : Bool). refusal_at v6 d.profile d.speaker d.peers (event_of_line l)) g.first ∙ ap (λ (s : Option Speaker). refusal_at false d.profile s d.peers (event_of_line l)) g.speaker_is ∙ may_by l asks
 
   is_read : (l : Line) → Asks as4 w l → read_event d.profile (line_bytes l) ≡ Ok (event_of_line l)
   is_read l asks = reads d.profile w l g.few (subst (λ (b : Bool). Asks b w l) (sym g.wide) asks)
 
   -- ---- and behind it they agree again
 
-  same_sessions : (ps : List WrittenPeer) (qs : List DeclaredPeer) → length ps ≤ 64 → Match 1 ps qs → Agrees as4 (record { local = w.local; peers = ps }) (record { profile = d.profile; speaker = d.speaker; peers = qs })
-  same_sessions ps qs few m = record { me = g.me; wide = g.wide; speaker_is = g.speaker_is; local_is = g.local_is; few = few; peers = m }
+  same_sessions : (ps : List WrittenPeer) (qs : List DeclaredPeer) → length ps ≤ 64 → Match 1 ps qs → Agrees as4 (record { local = w.local; peers = ps }) (record { v6 = d.v6; profile = d.profile; speaker = d.speaker; peers = qs })
+  same_sessions ps qs few m = record { me = g.me; first = g.first; wide = g.wide; speaker_is = g.speaker_is; local_is = g.local_is; few = few; peers = m }
 
   one_peer_more : (k asn addr : ℕ) → k ≡ length w.peers + 1 → k ≤ 64 → Agrees as4 (sessions.after w (lines.Peer k asn addr)) (with_peer d k (speaker asn addr) false)
   one_peer_more k asn addr next few =
@@ -293,12 +294,13 @@ module _ (after : Declaration → Event → Declaration) (makes : Declares after
       (is_read as4 w d g l order.0, may as4 w d g l order.0, accepted (sessions.after w l) (after d (event_of_line l)) ls (agrees_behind w d g l order.0) order.1)
 
   -- behind `local` they agree
-  opens : (d : Declaration) (asn addr : ℕ) (more : List Line) → d.profile.as4 ≡ as4 → d.speaker ≡ None → d.peers ≡ [] → IsSpeaker as4 asn addr → AreInOrder as4 (sessions.after nothing_written (lines.Local asn addr)) more → AreAccepted after d (lines.Local asn addr ∷ more)
+  opens : (d : Declaration) (asn addr : ℕ) (more : List Line) → d.v6 ≡ false → d.profile.as4 ≡ as4 → d.speaker ≡ None → d.peers ≡ [] → IsSpeaker as4 asn addr → AreInOrder as4 (sessions.after nothing_written (lines.Local asn addr)) more → AreAccepted after d (lines.Local asn addr ∷ more)
   unfolding refusal
-  opens d asn addr more wide first none is order =
+  opens d asn addr more family wide first none is order =
       let me = speaker asn addr in
       let agrees : Agrees as4 (sessions.after nothing_written (lines.Local asn addr)) (with_speaker d me) = record {
         me = me;
+        first = family;
         wide = wide;
         speaker_is = refl;
         local_is = refl;
@@ -306,25 +308,25 @@ module _ (after : Declaration → Event → Declaration) (makes : Declares after
         peers = subst (Match 1 []) (sym none) tt;
       } in (
         local_read d.profile asn addr (subst (λ (b : Bool). IsSpeaker b asn addr) (sym wide) is),
-        ap (λ (s : Option Speaker). refusal_at d.profile s d.peers (events.Local me)) first,
+        ap (λ (v6 : Bool). refusal_at v6 d.profile d.speaker d.peers (events.Local me)) family ∙ ap (λ (s : Option Speaker). refusal_at false d.profile s d.peers (events.Local me)) first,
         accepted (sessions.after nothing_written (lines.Local asn addr)) (after d (events.Local me)) more (subst (Agrees as4 (sessions.after nothing_written (lines.Local asn addr))) (sym (makes.local d me)) agrees) order,
       )
 
-opening_accepted : (after : Declaration → Event → Declaration) → Declares after → (as4 : Bool) (asn addr : ℕ) (more : List Line) → AreInOrder as4 nothing_written (first_lines as4 asn addr ++ more) → AreAccepted after no_declaration (first_lines as4 asn addr ++ more)
+opening_accepted : (after : Declaration → Event → Declaration) → Declares after → (as4 : Bool) (asn addr : ℕ) (more : List Line) → AreInOrder as4 nothing_written (first_lines as4 asn addr ++ more) → AreAccepted after (no_declaration false) (first_lines as4 asn addr ++ more)
 unfolding refusal
-opening_accepted after makes false asn addr more order = opens after makes false no_declaration asn addr more refl refl refl order.0.1 order.1
+opening_accepted after makes false asn addr more order = opens after makes false (no_declaration false) asn addr more refl refl refl refl order.0.1 order.1
 opening_accepted after makes true asn addr more order =
-    let e = makes.as4 no_declaration in (
-      as4_read no_declaration.profile,
+    let e = makes.as4 (no_declaration false) in (
+      as4_read (no_declaration false).profile,
       refl,
-      opens after makes true (after no_declaration events.As4) asn addr more (ap (λ d. d.profile.as4) e) (ap (λ d. d.speaker) e) (ap (λ d. d.peers) e) order.1.0.1 order.1.1,
+      opens after makes true (after (no_declaration false) events.As4) asn addr more (ap (λ d. d.v6) e) (ap (λ d. d.profile.as4) e) (ap (λ d. d.speaker) e) (ap (λ d. d.peers) e) order.1.0.1 order.1.1,
     )
 
 pub all_accepted : FilesAreOpened → LinesAreInOrder → LinesAreAccepted
 all_accepted opened order after makes as4 records bytes = ⊎_elim none some (opened as4 records)
   where
-    none : file_lines as4 records ≡ [] → AreAccepted after no_declaration (file_lines as4 records)
-    none e = subst (AreAccepted after no_declaration) (sym e) tt
+    none : file_lines as4 records ≡ [] → AreAccepted after (no_declaration false) (file_lines as4 records)
+    none e = subst (AreAccepted after (no_declaration false)) (sym e) tt
 
-    some : (asn addr : ℕ) × (more : List Line) × (file_lines as4 records ≡ first_lines as4 asn addr ++ more) → AreAccepted after no_declaration (file_lines as4 records)
-    some o = subst (AreAccepted after no_declaration) (sym o.3) (opening_accepted after makes as4 o.0 o.1 o.2 (subst (AreInOrder as4 nothing_written) o.3 (order as4 records bytes)))
+    some : (asn addr : ℕ) × (more : List Line) × (file_lines as4 records ≡ first_lines as4 asn addr ++ more) → AreAccepted after (no_declaration false) (file_lines as4 records)
+    some o = subst (AreAccepted after (no_declaration false)) (sym o.3) (opening_accepted after makes as4 o.0 o.1 o.2 (subst (AreInOrder as4 nothing_written) o.3 (order as4 records bytes)))

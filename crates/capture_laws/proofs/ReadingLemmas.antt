@@ -10,13 +10,14 @@ use Rattle.hex.specs.Hex.{encode_lower, lower_digits}
 use Rattle.hex.proofs.HexLemmas.{decode_of-encode_lower, length-encode_with}
 use Rattle.addr4.specs.Texts.{addr_of, addr_text, dotted, id_text, id_of}
 use Rattle.addr4.proofs.FrontLemmas.{front_below}
-use Rattle.bgp_attr.specs.Hosts.{is_host}
+use Rattle.addr4.specs.Hosts.{is_host}
 use Rattle.bgp_attr.specs.Speakers.{asn_bound}
 use Rattle.bgp_attr.specs.declared.speaker.Profile.{Profile}
 use Rattle.policy_rules.specs.Words.{◌>>=◌, is_word, words_among, words}
 use Rattle.journal_text.specs.declared.line.Code.TheVariants.{E1}
 use Rattle.journal_check.proofs.InkLemmas.{AreInk, inky, both_true, ink_by, ink_decimal, ink_hex, words_parted, line_passes, printable}
-use Rattle.journal_check.proofs.PrefixBack.{number_back, addr_back, ink_addr, id_back}
+use Rattle.journal_check.proofs.PrefixBack.{addr_back, ink_addr, id_back}
+use Rattle.addr4.proofs.NumberBack.{number_back}
 use Rattle.event_text.specs.declared.event.Event.TheVariants as events
 use Rattle.event_text.specs.Words.{is_clean, from_one, speaker_by, speaker_of, client_of, octets_of}
 use Rattle.event_text.specs.Events.{local_of, peer_of, one_number, bgp_of, profile_event, interior_event, plain_event, named_event, event_of, in_grammar, read_event}
@@ -112,18 +113,18 @@ id_short : (a : ℕ) → length (id_text a) ≤ 15
 unfolding id_text
 id_short a = dotted_short (a / 16777216 % 256) (a / 65536 % 256) (a / 256 % 256) (a % 256) (omega arith) (omega arith) (omega arith) (omega arith)
 
-addr_short : (a : ℕ) → length (addr_text a) ≤ 15
+addr_short : (a : ℕ) → length (addr_text false a) ≤ 15
 addr_short a = id_short (a / 2 ^ 96)
 
 id_some : (a : ℕ) → 0 < length (id_text a)
 unfolding id_text
 id_some a = omega (arith, length-append (decimal (a / 16777216 % 256)) (46 ∷ dotted (a / 65536 % 256 ∷ a / 256 % 256 ∷ a % 256 ∷ [])))
 
-shown_addr : (a : ℕ) → IsShown (addr_text a)
-shown_addr a = record { ink = ink_addr a; some = id_some (a / 2 ^ 96) }
+shown_addr : (a : ℕ) → IsShown (addr_text false a)
+shown_addr a = record { ink = ink_addr false a; some = id_some (a / 2 ^ 96) }
 
 -- a host's first octet is from 1 to 223
-host_range : (addr : ℕ) → is_host addr ≡ true → (1 ≤ addr / 2 ^ 120) × (addr / 2 ^ 120 ≤ 223)
+host_range : (addr : ℕ) → is_host false addr ≡ true → (1 ≤ addr / 2 ^ 120) × (addr / 2 ^ 120 ≤ 223)
 host_range addr e =
     let both = both_true (nat_le 1 (addr / 2 ^ 120) && nat_le (addr / 2 ^ 120) 223) (not (nat_eq (addr / 2 ^ 120) 127)) e in
     let t = both_true (nat_le 1 (addr / 2 ^ 120)) (nat_le (addr / 2 ^ 120) 223) both.0 in
@@ -131,7 +132,7 @@ host_range addr e =
     let high = t.1 in
     (grind (arith, nat_tests), grind (arith, nat_tests))
 
-host_some : (addr : ℕ) → is_host addr ≡ true → 0 < addr / 2 ^ 96
+host_some : (addr : ℕ) → is_host false addr ≡ true → 0 < addr / 2 ^ 96
 host_some addr e = let low = (host_range addr e).0 in let split = shr-shr addr 96 24 in omega (arith, low, split)
 
 asn_fits : (as4 : Bool) (asn addr : ℕ) → IsSpeaker as4 asn addr → asn < asn_bound as4
@@ -141,7 +142,7 @@ asn_fits false asn addr s = s.narrow refl
 speaks : (a i h : Bool) → a ≡ false → i ≡ false → h ≡ true → (a || i || not h) ≡ false
 speaks a i h ha hi hh = cc
 
-speaker_told : (as4 : Bool) (asn addr : ℕ) → IsSpeaker as4 asn addr → speaker_by as4 (decimal asn) (addr_text addr) (addr_text addr) ≡ Some (speaker asn addr)
+speaker_told : (as4 : Bool) (asn addr : ℕ) → IsSpeaker as4 asn addr → speaker_by as4 (decimal asn) (addr_text false addr) (addr_text false addr) ≡ Some (speaker asn addr)
 unfolding speaker_by
 speaker_told as4 asn addr s =
     let id = addr / 2 ^ 96 in
@@ -149,9 +150,9 @@ speaker_told as4 asn addr s =
     let least = host_some addr s.host in
     let asn_some : nat_eq asn 0 ≡ false = grind (arith, nat_tests) in
     let id_some : nat_eq id 0 ≡ false = grind (arith, nat_tests) in
-    ap (λ o. o >>= λ a. id_of (addr_text addr) >>= λ i. addr_of (addr_text addr) >>= λ h. cond (nat_eq a 0 || nat_eq i 0 || not (is_host h)) None (Some (record { asn = a; id = i; addr = h }))) (number_back (asn_bound as4) asn (asn_fits as4 asn addr s) (omega (arith, s.wide)))
-    ∙ ((λ k. id_back id (front_below addr s.ipv4.0) k >>= λ i. addr_back addr s.ipv4 k >>= λ h. cond (nat_eq asn 0 || nat_eq i 0 || not (is_host h)) None (Some (record { asn = asn; id = i; addr = h })))
-    ∙ ap (λ b. cond b None (Some (speaker asn addr))) (speaks (nat_eq asn 0) (nat_eq id 0) (is_host addr) asn_some id_some s.host))
+    ap (λ o. o >>= λ a. id_of (addr_text false addr) >>= λ i. addr_of false (addr_text false addr) >>= λ h. cond (nat_eq a 0 || nat_eq i 0 || not (is_host false h)) None (Some (record { asn = a; id = i; addr = h }))) (number_back (asn_bound as4) asn (asn_fits as4 asn addr s) (omega (arith, s.wide)))
+    ∙ ((λ k. id_back id (front_below addr s.ipv4.0) k >>= λ i. addr_back addr s.ipv4 k >>= λ h. cond (nat_eq asn 0 || nat_eq i 0 || not (is_host false h)) None (Some (record { asn = asn; id = i; addr = h })))
+    ∙ ap (λ b. cond b None (Some (speaker asn addr))) (speaks (nat_eq asn 0) (nat_eq id 0) (is_host false addr) asn_some id_some s.host))
 
 -- ---- octets
 
@@ -183,16 +184,16 @@ idle_read p = line_read p (codes "idle") [] (shown_by (codes "idle") refl (omega
 pub local_read : (p : Profile) (asn addr : ℕ) → IsSpeaker p.as4 asn addr → read_event p (line_bytes (lines.Local asn addr)) ≡ Ok (events.Local (speaker asn addr))
 unfolding line_words event_of named_event local_of speaker_of
 local_read p asn addr s =
-    line_read p (codes "local") (decimal asn ∷ addr_text addr ∷ addr_text addr ∷ [])
+    line_read p (codes "local") (decimal asn ∷ addr_text false addr ∷ addr_text false addr ∷ [])
     (shown_by (codes "local") refl (omega arith), (shown_number asn s.wide, (shown_addr addr, (shown_addr addr, tt)))) (omega (arith, number_short asn s.wide, addr_short addr))
     ∙ ap in_grammar (ap (λ o. o >>= λ x. Some (events.Local x)) (speaker_told p.as4 asn addr s))
 
 peer_read : (p : Profile) (k asn addr : ℕ) → 0 < k → k < 2 ^ 32 → IsSpeaker p.as4 asn addr → read_event p (line_bytes (lines.Peer k asn addr)) ≡ Ok (events.Peer k (speaker asn addr) false)
 unfolding line_words event_of named_event peer_of client_of
 peer_read p k asn addr some small s =
-    line_read p (codes "peer") (decimal k ∷ decimal asn ∷ addr_text addr ∷ addr_text addr ∷ [])
+    line_read p (codes "peer") (decimal k ∷ decimal asn ∷ addr_text false addr ∷ addr_text false addr ∷ [])
     (shown_by (codes "peer") refl (omega arith), (shown_number k small, (shown_number asn s.wide, (shown_addr addr, (shown_addr addr, tt))))) (omega (arith, number_short k small, number_short asn s.wide, addr_short addr))
-    ∙ ap in_grammar (ap (λ o. o >>= λ n. speaker_by p.as4 (decimal asn) (addr_text addr) (addr_text addr) >>= λ x. Some (events.Peer n x false)) (from_one_told k some small)
+    ∙ ap in_grammar (ap (λ o. o >>= λ n. speaker_by p.as4 (decimal asn) (addr_text false addr) (addr_text false addr) >>= λ x. Some (events.Peer n x false)) (from_one_told k some small)
     ∙ ap (λ o. o >>= λ x. Some (events.Peer k x false)) (speaker_told p.as4 asn addr s))
 
 up_read : (p : Profile) (k : ℕ) → 0 < k → k < 2 ^ 32 → read_event p (line_bytes (lines.Up k)) ≡ Ok (events.Up k)

@@ -2,7 +2,7 @@
 use Rattle.std.specs.Prelude.{◌≡◌, ◌⊎◌, ℕ, ◌/◌, ◌^◌, Bool, false, List, [], ◌∷◌, None, Ok, ⊤}
 use Rattle.std.specs.List.{AllByRecursion, join_with_byte}
 use Rattle.bgp_attr.specs.Speakers.{Speaker}
-use Rattle.event_text.specs.declared.event.Event.{Event}
+use Rattle.event_text.specs.Event.{Event}
 use Rattle.event_text.specs.declared.event.Event.TheVariants as events
 use Rattle.event_text.specs.Events.{read_event}
 use Rattle.event_text.specs.Declarations.{Declaration, no_declaration, refusal, with_profile, with_four_octets, with_speaker, with_peer, with_session, without_session}
@@ -46,4 +46,4 @@ AreAccepted after d (l ∷ ls) = (read_event d.profile (line_bytes l) ≡ Ok (ev
 
 -- The lines of a file of records of bytes are accepted.
 abbrev pub LinesAreAccepted : Type 0
-LinesAreAccepted = (after : Declaration → Event → Declaration) → Declares after → (as4 : Bool) (records : List Record) → AllByRecursion HasBytes records → AreAccepted after no_declaration (file_lines as4 records)
+LinesAreAccepted = (after : Declaration → Event → Declaration) → Declares after → (as4 : Bool) (records : List Record) → AllByRecursion HasBytes records → AreAccepted after (no_declaration false) (file_lines as4 records)

@@ -3,8 +3,9 @@ use Rattle.std.proofs.Common.{◌≡◌, ◌≢◌, ℕ, ◌+◌, ◌<◌, nat_l
 use Rattle.std.proofs.lemmas.List.{map-append}
 use Rattle.std.proofs.lemmas.Bool.Decides.{nat_tests}
 use Rattle.std.specs.Str.Lines.{strip_carriage_return}
+use Rattle.journal_check.specs.Entries.{FamilyEntry}
 use Rattle.journal_check.specs.Judged.{entries_read, IsReached, IsLawfulJournal, IsNotAJournalAt, IsChecked}
-use Rattle.journal_check.specs.Readings.{TextEntry, reading_of, reading_from, is_clean}
+use Rattle.journal_check.specs.Readings.{reading_of, reading_from, is_clean}
 use Rattle.journal_check.specs.Walked.{Walked, IsAfter}
 use Rattle.journal_check.specs.declared.checked.Checked.{Checked}
 use Rattle.journal_check.specs.declared.checked.Checked.TheVariants.{Lawful, Broken, NotAJournal}
@@ -17,7 +18,7 @@ use Rattle.check_run.proofs.Pieces.{cut_nothing, cut_part_more, cut_line_more, l
 
 -- ---- what is said of lines
 
-reached_still : (lines more : List (List ℕ)) (n : ℕ) (es : List TextEntry) (line : List ℕ) → IsReached lines n es line → IsReached (lines ++ more) n es line
+reached_still : (lines more : List (List ℕ)) (n : ℕ) (es : List FamilyEntry) (line : List ℕ) → IsReached lines n es line → IsReached (lines ++ more) n es line
 reached_still lines more n es line r = record {
   before = r.before;
   later = r.later ++ more;
@@ -77,7 +78,7 @@ walked_nothing now after none = record {
   done = [];
   cut = subst (λ (p : List ℕ). IsCut [] [] p) (sym none) cut_nothing;
   after = after;
-  lawful = one_answer [] now.walk.state Lawful after.checked ([], no_lines_read, tt);
+  lawful = one_answer [] now.walk.state Lawful after.checked ([], no_lines_read, (tt, tt));
   short = omega (arith, ap length none);
 }
 

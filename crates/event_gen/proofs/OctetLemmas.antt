@@ -58,8 +58,8 @@ origin_small Igp = omega arith
 origin_small Egp = omega arith
 origin_small Incomplete = omega arith
 
-attributes : (k : ℕ) (origin : Origin) (med : ℕ) → AreOctets (attrs_octets false (Some (announced k origin med)))
-attributes k origin med =
+attributes : (k x : ℕ) (origin : Origin) (med : ℕ) → AreOctets (attrs_octets false false (Some (announced k origin med)) (block x ∷ []))
+attributes k x origin med =
     let first : List ℕ = 64 ∷ 1 ∷ 1 ∷ code_of_origin origin ∷ [] in
     let second : List ℕ = 64 ∷ 2 ∷ 4 ∷ 2 ∷ 1 ∷ bytes_high_first 2 (path_as k) in
     let third : List ℕ = 64 ∷ 3 ∷ 4 ∷ bytes_high_first 4 (peer_addr k / 2 ^ 96) in
@@ -71,12 +71,12 @@ attributes k origin med =
     both first (second ++ (third ++ fourth)) a (both second (third ++ fourth) b (both third fourth c d))
 
 prefix : (x : ℕ) → AreOctets (prefixes_octets (block x ∷ []))
-prefix x = (omega arith, (octet 3 (in_front (167772160 + x * 65536) / 2 ^ 96), (octet 2 (in_front (167772160 + x * 65536) / 2 ^ 96), tt)))
+prefix x = (omega arith, (octet 15 (in_front (167772160 + x * 65536)), (octet 14 (in_front (167772160 + x * 65536)), tt)))
 
 pub announce_small : (k x : ℕ) (origin : Origin) (med : ℕ) → AreOctets (announce_octets k x origin med)
 announce_small k x origin med =
-    frame (fields_octets [] (attrs_octets false (Some (announced k origin med))) (prefixes_octets (block x ∷ [])))
-    (fields [] (attrs_octets false (Some (announced k origin med))) (prefixes_octets (block x ∷ [])) tt (attributes k origin med) (prefix x))
+    frame (fields_octets [] (attrs_octets false false (Some (announced k origin med)) (block x ∷ [])) (prefixes_octets (block x ∷ [])))
+    (fields [] (attrs_octets false false (Some (announced k origin med)) (block x ∷ [])) (prefixes_octets (block x ∷ [])) tt (attributes k x origin med) (prefix x))
 
 pub withdraw_small : (x : ℕ) → AreOctets (withdraw_octets x)
 withdraw_small x = frame (fields_octets (prefixes_octets (block x ∷ [])) [] []) (fields (prefixes_octets (block x ∷ [])) [] [] (prefix x) tt tt)

@@ -4,7 +4,7 @@ use Rattle.addr4.specs.Texts.{number_below, id_of, prefix_of}
 use Rattle.rib_route.specs.declared.Proto.TheVariants.{Connected}
 use Rattle.journal_text.specs.Names.{proto_of}
 use Rattle.policy_rules.specs.Words.{words}
-use Rattle.event_text.specs.declared.event.Event.{Event}
+use Rattle.event_text.specs.Event.{Event}
 use Rattle.event_text.specs.declared.event.Event.TheVariants as events
 use Rattle.event_text.specs.Words.{is_clean, from_one, speaker_by, speaker_of, client_of, way_out, interior_of}
 use Rattle.event_text.specs.Events.{local_of, peer_of, one_number, route_add_of, route_of, interior_event, plain_event, named_event, event_of, read_event}

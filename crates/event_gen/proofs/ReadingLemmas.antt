@@ -8,8 +8,10 @@ use Rattle.std.specs.Str.{bytes_eq}
 use Rattle.std.specs.List.{join_with_byte}
 use Rattle.hex.specs.Hex.{encode_lower}
 use Rattle.hex.proofs.HexLemmas.{decode_of-encode_lower}
+use Rattle.addr4.specs.Families.{IsIpv4Prefix}
 use Rattle.addr4.specs.Prefixes.{AddressPrefix}
 use Rattle.addr4.specs.Texts.{number_of, prefix_of, prefix_text}
+use Rattle.addr4.proofs.NumberBack.{number_back}
 use Rattle.rib_route.specs.declared.Proto.TheVariants.{Static}
 use Rattle.rib_route.specs.Rows.{Interior}
 use Rattle.policy_rules.specs.declared.rule.Condition.TheVariants.{Any}
@@ -20,12 +22,11 @@ use Rattle.policy_rules.specs.Grammar.{rules_of, behind}
 use Rattle.journal_text.specs.declared.link.Task.{Task}
 use Rattle.journal_text.specs.declared.link.Task.TheVariants.{Fin, Nh, ReadRib, Out}
 use Rattle.journal_text.specs.Names.{from_one as name_from_one, proto_of, name_number, peer_task, task_from_parts, task_of_two, task_of}
-use Rattle.journal_check.specs.Laws.{IsPrefix}
 use Rattle.journal_check.specs.Readings.{◌>>=◌ as ◌>>>◌, as_printed, printed_prefix}
 use Rattle.journal_check.proofs.InkLemmas.{IsInk, all_append, ink_by, decimal_are, apart_alone}
-use Rattle.journal_check.proofs.PrefixBack.{number_back, printed_back}
+use Rattle.journal_check.proofs.PrefixBack.{printed_back}
 use Rattle.event_text.specs.declared.event.Event.TheVariants as events
-use Rattle.event_text.specs.Words.{from_one, octets_of, way_out, interior_of}
+use Rattle.event_text.specs.Words.{from_one, octets_of, way_out, interior_of, task_named}
 use Rattle.event_text.specs.Events.{one_number, bgp_of, filter_on, filter_of, route_add_of, route_del_of, route_of, interior_event, work_of, plain_event, named_event, event_of, in_grammar, read_event}
 use Rattle.event_text.specs.Declarations.{plain}
 use Rattle.event_gen.specs.Lines.{host}
@@ -57,16 +58,16 @@ as_it_is : (b : Bool) (q p : AddressPrefix) → cond b (Some q) None ≡ Some p 
 as_it_is true q p e = e
 as_it_is false q p e = absurd (cc)
 
-prefix_by : (word : List ℕ) (o : Option AddressPrefix) (p : AddressPrefix) → (o >>> λ q. as_printed word q) ≡ Some p → o ≡ Some p
+prefix_by : (word : List ℕ) (o : Option AddressPrefix) (p : AddressPrefix) → (o >>> λ q. as_printed false word q) ≡ Some p → o ≡ Some p
 unfolding as_printed
 prefix_by word None p e = absurd (cc)
-prefix_by word (Some q) p e = as_it_is (bytes_eq word (prefix_text q)) q p e
+prefix_by word (Some q) p e = as_it_is (bytes_eq word (prefix_text false q)) q p e
 
-prefix_told : (p : AddressPrefix) → IsPrefix p → prefix_of 32 (prefix_text p) ≡ Some p
+prefix_told : (p : AddressPrefix) → IsIpv4Prefix p → prefix_of false (prefix_text false p) ≡ Some p
 unfolding printed_prefix
-prefix_told p h = prefix_by (prefix_text p) (prefix_of 32 (prefix_text p)) p (printed_back p h)
+prefix_told p h = prefix_by (prefix_text false p) (prefix_of false (prefix_text false p)) p (printed_back false p h)
 
-pub host_is : (k : ℕ) → k < 256 → IsPrefix (host k)
+pub host_is : (k : ℕ) → k < 256 → IsIpv4Prefix (host k)
 host_is k small = record { masked = (omega arith, omega arith); fits = omega arith; short = omega arith }
 
 -- ---- events by their words
@@ -89,31 +90,31 @@ bgp_told k octets h small some =
     ap (λ o. o >>= λ n. octets_of (encode_lower octets) >>= λ os. Some (events.Bgp n os)) (from_one_told k h)
     ∙ ap (λ o. o >>= λ os. Some (events.Bgp k os)) (octets_told octets small some)
 
-rules_told : (n : ℕ) → n < 2 ^ 32 → rules_of false (codes "any" ∷ codes "pref" ∷ decimal n ∷ codes "accept" ∷ []) ≡ Some (record { condition = Any; actions = Pref n ∷ []; verdict = Accept } ∷ [])
+rules_told : (n : ℕ) → n < 2 ^ 32 → rules_of false false (codes "any" ∷ codes "pref" ∷ decimal n ∷ codes "accept" ∷ []) ≡ Some (record { condition = Any; actions = Pref n ∷ []; verdict = Accept } ∷ [])
 unfolding rules_of verdict_of setting_of
-rules_told n small = ap (λ o. (o >>= λ m. Some (Pref m)) >>= λ a. behind false Any (a ∷ []) (codes "accept" ∷ [])) (number_told n small)
+rules_told n small = ap (λ o. (o >>= λ m. Some (Pref m)) >>= λ a. behind false false Any (a ∷ []) (codes "accept" ∷ [])) (number_told n small)
 
 filter_told : (k n : ℕ) → IsCount k → n < 2 ^ 32 → event_of plain (codes "filter" ∷ codes "in" ∷ decimal k ∷ codes "any" ∷ codes "pref" ∷ decimal n ∷ codes "accept" ∷ []) ≡ Some (events.FilterIn k (record { condition = Any; actions = Pref n ∷ []; verdict = Accept } ∷ []))
 unfolding event_of named_event filter_of filter_on
 filter_told k n h small =
-    ap (λ o. o >>= λ m. rules_of false (codes "any" ∷ codes "pref" ∷ decimal n ∷ codes "accept" ∷ []) >>= λ rules. Some (events.FilterIn m rules)) (from_one_told k h)
+    ap (λ o. o >>= λ m. rules_of false false (codes "any" ∷ codes "pref" ∷ decimal n ∷ codes "accept" ∷ []) >>= λ rules. Some (events.FilterIn m rules)) (from_one_told k h)
     ∙ ap (λ o. o >>= λ rules. Some (events.FilterIn k rules)) (rules_told n small)
 
 -- the interior route of a host
 abbrev pub host_row : ℕ → Interior
 host_row n = record { proto = Static; gateway = None; iface = codes "eth1"; metric = n }
 
-interior_told : (n : ℕ) → n < 2 ^ 32 → interior_of Static (codes "direct" ∷ codes "eth1" ∷ decimal n ∷ []) ≡ Some (host_row n)
+interior_told : (n : ℕ) → n < 2 ^ 32 → interior_of false Static (codes "direct" ∷ codes "eth1" ∷ decimal n ∷ []) ≡ Some (host_row n)
 unfolding interior_of way_out
 interior_told n small = ap (λ o. o >>= λ m. Some (host_row m)) (number_told n small)
 
-add_told : (p : AddressPrefix) (n : ℕ) → IsPrefix p → n < 2 ^ 32 → event_of plain (codes "route" ∷ codes "add" ∷ codes "static" ∷ prefix_text p ∷ codes "direct" ∷ codes "eth1" ∷ decimal n ∷ []) ≡ Some (events.RouteAdd p (host_row n))
+add_told : (p : AddressPrefix) (n : ℕ) → IsIpv4Prefix p → n < 2 ^ 32 → event_of plain (codes "route" ∷ codes "add" ∷ codes "static" ∷ prefix_text false p ∷ codes "direct" ∷ codes "eth1" ∷ decimal n ∷ []) ≡ Some (events.RouteAdd p (host_row n))
 unfolding event_of named_event plain_event interior_event route_of route_add_of proto_of
 add_told p n h small =
-    ap (λ o. o >>= λ q. interior_of Static (codes "direct" ∷ codes "eth1" ∷ decimal n ∷ []) >>= λ row. Some (events.RouteAdd q row)) (prefix_told p h)
+    ap (λ o. o >>= λ q. interior_of false Static (codes "direct" ∷ codes "eth1" ∷ decimal n ∷ []) >>= λ row. Some (events.RouteAdd q row)) (prefix_told p h)
     ∙ ap (λ o. o >>= λ row. Some (events.RouteAdd p row)) (interior_told n small)
 
-del_told : (p : AddressPrefix) → IsPrefix p → event_of plain (codes "route" ∷ codes "del" ∷ codes "static" ∷ prefix_text p ∷ []) ≡ Some (events.RouteDel Static p)
+del_told : (p : AddressPrefix) → IsIpv4Prefix p → event_of plain (codes "route" ∷ codes "del" ∷ codes "static" ∷ prefix_text false p ∷ []) ≡ Some (events.RouteDel Static p)
 unfolding event_of named_event plain_event interior_event route_of route_del_of proto_of
 del_told p h = ap (λ o. o >>= λ q. Some (events.RouteDel Static q)) (prefix_told p h)
 
@@ -149,7 +150,7 @@ unfolding task_from_parts task_of_two
 rib_told = refl
 
 work_told : (word : List ℕ) (task : Task) (n : ℕ) → task_of word ≡ Some task → n < 2 ^ 32 → event_of plain (codes "work" ∷ word ∷ decimal n ∷ []) ≡ Some (events.Work task n)
-unfolding event_of named_event plain_event work_of
+unfolding event_of named_event plain_event work_of task_named task_from_parts
 work_told word task n told small =
     ap (λ o. o >>= λ t. number_of (decimal n) >>= λ m. Some (events.Work t m)) told
     ∙ ap (λ o. o >>= λ m. Some (events.Work task m)) (number_told n small)
@@ -179,15 +180,15 @@ filter_read k n h small =
     (plain_by (codes "filter") refl, (plain_by (codes "in") refl, (plain_count k h, (plain_by (codes "any") refl, (plain_by (codes "pref") refl, (plain_decimal n small, (plain_by (codes "accept") refl, tt))))))) (omega arith)
     ∙ ap in_grammar (filter_told k n h small)
 
-pub add_read : (p : AddressPrefix) (n : ℕ) → IsPrefix p → n < 2 ^ 32 → read_event plain (join_with_byte 32 (codes "route" ∷ codes "add" ∷ codes "static" ∷ prefix_text p ∷ codes "direct" ∷ codes "eth1" ∷ decimal n ∷ [])) ≡ Ok (events.RouteAdd p (host_row n))
+pub add_read : (p : AddressPrefix) (n : ℕ) → IsIpv4Prefix p → n < 2 ^ 32 → read_event plain (join_with_byte 32 (codes "route" ∷ codes "add" ∷ codes "static" ∷ prefix_text false p ∷ codes "direct" ∷ codes "eth1" ∷ decimal n ∷ [])) ≡ Ok (events.RouteAdd p (host_row n))
 add_read p n h small =
-    line_read (codes "route") (codes "add" ∷ codes "static" ∷ prefix_text p ∷ codes "direct" ∷ codes "eth1" ∷ decimal n ∷ [])
+    line_read (codes "route") (codes "add" ∷ codes "static" ∷ prefix_text false p ∷ codes "direct" ∷ codes "eth1" ∷ decimal n ∷ [])
     (plain_by (codes "route") refl, (plain_by (codes "add") refl, (plain_by (codes "static") refl, (plain_prefix p h, (plain_by (codes "direct") refl, (plain_by (codes "eth1") refl, (plain_decimal n small, tt))))))) (omega arith)
     ∙ ap in_grammar (add_told p n h small)
 
-pub del_read : (p : AddressPrefix) → IsPrefix p → read_event plain (join_with_byte 32 (codes "route" ∷ codes "del" ∷ codes "static" ∷ prefix_text p ∷ [])) ≡ Ok (events.RouteDel Static p)
+pub del_read : (p : AddressPrefix) → IsIpv4Prefix p → read_event plain (join_with_byte 32 (codes "route" ∷ codes "del" ∷ codes "static" ∷ prefix_text false p ∷ [])) ≡ Ok (events.RouteDel Static p)
 del_read p h =
-    line_read (codes "route") (codes "del" ∷ codes "static" ∷ prefix_text p ∷ [])
+    line_read (codes "route") (codes "del" ∷ codes "static" ∷ prefix_text false p ∷ [])
     (plain_by (codes "route") refl, (plain_by (codes "del") refl, (plain_by (codes "static") refl, (plain_prefix p h, tt)))) (omega arith)
     ∙ ap in_grammar (del_told p h)
 

@@ -11,7 +11,7 @@ use Rattle.addr4.specs.Prefixes.{AddressPrefix}
 use Rattle.addr4.specs.Texts.{dotted, addr_text, prefix_text, id_text}
 use Rattle.policy_rules.specs.Words.{is_word, words_among, words}
 use Rattle.journal_text.specs.declared.line.Code.TheVariants.{E1}
-use Rattle.journal_check.specs.Laws.{IsPrefix}
+use Rattle.addr4.specs.Families.{IsIpv4Prefix}
 use Rattle.journal_check.proofs.InkLemmas.{AreInk, inky, both_true, ink_by, ink_decimal, ink_hex, words_parted, line_passes, printable}
 use Rattle.journal_check.proofs.PrefixBack.{ink_prefix}
 use Rattle.event_text.specs.Words.{is_clean}
@@ -67,19 +67,19 @@ id_short : (a : ℕ) → length (id_text a) ≤ 15
 unfolding id_text
 id_short a = dotted_short (a / 16777216 % 256) (a / 65536 % 256) (a / 256 % 256) (a % 256) (omega arith) (omega arith) (omega arith) (omega arith)
 
-addr_short : (a : ℕ) → length (addr_text a) ≤ 15
+addr_short : (a : ℕ) → length (addr_text false a) ≤ 15
 addr_short a = id_short (a / 2 ^ 96)
 
-prefix_short : (p : AddressPrefix) → p.length ≤ 32 → length (prefix_text p) ≤ 200
+prefix_short : (p : AddressPrefix) → p.length ≤ 32 → length (prefix_text false p) ≤ 200
 unfolding prefix_text
-prefix_short p short = omega (arith, addr_short p.address, octet_short p.length (omega arith), length-append (addr_text p.address) (47 ∷ decimal p.length))
+prefix_short p short = omega (arith, addr_short p.address, octet_short p.length (omega arith), length-append (addr_text false p.address) (47 ∷ decimal p.length))
 
-prefix_some : (p : AddressPrefix) → 0 < length (prefix_text p)
+prefix_some : (p : AddressPrefix) → 0 < length (prefix_text false p)
 unfolding prefix_text
-prefix_some p = omega (arith, length-append (addr_text p.address) (47 ∷ decimal p.length))
+prefix_some p = omega (arith, length-append (addr_text false p.address) (47 ∷ decimal p.length))
 
-pub plain_prefix : (p : AddressPrefix) → IsPrefix p → IsPlain (prefix_text p)
-plain_prefix p h = record { ink = ink_prefix p h; some = prefix_some p; short = prefix_short p h.short }
+pub plain_prefix : (p : AddressPrefix) → IsIpv4Prefix p → IsPlain (prefix_text false p)
+plain_prefix p h = record { ink = ink_prefix false p h; some = prefix_some p; short = prefix_short p h.short }
 
 -- ---- lines
 

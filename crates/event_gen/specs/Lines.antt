@@ -9,7 +9,7 @@ use Rattle.addr4.specs.Families.{in_front}
 use Rattle.bgp_attr.specs.Attributes.{Attrs}
 use Rattle.bgp_attr.specs.declared.attrs.Origin as origins
 use Rattle.bgp_attr.specs.declared.path.SegmentKind.TheVariants.{Sequence}
-use Rattle.bgp_wire.specs.Readable.{announcement, withdrawal}
+use Rattle.bgp_wire.specs.Readable.{announcing, withdrawing}
 use Rattle.bgp_wire.specs.Spelling.{update_octets}
 use Rattle.event_gen.specs.Events.{events_from}
 use Rattle.event_gen.specs.declared.drawn.Work.{Work}
@@ -53,11 +53,11 @@ announced k origin med = record {
 
 -- the UPDATE that announces the prefix 10.X.0.0/16, AS numbers in two octets
 abbrev pub announce_octets : ℕ → ℕ → origins.Origin → ℕ → List ℕ
-announce_octets k x origin med = update_octets false (announcement (block x) (announced k origin med))
+announce_octets k x origin med = update_octets false false (announcing (block x) (announced k origin med))
 
 -- the UPDATE that withdraws it
 abbrev pub withdraw_octets : ℕ → List ℕ
-withdraw_octets x = update_octets false (withdrawal (block x))
+withdraw_octets x = update_octets false false (withdrawing (block x))
 
 -- ---- lines
 
@@ -78,8 +78,8 @@ event_words (drawn.Withdraw k x) = codes "bgp" ∷ decimal k ∷ encode_lower (w
 event_words (drawn.Down k) = codes "down" ∷ decimal k ∷ []
 event_words (drawn.Up k) = codes "up" ∷ decimal k ∷ []
 event_words (drawn.Prefer k n) = codes "filter" ∷ codes "in" ∷ decimal k ∷ codes "any" ∷ codes "pref" ∷ decimal n ∷ codes "accept" ∷ []
-event_words (drawn.AddHost k n) = codes "route" ∷ codes "add" ∷ codes "static" ∷ prefix_text (host k) ∷ codes "direct" ∷ codes "eth1" ∷ decimal n ∷ []
-event_words (drawn.DeleteHost k) = codes "route" ∷ codes "del" ∷ codes "static" ∷ prefix_text (host k) ∷ []
+event_words (drawn.AddHost k n) = codes "route" ∷ codes "add" ∷ codes "static" ∷ prefix_text false (host k) ∷ codes "direct" ∷ codes "eth1" ∷ decimal n ∷ []
+event_words (drawn.DeleteHost k) = codes "route" ∷ codes "del" ∷ codes "static" ∷ prefix_text false (host k) ∷ []
 event_words (drawn.Work task n) = codes "work" ∷ work_text task ∷ decimal n ∷ []
 event_words drawn.Idle = codes "idle" ∷ []
 

@@ -6,7 +6,7 @@ use Rattle.journal_text.specs.declared.link.Task.TheVariants.{Fin, Nh, ReadRib, 
 use Rattle.policy_rules.specs.declared.rule.Condition.TheVariants.{Any}
 use Rattle.policy_rules.specs.declared.rule.Action.TheVariants.{Pref}
 use Rattle.policy_rules.specs.declared.rule.Verdict.TheVariants.{Accept}
-use Rattle.event_text.specs.declared.event.Event.{Event}
+use Rattle.event_text.specs.Event.{Event}
 use Rattle.event_text.specs.declared.event.Event.TheVariants as events
 use Rattle.event_text.specs.Events.{read_event}
 use Rattle.event_text.specs.Declarations.{plain}

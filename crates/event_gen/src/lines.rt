@@ -1,6 +1,6 @@
 //! The lines of events.
 
-ghost use Rattle.std.specs.Prelude.{◌≡◌, ◌++◌, ◌∷◌, [], ◌<◌, OnOk, IfOk, codes};
+ghost use Rattle.std.specs.Prelude.{◌≡◌, ◌++◌, ◌∷◌, [], ◌<◌, OnOk, IfOk, false, codes};
 ghost use Rattle.std.specs.List.{join_with_byte};
 ghost use Rattle.std.specs.Fmt.{decimal};
 ghost use Rattle.hex.specs.Hex.{encode_lower};
@@ -18,6 +18,8 @@ const PROFILE: Profile = Profile {
     as4: false,
     revised: false,
     reflect: false,
+    v6: false,
+    second: false,
 };
 
 /// 10.0.0.0
@@ -138,7 +140,7 @@ fn push_filter(out: &mut Vec<u8>, peer: u8, pref: u8) -> Result<(), Memory>
 
 /// A text and the prefix 192.0.2.K/32.
 fn push_host(out: &mut Vec<u8>, text: &[u8], peer: u8) -> Result<(), Memory>
-    ensures { OnOk result (out.new.items ≡ out.old.items ++ (text.now ++ prefix_text (host peer))) }
+    ensures { OnOk result (out.new.items ≡ out.old.items ++ (text.now ++ prefix_text false (host peer))) }
 {
     push_text(out, text)?;
     push_prefix(out, host(peer))
@@ -146,7 +148,7 @@ fn push_host(out: &mut Vec<u8>, text: &[u8], peer: u8) -> Result<(), Memory>
 
 /// `route add static 192.0.2.K/32 direct eth1 N`
 fn push_route_add(out: &mut Vec<u8>, peer: u8, metric: u8) -> Result<(), Memory>
-    ensures { OnOk result (out.new.items ≡ out.old.items ++ join_with_byte 32 (codes "route" ∷ codes "add" ∷ codes "static" ∷ prefix_text (host peer) ∷ codes "direct" ∷ codes "eth1" ∷ decimal metric ∷ [])) }
+    ensures { OnOk result (out.new.items ≡ out.old.items ++ join_with_byte 32 (codes "route" ∷ codes "add" ∷ codes "static" ∷ prefix_text false (host peer) ∷ codes "direct" ∷ codes "eth1" ∷ decimal metric ∷ [])) }
 {
     push_host(out, b"route add static ", peer)?;
     push_numbered(out, b" direct eth1 ", metric)
@@ -154,7 +156,7 @@ fn push_route_add(out: &mut Vec<u8>, peer: u8, metric: u8) -> Result<(), Memory>
 
 /// `route del static 192.0.2.K/32`
 fn push_route_del(out: &mut Vec<u8>, peer: u8) -> Result<(), Memory>
-    ensures { OnOk result (out.new.items ≡ out.old.items ++ join_with_byte 32 (codes "route" ∷ codes "del" ∷ codes "static" ∷ prefix_text (host peer) ∷ [])) }
+    ensures { OnOk result (out.new.items ≡ out.old.items ++ join_with_byte 32 (codes "route" ∷ codes "del" ∷ codes "static" ∷ prefix_text false (host peer) ∷ [])) }
 {
     push_host(out, b"route del static ", peer)
 }

@@ -7,21 +7,21 @@ use Rattle.event_text.specs.declared.event.Event.TheVariants as events
 use Rattle.event_text.specs.declared.declared.DeclaredPeer.{DeclaredPeer}
 use Rattle.bgp_attr.specs.Speakers.{IsSpeaker, IsNeighbourOf}
 use Rattle.event_text.specs.WellFormed.{IsWellFormed}
-use Rattle.event_text.specs.Declarations.{Declaration, peer_at, has_addr, refusal, words_of, with_profile, with_speaker, with_peer, with_session, without_session, begun_at, ended_at, IsPeerOf, ArePeersOf, HaveOwnAddrs, AreDeclared, IsDeclaredBy, IsDeclaration}
+use Rattle.event_text.specs.Declarations.{Declaration, peer_at, has_addr, to_peers, refusal, words_of, with_profile, with_speaker, with_peer, with_session, without_session, begun_at, ended_at, IsPeerOf, ArePeersOf, HaveOwnAddrs, AreDeclared, IsDeclaredBy, IsDeclaration}
 use Rattle.event_text.proofs.Sessions.{Addable, addable_by, counted_push, KeepsWords, begun_words, ended_words, counted_begun, counted_ended}
 
 -- ---- `as4`, `revised` and `reflect`
 pub profile_kept : (d : Declaration) (profile : Profile) → IsDeclaration d → d.speaker ≡ None → IsDeclaration (with_profile d profile)
 profile_kept d profile declared none =
-    subst (λ o. IsDeclaredBy profile o d.peers) (sym none) (subst (λ o. IsDeclaredBy d.profile o d.peers) none declared)
+    subst (λ o. IsDeclaredBy d.v6 profile o d.peers) (sym none) (subst (λ o. IsDeclaredBy d.v6 d.profile o d.peers) none declared)
 
 -- ---- `local`
-pub speaker_kept : (d : Declaration) (s : Speaker) → IsDeclaration d → refusal d (events.Local s) ≡ None → IsSpeaker d.profile.as4 s → IsDeclaration (with_speaker d s)
+pub speaker_kept : (d : Declaration) (s : Speaker) → IsDeclaration d → refusal d (events.Local s) ≡ None → IsSpeaker d.v6 d.profile.as4 s → IsDeclaration (with_speaker d s)
 unfolding refusal
 speaker_kept d s declared refused ok = by_speaker d.speaker d.peers declared refused
   where
-    by_speaker : (o : Option Speaker) (peers : List DeclaredPeer) → IsDeclaredBy d.profile o peers → refusal (record { profile = d.profile; speaker = o; peers = peers }) (events.Local s) ≡ None → AreDeclared d.profile s peers
-    by_speaker None peers none refused = subst (AreDeclared d.profile s) (sym none) (record { speaker = ok; each = tt; counted = tt; addrs = tt })
+    by_speaker : (o : Option Speaker) (peers : List DeclaredPeer) → IsDeclaredBy d.v6 d.profile o peers → refusal (record { v6 = d.v6; profile = d.profile; speaker = o; peers = peers }) (events.Local s) ≡ None → AreDeclared d.v6 d.profile s peers
+    by_speaker None peers none refused = subst (AreDeclared d.v6 d.profile s) (sym none) (record { speaker = ok; each = tt; counted = tt; addrs = tt })
     by_speaker (Some local) peers declared refused = absurd (cc)
 
 -- ---- `peer`
@@ -48,10 +48,10 @@ addrs_push (p ∷ ps) q own none =
     let o = or_false (nat_eq p.words.addr q.words.addr) (has_addr q.words.addr ps) none in
     (addr_push p.words.addr ps q own.0 (other_way p.words.addr q.words.addr o.0), addrs_push ps q own.1 o.1)
 
-peer_added : (profile : Profile) (local : Speaker) (peers : List DeclaredPeer) (k : ℕ) (s : Speaker) (client : Bool) → AreDeclared profile local peers → Addable local peers k s client → IsWellFormed profile (events.Peer k s client) → AreDeclared profile local (peers ++ record { words = words_of (Some local) k s client; session = 0; up = false } ∷ [])
-peer_added profile local peers k s client declared a ok =
+peer_added : (v6 : Bool) (profile : Profile) (local : Speaker) (peers : List DeclaredPeer) (k : ℕ) (s : Speaker) (client : Bool) → AreDeclared v6 profile local peers → Addable (to_peers v6 local) peers k s client → IsWellFormed v6 profile (events.Peer k s client) → AreDeclared v6 profile local (peers ++ record { words = words_of (Some local) k s client; session = 0; up = false } ∷ [])
+peer_added v6 profile local peers k s client declared a ok =
     let q : DeclaredPeer = record { words = words_of (Some local) k s client; session = 0; up = false } in
-    let words : IsNeighbourOf profile local q.words =
+    let words : IsNeighbourOf profile (to_peers v6 local) q.words =
     record {
       neighbour = record { least = ok.0.least; most = a.few; speaker = ok.1 };
       internal = refl;
@@ -61,18 +61,18 @@ peer_added profile local peers k s client declared a ok =
     } in
     record {
       speaker = declared.speaker;
-      each = peers_push profile local peers q declared.each (record { words = words; begun = λ up. absurd (cc) });
+      each = peers_push profile (to_peers v6 local) peers q declared.each (record { words = words; begun = λ up. absurd (cc) });
       counted = counted_push peers q declared.counted a.absent (omega arith);
       addrs = addrs_push peers q declared.addrs a.new;
     }
 
-pub peer_kept : (d : Declaration) (k : ℕ) (s : Speaker) (client : Bool) → IsDeclaration d → refusal d (events.Peer k s client) ≡ None → IsWellFormed d.profile (events.Peer k s client) → IsDeclaration (with_peer d k s client)
+pub peer_kept : (d : Declaration) (k : ℕ) (s : Speaker) (client : Bool) → IsDeclaration d → refusal d (events.Peer k s client) ≡ None → IsWellFormed d.v6 d.profile (events.Peer k s client) → IsDeclaration (with_peer d k s client)
 unfolding refusal
 peer_kept d k s client declared refused ok = by_speaker d.speaker d.peers declared refused
   where
-    by_speaker : (o : Option Speaker) (peers : List DeclaredPeer) → IsDeclaredBy d.profile o peers → refusal (record { profile = d.profile; speaker = o; peers = peers }) (events.Peer k s client) ≡ None → IsDeclaredBy d.profile o (peers ++ record { words = words_of o k s client; session = 0; up = false } ∷ [])
+    by_speaker : (o : Option Speaker) (peers : List DeclaredPeer) → IsDeclaredBy d.v6 d.profile o peers → refusal (record { v6 = d.v6; profile = d.profile; speaker = o; peers = peers }) (events.Peer k s client) ≡ None → IsDeclaredBy d.v6 d.profile o (peers ++ record { words = words_of o k s client; session = 0; up = false } ∷ [])
     by_speaker None peers declared refused = absurd (cc)
-    by_speaker (Some local) peers declared refused = peer_added d.profile local peers k s client declared (addable_by local peers k s client refused) ok
+    by_speaker (Some local) peers declared refused = peer_added d.v6 d.profile local peers k s client declared (addable_by d.v6 local peers k s client refused) ok
 
 -- ---- `up` and `down`
 KeepsBegun : (DeclaredPeer → DeclaredPeer) → Type 0
@@ -110,25 +110,25 @@ ended_begun k p h = by_test (nat_eq p.words.number k)
 pub session_kept : (d : Declaration) (k : ℕ) → IsDeclaration d → refusal d (events.Up k) ≡ None → IsDeclaration (with_session d k)
 session_kept d k declared refused = by_speaker d.speaker d.peers declared refused
   where
-    by_speaker : (o : Option Speaker) (peers : List DeclaredPeer) → IsDeclaredBy d.profile o peers → refusal (record { profile = d.profile; speaker = o; peers = peers }) (events.Up k) ≡ None → IsDeclaredBy d.profile o (map (begun_at k) peers)
+    by_speaker : (o : Option Speaker) (peers : List DeclaredPeer) → IsDeclaredBy d.v6 d.profile o peers → refusal (record { v6 = d.v6; profile = d.profile; speaker = o; peers = peers }) (events.Up k) ≡ None → IsDeclaredBy d.v6 d.profile o (map (begun_at k) peers)
     by_speaker None peers none refused = ap (map (begun_at k)) none
     by_speaker (Some local) peers declared refused =
         record {
           speaker = declared.speaker;
-          each = peers_map (begun_at k) (begun_words k) (begun_begun k) d.profile local peers declared.each;
-          counted = counted_begun d.profile (Some local) peers k declared.counted refused;
+          each = peers_map (begun_at k) (begun_words k) (begun_begun k) d.profile (to_peers d.v6 local) peers declared.each;
+          counted = counted_begun d.v6 d.profile (Some local) peers k declared.counted refused;
           addrs = addrs_map (begun_at k) (begun_words k) peers declared.addrs;
         }
 
 pub end_kept : (d : Declaration) (k : ℕ) → IsDeclaration d → IsDeclaration (without_session d k)
 end_kept d k declared = by_speaker d.speaker d.peers declared
   where
-    by_speaker : (o : Option Speaker) (peers : List DeclaredPeer) → IsDeclaredBy d.profile o peers → IsDeclaredBy d.profile o (map (ended_at k) peers)
+    by_speaker : (o : Option Speaker) (peers : List DeclaredPeer) → IsDeclaredBy d.v6 d.profile o peers → IsDeclaredBy d.v6 d.profile o (map (ended_at k) peers)
     by_speaker None peers none = ap (map (ended_at k)) none
     by_speaker (Some local) peers declared =
         record {
           speaker = declared.speaker;
-          each = peers_map (ended_at k) (ended_words k) (ended_begun k) d.profile local peers declared.each;
+          each = peers_map (ended_at k) (ended_words k) (ended_begun k) d.profile (to_peers d.v6 local) peers declared.each;
           counted = counted_ended peers k declared.counted;
           addrs = addrs_map (ended_at k) (ended_words k) peers declared.addrs;
         }

@@ -8,7 +8,7 @@ use Rattle.bgp_attr.specs.declared.speaker.Profile.{Profile}
 use Rattle.journal_text.specs.declared.line.Code.TheVariants.{E3, E6, E8}
 use Rattle.event_text.specs.declared.event.Event.TheVariants as events
 use Rattle.event_text.specs.declared.declared.DeclaredPeer.{DeclaredPeer}
-use Rattle.event_text.specs.Declarations.{peer_at, has_addr, is_taken, refusal, refusal_by, IsCounted, begun_at, ended_at, session_refusal}
+use Rattle.event_text.specs.Declarations.{peer_at, has_addr, is_taken, to_peers, peer_refusal, refusal, refusal_by, IsCounted, begun_at, ended_at, session_refusal}
 
 pub All-from_counted : (ps : List DeclaredPeer) → IsCounted ps → All (λ p. p.session ≤ 65535) ps
 All-from_counted [] counted k d below = absurd (omega arith)
@@ -47,8 +47,8 @@ pub record Addable (local : Speaker) (peers : List DeclaredPeer) (k : ℕ) (word
   pub foreign : nat_eq local.addr words.addr ≡ false
   pub own : client ≡ true → nat_eq local.asn words.asn ≡ true
 
-pub addable_by : (local : Speaker) (peers : List DeclaredPeer) (k : ℕ) (words : Speaker) (client : Bool) → refusal_by local peers (events.Peer k words client) ≡ None → Addable local peers k words client
-addable_by local peers k words client e =
+by_words : (local : Speaker) (peers : List DeclaredPeer) (k : ℕ) (words : Speaker) (client : Bool) → peer_refusal local peers k words client ≡ None → Addable local peers k words client
+by_words local peers k words client e =
     let t = three_tests (is_taken local peers k words) (client && not (nat_eq local.asn words.asn)) (nat_le k 64) e in
     let rest = right_false (not (is_none (peer_at k peers))) (has_addr words.addr peers || nat_eq local.addr words.addr) t.0 in
     record {
@@ -59,10 +59,13 @@ addable_by local peers k words client e =
       own = of_own client (nat_eq local.asn words.asn) t.1;
     }
 
-pub addable : (profile : Profile) (speaker : Option Speaker) (peers : List DeclaredPeer) (k : ℕ) (words : Speaker) (client : Bool) → refusal (record { profile = profile; speaker = speaker; peers = peers }) (events.Peer k words client) ≡ None → (k ≤ 64) × (peer_at k peers ≡ None)
+pub addable_by : (v6 : Bool) (local : Speaker) (peers : List DeclaredPeer) (k : ℕ) (words : Speaker) (client : Bool) → refusal_by v6 local peers (events.Peer k words client) ≡ None → Addable (to_peers v6 local) peers k words client
+addable_by v6 local peers k words client e = by_words (to_peers v6 local) peers k words client e
+
+pub addable : (v6 : Bool) (profile : Profile) (speaker : Option Speaker) (peers : List DeclaredPeer) (k : ℕ) (words : Speaker) (client : Bool) → refusal (record { v6 = v6; profile = profile; speaker = speaker; peers = peers }) (events.Peer k words client) ≡ None → (k ≤ 64) × (peer_at k peers ≡ None)
 unfolding refusal
-addable profile None peers k words client e = absurd (cc)
-addable profile (Some local) peers k words client e = let a = addable_by local peers k words client e in (a.few, a.absent)
+addable v6 profile None peers k words client e = absurd (cc)
+addable v6 profile (Some local) peers k words client e = let a = addable_by v6 local peers k words client e in (a.few, a.absent)
 
 pub missed : (b : Bool) (p : DeclaredPeer) (o : Option DeclaredPeer) → cond b (Some p) o ≡ None → (b ≡ false) × (o ≡ None)
 missed true p o e = absurd (cc)
@@ -168,10 +171,10 @@ low_ended k [] counted = tt
 low_ended k (p ∷ ps) counted = (ended_low (nat_eq p.words.number k) p counted.0, low_ended k ps counted.2)
 
 -- ---- what stays true of the peers
-pub counted_begun : (profile : Profile) (speaker : Option Speaker) (peers : List DeclaredPeer) (k : ℕ) → IsCounted peers → refusal (record { profile = profile; speaker = speaker; peers = peers }) (events.Up k) ≡ None → IsCounted (map (begun_at k) peers)
+pub counted_begun : (v6 : Bool) (profile : Profile) (speaker : Option Speaker) (peers : List DeclaredPeer) (k : ℕ) → IsCounted peers → refusal (record { v6 = v6; profile = profile; speaker = speaker; peers = peers }) (events.Up k) ≡ None → IsCounted (map (begun_at k) peers)
 unfolding refusal
-counted_begun profile None peers k counted e = absurd (cc)
-counted_begun profile (Some local) peers k counted e = counted_map (begun_at k) (begun_words k) peers counted (low_begun k peers counted (may_begin k peers counted e))
+counted_begun v6 profile None peers k counted e = absurd (cc)
+counted_begun v6 profile (Some local) peers k counted e = counted_map (begun_at k) (begun_words k) peers counted (low_begun k peers counted (may_begin k peers counted e))
 
 pub counted_ended : (peers : List DeclaredPeer) (k : ℕ) → IsCounted peers → IsCounted (map (ended_at k) peers)
 counted_ended peers k counted = counted_map (ended_at k) (ended_words k) peers counted (low_ended k peers counted)

@@ -8,6 +8,7 @@ use Rattle.journal_text.specs.Names.{proto_of}
 use Rattle.policy_rules.specs.Words.{words}
 use Rattle.bgp_attr.specs.declared.speaker.Profile.{Profile}
 use Rattle.event_text.specs.Words.{speaker_of, client_of, way_out}
+use Rattle.event_text.specs.FileEvents.{local6_of}
 use Rattle.event_text.specs.Events.{one_number, bgp_of, route_del_of, lost_of, redist_of, cover_of, work_of, ask_of, show_of, settled_of}
 
 four : (as4 : Bool) (a b c : List ℕ) (more : List (List ℕ)) → nat_eq (length more) 0 ≡ false → speaker_of as4 (a ∷ b ∷ c ∷ more) ≡ None
@@ -34,21 +35,21 @@ behind_octets a b (d ∷ more) some = refl
 pub no_word_behind_octets : (a b r : List ℕ) → nat_eq (length (words r)) 0 ≡ false → bgp_of (a ∷ b ∷ words r) ≡ None
 no_word_behind_octets a b r some = behind_octets a b (words r) some
 
-behind_turns : (a b : List ℕ) (more : List (List ℕ)) → nat_eq (length more) 0 ≡ false → work_of (a ∷ b ∷ more) ≡ None
+behind_turns : (v6 : Bool) (a b : List ℕ) (more : List (List ℕ)) → nat_eq (length more) 0 ≡ false → work_of v6 (a ∷ b ∷ more) ≡ None
 unfolding work_of
-behind_turns a b [] some = absurd (cc)
-behind_turns a b (d ∷ more) some = refl
+behind_turns v6 a b [] some = absurd (cc)
+behind_turns v6 a b (d ∷ more) some = refl
 
-pub no_word_behind_turns : (a b r : List ℕ) → nat_eq (length (words r)) 0 ≡ false → work_of (a ∷ b ∷ words r) ≡ None
-no_word_behind_turns a b r some = behind_turns a b (words r) some
+pub no_word_behind_turns : (v6 : Bool) (a b r : List ℕ) → nat_eq (length (words r)) 0 ≡ false → work_of v6 (a ∷ b ∷ words r) ≡ None
+no_word_behind_turns v6 a b r some = behind_turns v6 a b (words r) some
 
-behind_prefix : (a b : List ℕ) (more : List (List ℕ)) → nat_eq (length more) 0 ≡ false → ask_of (a ∷ b ∷ more) ≡ None
+behind_prefix : (v6 : Bool) (a b : List ℕ) (more : List (List ℕ)) → nat_eq (length more) 0 ≡ false → ask_of v6 (a ∷ b ∷ more) ≡ None
 unfolding ask_of
-behind_prefix a b [] some = absurd (cc)
-behind_prefix a b (d ∷ more) some = refl
+behind_prefix v6 a b [] some = absurd (cc)
+behind_prefix v6 a b (d ∷ more) some = refl
 
-pub no_word_behind_prefix : (a b r : List ℕ) → nat_eq (length (words r)) 0 ≡ false → ask_of (a ∷ b ∷ words r) ≡ None
-no_word_behind_prefix a b r some = behind_prefix a b (words r) some
+pub no_word_behind_prefix : (v6 : Bool) (a b r : List ℕ) → nat_eq (length (words r)) 0 ≡ false → ask_of v6 (a ∷ b ∷ words r) ≡ None
+no_word_behind_prefix v6 a b r some = behind_prefix v6 a b (words r) some
 
 behind_number : (a : List ℕ) (more : List (List ℕ)) → nat_eq (length more) 0 ≡ false → one_number (a ∷ more) ≡ None
 unfolding one_number
@@ -58,13 +59,13 @@ behind_number a (d ∷ more) some = refl
 pub no_word_behind_number : (a r : List ℕ) → nat_eq (length (words r)) 0 ≡ false → one_number (a ∷ words r) ≡ None
 no_word_behind_number a r some = behind_number a (words r) some
 
-behind_link : (a : List ℕ) (more : List (List ℕ)) → nat_eq (length more) 0 ≡ false → show_of (a ∷ more) ≡ None
+behind_link : (v6 : Bool) (a : List ℕ) (more : List (List ℕ)) → nat_eq (length more) 0 ≡ false → show_of v6 (a ∷ more) ≡ None
 unfolding show_of
-behind_link a [] some = absurd (cc)
-behind_link a (d ∷ more) some = refl
+behind_link v6 a [] some = absurd (cc)
+behind_link v6 a (d ∷ more) some = refl
 
-pub no_word_behind_link : (a r : List ℕ) → nat_eq (length (words r)) 0 ≡ false → show_of (a ∷ words r) ≡ None
-no_word_behind_link a r some = behind_link a (words r) some
+pub no_word_behind_link : (v6 : Bool) (a r : List ℕ) → nat_eq (length (words r)) 0 ≡ false → show_of v6 (a ∷ words r) ≡ None
+no_word_behind_link v6 a r some = behind_link v6 a (words r) some
 
 behind_metric : (proto : Proto) (gateway : Option ℕ) (a b : List ℕ) (more : List (List ℕ)) → nat_eq (length more) 0 ≡ false → way_out proto gateway (a ∷ b ∷ more) ≡ None
 unfolding way_out
@@ -74,13 +75,13 @@ behind_metric proto gateway a b (d ∷ more) some = refl
 pub no_word_behind_metric : (proto : Proto) (gateway : Option ℕ) (a b r : List ℕ) → nat_eq (length (words r)) 0 ≡ false → way_out proto gateway (a ∷ b ∷ words r) ≡ None
 no_word_behind_metric proto gateway a b r some = behind_metric proto gateway a b (words r) some
 
-behind_route : (a b : List ℕ) (more : List (List ℕ)) → nat_eq (length more) 0 ≡ false → route_del_of (a ∷ b ∷ more) ≡ None
+behind_route : (v6 : Bool) (a b : List ℕ) (more : List (List ℕ)) → nat_eq (length more) 0 ≡ false → route_del_of v6 (a ∷ b ∷ more) ≡ None
 unfolding route_del_of
-behind_route a b [] some = absurd (cc)
-behind_route a b (d ∷ more) some = refl
+behind_route v6 a b [] some = absurd (cc)
+behind_route v6 a b (d ∷ more) some = refl
 
-pub no_word_behind_route : (a b r : List ℕ) → nat_eq (length (words r)) 0 ≡ false → route_del_of (a ∷ b ∷ words r) ≡ None
-no_word_behind_route a b r some = behind_route a b (words r) some
+pub no_word_behind_route : (v6 : Bool) (a b r : List ℕ) → nat_eq (length (words r)) 0 ≡ false → route_del_of v6 (a ∷ b ∷ words r) ≡ None
+no_word_behind_route v6 a b r some = behind_route v6 a b (words r) some
 
 behind_protocol : (a : List ℕ) (more : List (List ℕ)) → nat_eq (length more) 0 ≡ false → lost_of (a ∷ more) ≡ None
 unfolding lost_of
@@ -98,21 +99,29 @@ behind_switch a b (d ∷ more) some = refl
 pub no_word_behind_switch : (a b r : List ℕ) → nat_eq (length (words r)) 0 ≡ false → redist_of (a ∷ b ∷ words r) ≡ None
 no_word_behind_switch a b r some = behind_switch a b (words r) some
 
-behind_addr : (a : List ℕ) (more : List (List ℕ)) → nat_eq (length more) 0 ≡ false → cover_of (a ∷ more) ≡ None
+behind_addr : (v6 : Bool) (a : List ℕ) (more : List (List ℕ)) → nat_eq (length more) 0 ≡ false → cover_of v6 (a ∷ more) ≡ None
 unfolding cover_of
-behind_addr a [] some = absurd (cc)
-behind_addr a (d ∷ more) some = refl
+behind_addr v6 a [] some = absurd (cc)
+behind_addr v6 a (d ∷ more) some = refl
 
-pub no_word_behind_addr : (a r : List ℕ) → nat_eq (length (words r)) 0 ≡ false → cover_of (a ∷ words r) ≡ None
-no_word_behind_addr a r some = behind_addr a (words r) some
+pub no_word_behind_addr : (v6 : Bool) (a r : List ℕ) → nat_eq (length (words r)) 0 ≡ false → cover_of v6 (a ∷ words r) ≡ None
+no_word_behind_addr v6 a r some = behind_addr v6 a (words r) some
 
-behind_one_prefix : (a : List ℕ) (more : List (List ℕ)) → nat_eq (length more) 0 ≡ false → settled_of (a ∷ more) ≡ None
+behind_one_prefix : (v6 : Bool) (a : List ℕ) (more : List (List ℕ)) → nat_eq (length more) 0 ≡ false → settled_of v6 (a ∷ more) ≡ None
 unfolding settled_of
-behind_one_prefix a [] some = absurd (cc)
-behind_one_prefix a (d ∷ more) some = refl
+behind_one_prefix v6 a [] some = absurd (cc)
+behind_one_prefix v6 a (d ∷ more) some = refl
 
-pub no_word_behind_one_prefix : (a r : List ℕ) → nat_eq (length (words r)) 0 ≡ false → settled_of (a ∷ words r) ≡ None
-no_word_behind_one_prefix a r some = behind_one_prefix a (words r) some
+pub no_word_behind_one_prefix : (v6 : Bool) (a r : List ℕ) → nat_eq (length (words r)) 0 ≡ false → settled_of v6 (a ∷ words r) ≡ None
+no_word_behind_one_prefix v6 a r some = behind_one_prefix v6 a (words r) some
+
+behind_addr6 : (a : List ℕ) (more : List (List ℕ)) → nat_eq (length more) 0 ≡ false → local6_of (a ∷ more) ≡ None
+unfolding local6_of
+behind_addr6 a [] some = absurd (cc)
+behind_addr6 a (d ∷ more) some = refl
+
+pub no_word_behind_addr6 : (a r : List ℕ) → nat_eq (length (words r)) 0 ≡ false → local6_of (a ∷ words r) ≡ None
+no_word_behind_addr6 a r some = behind_addr6 a (words r) some
 
 -- ---- protocols
 pub protocol_is : (w : List ℕ) → proto_of w ≡ (if bytes_eq w (codes "connected") then Some Connected else if bytes_eq w (codes "static") then Some Static else if bytes_eq w (codes "ospf") then Some Ospf else if bytes_eq w (codes "rip") then Some Rip else None)

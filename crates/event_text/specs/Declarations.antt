@@ -1,6 +1,6 @@
 -- What was declared so far, and which events may stand there.
 use Rattle.std.specs.Prelude.{◌≡◌, ℕ, ◌+◌, ◌≤◌, ◌<◌, ◌==◌, nat_le, Bool, true, false, not, ◌&&◌, ◌||◌, if◌then◌else◌, List, [], ◌∷◌, ◌++◌, length, map, Option, Some, None, is_none, refl}
-use Rattle.std.specs.Coded.{Coded, code_by, coded×, coded_option, coded_list}
+use Rattle.std.specs.Coded.{Coded, code_by, coded×, coded_bool, coded_option, coded_list}
 use Rattle.bgp_attr.specs.Speakers.{Speaker}
 use Rattle.bgp_attr.specs.declared.speaker.Neighbour.{Neighbour}
 use Rattle.bgp_attr.specs.declared.speaker.Profile.{Profile}
@@ -11,39 +11,47 @@ use Rattle.journal_text.specs.declared.link.Task.{Task}
 use Rattle.journal_text.specs.declared.link.Task.TheVariants.{Del, Fin, Nh, ReadRib, Out, Rdel, Red, Ext, Ref}
 use Rattle.journal_text.specs.declared.line.Code.{Code}
 use Rattle.journal_text.specs.declared.line.Code.TheVariants.{E3, E4, E5, E6, E7, E8}
-use Rattle.event_text.specs.declared.event.Event.{Event}
+use Rattle.event_text.specs.Event.{Event}
 use Rattle.event_text.specs.declared.event.Event.TheVariants.{Nothing, As4, Revised, Reflect, Local, Peer, Up, Down, Bgp, FilterIn, FilterOut, RouteAdd, RouteDel, Lose, Redist, Cover, Settled, Idle, Work, Ask, Show}
 use Rattle.event_text.specs.declared.declared.DeclaredPeer.{DeclaredPeer}
 
--- AS numbers have two octets, errors in attributes are handled by RFC 4271, section 6.3, and this speaker is no route reflector
+-- AS numbers have two octets, errors in attributes are handled by RFC 4271, section 6.3, and this speaker is no route reflector, in the
+-- network of a family: that of IPv6 is there where IPv6 is spoken
+abbrev pub plain_of : Bool → Profile
+plain_of v6 = record { as4 = false; revised = false; reflect = false; v6 = v6; second = v6 }
+
+-- the same in IPv4's, where nothing was said
 abbrev pub plain : Profile
-plain = record { as4 = false; revised = false; reflect = false }
+plain = plain_of false
 
 -- behind `as4`: AS numbers have four octets (RFC 6793)
 abbrev pub with_four_octets : Profile → Profile
-with_four_octets p = record { as4 = true; revised = p.revised; reflect = p.reflect }
+with_four_octets p = record p { as4 = true }
 
 -- behind `revised`: errors in attributes are handled by the revised table (RFC 7606)
 abbrev pub with_revised : Profile → Profile
-with_revised p = record { as4 = p.as4; revised = true; reflect = p.reflect }
+with_revised p = record p { revised = true }
 
 -- behind `reflect`: this speaker is a route reflector (RFC 4456)
 abbrev pub with_reflection : Profile → Profile
-with_reflection p = record { as4 = p.as4; revised = p.revised; reflect = true }
+with_reflection p = record p { reflect = true }
 
--- what holds for the whole file, the words of `local`, and the peers in the order in which they were declared
+-- What one network knows of what was declared: which family it is of, what holds for the whole file, the words of `local`, with the address
+-- of that family, and the peers in the order in which they were declared. Their addresses are IPv4's.
 pub record Declaration : Type 0 where
+  pub v6 : Bool
   pub profile : Profile
   pub speaker : Option Speaker
   pub peers : List DeclaredPeer
 
 abbrev pub declaration_code : Coded Profile → Coded Speaker → Coded DeclaredPeer → Coded Declaration
 declaration_code f s p =
-    code_by (Profile × (Option Speaker × List DeclaredPeer)) (coded× f (coded× (coded_option s) (coded_list p)))
-    (λ d. (d.profile, (d.speaker, d.peers))) (λ q. record { profile = q.0; speaker = q.1.0; peers = q.1.1 }) (λ _. refl)
+    code_by (Bool × (Profile × (Option Speaker × List DeclaredPeer))) (coded× coded_bool (coded× f (coded× (coded_option s) (coded_list p))))
+    (λ d. (d.v6, (d.profile, (d.speaker, d.peers)))) (λ q. record { v6 = q.0; profile = q.1.0; speaker = q.1.1.0; peers = q.1.1.1 }) (λ _. refl)
 
-abbrev pub no_declaration : Declaration
-no_declaration = record { profile = plain; speaker = None; peers = [] }
+-- nothing, in the network of a family
+abbrev pub no_declaration : Bool → Declaration
+no_declaration v6 = record { v6 = v6; profile = plain_of v6; speaker = None; peers = [] }
 
 -- the peer of this number
 abbrev pub peer_at : ℕ → List DeclaredPeer → Option DeclaredPeer
@@ -59,6 +67,10 @@ IsCounted (p ∷ ps) = (p.session ≤ 65535) × (peer_at p.words.number ps ≡ N
 abbrev pub has_addr : ℕ → List DeclaredPeer → Bool
 has_addr addr [] = false
 has_addr addr (p ∷ ps) = p.words.addr == addr || has_addr addr ps
+
+-- this speaker as its peers know it, by an address of IPv4: in IPv6's network it has none, and 0.0.0.0 is no peer's
+abbrev pub to_peers : Bool → Speaker → Speaker
+to_peers v6 local = record local { addr = if v6 then 0 else local.addr }
 
 -- Of what may not be declared twice: the peer's number, its address among the peers', its address as the local one.
 abbrev pub is_taken : Speaker → List DeclaredPeer → ℕ → Speaker → Bool
@@ -121,28 +133,28 @@ peer_refusal local peers k words client =
     else Some E6
 
 -- where `local` was declared: what holds for the whole file is said too late
-abbrev pub refusal_by : Speaker → List DeclaredPeer → Event → Option Code
-refusal_by local peers Nothing = None
-refusal_by local peers As4 = Some E7
-refusal_by local peers Revised = Some E7
-refusal_by local peers Reflect = Some E7
-refusal_by local peers (Local words) = Some E3
-refusal_by local peers (Peer k words client) = peer_refusal local peers k words client
-refusal_by local peers (Up k) = session_refusal (peer_at k peers)
-refusal_by local peers (Down k) = undeclared (peer_at k peers)
-refusal_by local peers (Bgp k octets) = undeclared (peer_at k peers)
-refusal_by local peers (FilterIn k rules) = rules_refusal (length rules) (peer_at k peers)
-refusal_by local peers (FilterOut k rules) = rules_refusal (length rules) (peer_at k peers)
-refusal_by local peers (RouteAdd p row) = None
-refusal_by local peers (RouteDel proto p) = None
-refusal_by local peers (Lose proto) = None
-refusal_by local peers (Redist proto on) = None
-refusal_by local peers (Cover addr) = None
-refusal_by local peers (Settled p) = None
-refusal_by local peers Idle = None
-refusal_by local peers (Work task n) = task_refusal task peers
-refusal_by local peers (Ask link p) = link_refusal link peers
-refusal_by local peers (Show link) = link_refusal link peers
+abbrev pub refusal_by : Bool → Speaker → List DeclaredPeer → Event → Option Code
+refusal_by v6 local peers Nothing = None
+refusal_by v6 local peers As4 = Some E7
+refusal_by v6 local peers Revised = Some E7
+refusal_by v6 local peers Reflect = Some E7
+refusal_by v6 local peers (Local words) = Some E3
+refusal_by v6 local peers (Peer k words client) = peer_refusal (to_peers v6 local) peers k words client
+refusal_by v6 local peers (Up k) = session_refusal (peer_at k peers)
+refusal_by v6 local peers (Down k) = undeclared (peer_at k peers)
+refusal_by v6 local peers (Bgp k octets) = undeclared (peer_at k peers)
+refusal_by v6 local peers (FilterIn k rules) = rules_refusal (length rules) (peer_at k peers)
+refusal_by v6 local peers (FilterOut k rules) = rules_refusal (length rules) (peer_at k peers)
+refusal_by v6 local peers (RouteAdd p row) = None
+refusal_by v6 local peers (RouteDel proto p) = None
+refusal_by v6 local peers (Lose proto) = None
+refusal_by v6 local peers (Redist proto on) = None
+refusal_by v6 local peers (Cover addr) = None
+refusal_by v6 local peers (Settled p) = None
+refusal_by v6 local peers Idle = None
+refusal_by v6 local peers (Work task n) = task_refusal task peers
+refusal_by v6 local peers (Ask link p) = link_refusal link peers
+refusal_by v6 local peers (Show link) = link_refusal link peers
 
 -- before `local`: what holds for the whole file is said once
 abbrev pub refusal_first : Profile → Event → Option Code
@@ -169,12 +181,12 @@ refusal_first profile (Ask link p) = Some E4
 refusal_first profile (Show link) = Some E4
 
 -- why an event may not stand here; none where it may
-abbrev pub refusal_at : Profile → Option Speaker → List DeclaredPeer → Event → Option Code
-refusal_at profile None peers event = refusal_first profile event
-refusal_at profile (Some local) peers event = refusal_by local peers event
+abbrev pub refusal_at : Bool → Profile → Option Speaker → List DeclaredPeer → Event → Option Code
+refusal_at v6 profile None peers event = refusal_first profile event
+refusal_at v6 profile (Some local) peers event = refusal_by v6 local peers event
 
 unfoldable pub refusal : Declaration → Event → Option Code
-refusal d event = refusal_at d.profile d.speaker d.peers event
+refusal d event = refusal_at d.v6 d.profile d.speaker d.peers event
 
 -- the words of a peer, which is internal where its AS is the local one
 abbrev pub is_internal : Option Speaker → ℕ → Bool
@@ -186,15 +198,15 @@ words_of local k s client = record { number = k; asn = s.asn; id = s.id; addr = 
 
 -- after `as4`, `revised` or `reflect`
 abbrev pub with_profile : Declaration → Profile → Declaration
-with_profile d profile = record { profile = profile; speaker = d.speaker; peers = d.peers }
+with_profile d profile = record d { profile = profile }
 
 -- after `local`
 abbrev pub with_speaker : Declaration → Speaker → Declaration
-with_speaker d s = record { profile = d.profile; speaker = Some s; peers = d.peers }
+with_speaker d s = record d { speaker = Some s }
 
 -- after `peer`
 abbrev pub with_peer : Declaration → ℕ → Speaker → Bool → Declaration
-with_peer d k s client = record { profile = d.profile; speaker = d.speaker; peers = d.peers ++ record { words = words_of d.speaker k s client; session = 0; up = false } ∷ [] }
+with_peer d k s client = record d { peers = d.peers ++ record { words = words_of d.speaker k s client; session = 0; up = false } ∷ [] }
 
 -- a peer's next session begins, unless one is up
 abbrev pub begun_at : ℕ → DeclaredPeer → DeclaredPeer
@@ -205,10 +217,10 @@ abbrev pub ended_at : ℕ → DeclaredPeer → DeclaredPeer
 ended_at k p = if p.words.number == k then record { words = p.words; session = p.session; up = false } else p
 
 abbrev pub with_session : Declaration → ℕ → Declaration
-with_session d k = record { profile = d.profile; speaker = d.speaker; peers = map (begun_at k) d.peers }
+with_session d k = record d { peers = map (begun_at k) d.peers }
 
 abbrev pub without_session : Declaration → ℕ → Declaration
-without_session d k = record { profile = d.profile; speaker = d.speaker; peers = map (ended_at k) d.peers }
+without_session d k = record d { peers = map (ended_at k) d.peers }
 
 -- a peer that was declared after `local`; its session counts from 1
 pub record IsPeerOf (profile : Profile) (local : Speaker) (p : DeclaredPeer) : Type 0 where
@@ -224,19 +236,19 @@ abbrev pub HaveOwnAddrs : List DeclaredPeer → Type 0
 HaveOwnAddrs [] = Unit {0}
 HaveOwnAddrs (p ∷ ps) = (has_addr p.words.addr ps ≡ false) × HaveOwnAddrs ps
 
--- What was declared since `local`. Numbers are from 1 to 64, each once; addresses stand once, none is the local one;
--- sessions are at most 65535, and one that is up is at least the first.
-pub record AreDeclared (profile : Profile) (local : Speaker) (peers : List DeclaredPeer) : Type 0 where
-  pub speaker : IsSpeaker profile.as4 local
-  pub each : ArePeersOf profile local peers
+-- What was declared since `local`. Its address is one of the network's family. Numbers are from 1 to 64, each once; addresses stand once,
+-- none is the one by which peers know this speaker; sessions are at most 65535, and one that is up is at least the first.
+pub record AreDeclared (v6 : Bool) (profile : Profile) (local : Speaker) (peers : List DeclaredPeer) : Type 0 where
+  pub speaker : IsSpeaker v6 profile.as4 local
+  pub each : ArePeersOf profile (to_peers v6 local) peers
   pub counted : IsCounted peers
   pub addrs : HaveOwnAddrs peers
 
 -- peers stand only where `local` does
-abbrev pub IsDeclaredBy : Profile → Option Speaker → List DeclaredPeer → Type 0
-IsDeclaredBy profile None peers = peers ≡ []
-IsDeclaredBy profile (Some local) peers = AreDeclared profile local peers
+abbrev pub IsDeclaredBy : Bool → Profile → Option Speaker → List DeclaredPeer → Type 0
+IsDeclaredBy v6 profile None peers = peers ≡ []
+IsDeclaredBy v6 profile (Some local) peers = AreDeclared v6 profile local peers
 
 -- what events can have declared
 abbrev pub IsDeclaration : Declaration → Type 0
-IsDeclaration d = IsDeclaredBy d.profile d.speaker d.peers
+IsDeclaration d = IsDeclaredBy d.v6 d.profile d.speaker d.peers

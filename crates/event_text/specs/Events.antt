@@ -1,18 +1,18 @@
--- The event language, and which line is refused.
-use Rattle.std.specs.Prelude.{ℕ, Bool, if◌then◌else◌, ◌==◌, List, [], ◌∷◌, length, Option, Some, None, Result, Ok, Err, codes, nat_eq}
+-- The event language, and which line is refused: what both networks have, by the family of the words, and what IPv4's has besides.
+use Rattle.std.specs.Prelude.{ℕ, Bool, false, if◌then◌else◌, ◌==◌, List, [], ◌∷◌, length, Option, Some, None, Result, Ok, Err, codes, nat_eq}
 use Rattle.std.specs.Str.{bytes_eq}
 use Rattle.std.specs.List.{starts_with}
 use Rattle.addr4.specs.Texts.{number_of, addr_of, prefix_of}
-use Rattle.journal_text.specs.Names.{proto_of, task_of, link_of}
+use Rattle.journal_text.specs.Names.{proto_of}
 use Rattle.journal_text.specs.declared.line.Code.{Code}
 use Rattle.journal_text.specs.declared.line.Code.TheVariants.{E1, E2}
 use Rattle.bgp_attr.specs.declared.speaker.Profile.{Profile}
 use Rattle.policy_rules.specs.Rules.{Rule}
 use Rattle.policy_rules.specs.Words.{◌>>=◌, words}
 use Rattle.policy_rules.specs.Grammar.{rules_of}
-use Rattle.event_text.specs.declared.event.Event.{Event}
+use Rattle.event_text.specs.Event.{Event}
 use Rattle.event_text.specs.declared.event.Event.TheVariants.{Nothing, As4, Revised, Reflect, Local, Peer, Up, Down, Bgp, FilterIn, FilterOut, RouteAdd, RouteDel, Lose, Redist, Cover, Settled, Idle, Work, Ask, Show}
-use Rattle.event_text.specs.Words.{is_clean, from_one, speaker_by, speaker_of, client_of, octets_of, interior_of, switch_of}
+use Rattle.event_text.specs.Words.{is_clean, from_one, speaker_by, speaker_of, client_of, octets_of, interior_of, switch_of, link_named, task_named}
 
 -- what follows `local`
 unfoldable pub local_of : Bool → List (List ℕ) → Option Event
@@ -48,36 +48,36 @@ filter_on side k rules =
     else None
 
 -- what follows `filter`: a side, a peer's number, and rules, perhaps none
-unfoldable pub filter_of : Bool → List (List ℕ) → Option Event
-filter_of as4 (side ∷ k ∷ ws) = do
+unfoldable pub filter_of : Bool → Bool → List (List ℕ) → Option Event
+filter_of v6 as4 (side ∷ k ∷ ws) = do
   n ← from_one k
-  rules ← rules_of as4 ws
+  rules ← rules_of v6 as4 ws
   filter_on side n rules
-filter_of as4 other = None
+filter_of v6 as4 other = None
 
 -- what follows `route add`: a protocol, a prefix, and where the route goes
-unfoldable pub route_add_of : List (List ℕ) → Option Event
-route_add_of (proto ∷ p ∷ ws) = do
+unfoldable pub route_add_of : Bool → List (List ℕ) → Option Event
+route_add_of v6 (proto ∷ p ∷ ws) = do
   o ← proto_of proto
-  n ← prefix_of 32 p
-  row ← interior_of o ws
+  n ← prefix_of v6 p
+  row ← interior_of v6 o ws
   Some (RouteAdd n row)
-route_add_of other = None
+route_add_of v6 other = None
 
 -- what follows `route del`: a protocol and a prefix
-unfoldable pub route_del_of : List (List ℕ) → Option Event
-route_del_of (proto ∷ p ∷ []) = do
+unfoldable pub route_del_of : Bool → List (List ℕ) → Option Event
+route_del_of v6 (proto ∷ p ∷ []) = do
   o ← proto_of proto
-  n ← prefix_of 32 p
+  n ← prefix_of v6 p
   Some (RouteDel o n)
-route_del_of other = None
+route_del_of v6 other = None
 
 -- what follows `route`
-unfoldable pub route_of : List (List ℕ) → Option Event
-route_of [] = None
-route_of (w ∷ ws) =
-    if bytes_eq w (codes "add") then route_add_of ws
-    else if bytes_eq w (codes "del") then route_del_of ws
+unfoldable pub route_of : Bool → List (List ℕ) → Option Event
+route_of v6 [] = None
+route_of v6 (w ∷ ws) =
+    if bytes_eq w (codes "add") then route_add_of v6 ws
+    else if bytes_eq w (codes "del") then route_del_of v6 ws
     else None
 
 -- what follows `lost`
@@ -94,9 +94,9 @@ redist_of (proto ∷ state ∷ []) = do
 redist_of other = None
 
 -- what follows `cover`
-unfoldable pub cover_of : List (List ℕ) → Option Event
-cover_of (addr ∷ []) = addr_of addr >>= λ a. Some (Cover a)
-cover_of other = None
+unfoldable pub cover_of : Bool → List (List ℕ) → Option Event
+cover_of v6 (addr ∷ []) = addr_of v6 addr >>= λ a. Some (Cover a)
+cover_of v6 other = None
 
 -- a line that holds for the whole file: its word, alone
 unfoldable pub profile_event : List ℕ → List (List ℕ) → Option Event
@@ -109,37 +109,37 @@ profile_event w ws =
 -- an event of the interior routes or of the whole file, by its first word and the others
 unfoldable pub interior_event : List ℕ → List (List ℕ) → Option Event
 interior_event w ws =
-    if bytes_eq w (codes "route") then route_of ws
+    if bytes_eq w (codes "route") then route_of false ws
     else if bytes_eq w (codes "lost") then lost_of ws
     else if bytes_eq w (codes "redist") then redist_of ws
-    else if bytes_eq w (codes "cover") then cover_of ws
+    else if bytes_eq w (codes "cover") then cover_of false ws
     else profile_event w ws
 
 -- what follows `work`
-unfoldable pub work_of : List (List ℕ) → Option Event
-work_of (task ∷ turns ∷ []) = do
-  t ← task_of task
+unfoldable pub work_of : Bool → List (List ℕ) → Option Event
+work_of v6 (task ∷ turns ∷ []) = do
+  t ← task_named v6 task
   n ← number_of turns
   Some (Work t n)
-work_of other = None
+work_of v6 other = None
 
 -- what follows `ask`
-unfoldable pub ask_of : List (List ℕ) → Option Event
-ask_of (link ∷ p ∷ []) = do
-  l ← link_of link
-  n ← prefix_of 32 p
+unfoldable pub ask_of : Bool → List (List ℕ) → Option Event
+ask_of v6 (link ∷ p ∷ []) = do
+  l ← link_named v6 link
+  n ← prefix_of v6 p
   Some (Ask l n)
-ask_of other = None
+ask_of v6 other = None
 
 -- what follows `show`
-unfoldable pub show_of : List (List ℕ) → Option Event
-show_of (link ∷ []) = link_of link >>= λ l. Some (Show l)
-show_of other = None
+unfoldable pub show_of : Bool → List (List ℕ) → Option Event
+show_of v6 (link ∷ []) = link_named v6 link >>= λ l. Some (Show l)
+show_of v6 other = None
 
 -- what follows `settled`
-unfoldable pub settled_of : List (List ℕ) → Option Event
-settled_of (p ∷ []) = prefix_of 32 p >>= λ n. Some (Settled n)
-settled_of other = None
+unfoldable pub settled_of : Bool → List (List ℕ) → Option Event
+settled_of v6 (p ∷ []) = prefix_of v6 p >>= λ n. Some (Settled n)
+settled_of v6 other = None
 
 -- an event that isn't `local`, `peer`, `bgp` or `filter`, by its first word and the others
 unfoldable pub plain_event : List ℕ → List (List ℕ) → Option Event
@@ -147,10 +147,10 @@ plain_event w ws =
     if bytes_eq w (codes "up") then (one_number ws >>= λ k. Some (Up k))
     else if bytes_eq w (codes "down") then (one_number ws >>= λ k. Some (Down k))
     else if bytes_eq w (codes "idle") then (if length ws == 0 then Some Idle else None)
-    else if bytes_eq w (codes "work") then work_of ws
-    else if bytes_eq w (codes "ask") then ask_of ws
-    else if bytes_eq w (codes "show") then show_of ws
-    else if bytes_eq w (codes "settled") then settled_of ws
+    else if bytes_eq w (codes "work") then work_of false ws
+    else if bytes_eq w (codes "ask") then ask_of false ws
+    else if bytes_eq w (codes "show") then show_of false ws
+    else if bytes_eq w (codes "settled") then settled_of false ws
     else interior_event w ws
 
 -- an event by its first word and the others
@@ -159,7 +159,7 @@ named_event p w ws =
     if bytes_eq w (codes "local") then local_of p.as4 ws
     else if bytes_eq w (codes "peer") then peer_of p ws
     else if bytes_eq w (codes "bgp") then bgp_of ws
-    else if bytes_eq w (codes "filter") then filter_of p.as4 ws
+    else if bytes_eq w (codes "filter") then filter_of false p.as4 ws
     else plain_event w ws
 
 -- a line without words, a comment, or an event

@@ -1,7 +1,7 @@
 -- What holds of each event that was read.
-use Rattle.std.specs.Prelude.{◌≡◌, ℕ, ◌^◌, ◌<◌, Bool, List, length, Option, Some, None, true}
+use Rattle.std.specs.Prelude.{◌≡◌, ℕ, ◌^◌, ◌<◌, Bool, false, List, length, Option, Some, None, true}
 use Rattle.std.specs.List.{All}
-use Rattle.addr4.specs.Families.{IsIpv4, IsIpv4Prefix}
+use Rattle.addr4.specs.Families.{IsAddress, IsIpv4Prefix, IsPrefixOf}
 use Rattle.addr4.specs.Prefixes.{AddressPrefix}
 use Rattle.bgp_attr.specs.Speakers.{IsSpeaker, MayBeClient}
 use Rattle.bgp_attr.specs.declared.speaker.Profile.{Profile}
@@ -11,7 +11,7 @@ use Rattle.journal_text.specs.Names.{IsNamed}
 use Rattle.journal_text.specs.declared.link.Task.{Task}
 use Rattle.journal_text.specs.declared.link.Task.TheVariants.{Del, Fin, Nh, ReadRib, Out, Rdel, Red, Ext, Ref}
 use Rattle.policy_rules.specs.Ranges.{AreRules}
-use Rattle.event_text.specs.declared.event.Event.{Event}
+use Rattle.event_text.specs.Event.{Event}
 use Rattle.event_text.specs.declared.event.Event.TheVariants as events
 
 -- a number from 1 of 32 bits
@@ -28,14 +28,14 @@ pub record IsMessage (octets : List ℕ) : Type 0 where
 abbrev pub IsPrefix : AddressPrefix → Type 0
 IsPrefix = IsIpv4Prefix
 
--- a gateway, if there is one
-abbrev pub IsGateway : Option ℕ → Type 0
-IsGateway None = Unit {0}
-IsGateway (Some addr) = IsIpv4 addr
+-- a gateway of the family, if there is one
+abbrev pub IsGateway : Bool → Option ℕ → Type 0
+IsGateway v6 None = Unit {0}
+IsGateway v6 (Some addr) = IsAddress v6 addr
 
 -- a gateway and a metric of 32 bits, and the name of an interface
-pub record IsInterior (row : Interior) : Type 0 where
-  pub gateway : IsGateway row.gateway
+pub record IsInterior (v6 : Bool) (row : Interior) : Type 0 where
+  pub gateway : IsGateway v6 row.gateway
   pub name : is_iface_name row.iface ≡ true
   pub metric : row.metric < 2 ^ 32
 
@@ -50,26 +50,27 @@ IsTask (Out k) = IsNumber k
 IsTask (Ref k) = IsNumber k
 IsTask (Rdel proto n) = IsNumber n
 
--- its numbers, words, octets, prefix, link and task are what the grammar says, behind the lines that hold for the whole file
-abbrev pub IsWellFormed : Profile → Event → Type 0
-IsWellFormed p events.Nothing = Unit {0}
-IsWellFormed p events.As4 = Unit {0}
-IsWellFormed p events.Revised = Unit {0}
-IsWellFormed p events.Reflect = Unit {0}
-IsWellFormed p (events.Local words) = IsSpeaker p.as4 words
-IsWellFormed p (events.Peer k words client) = IsNumber k × IsSpeaker p.as4 words × MayBeClient p client
-IsWellFormed p (events.Up k) = IsNumber k
-IsWellFormed p (events.Down k) = IsNumber k
-IsWellFormed p (events.Bgp k octets) = IsNumber k × IsMessage octets
-IsWellFormed p (events.FilterIn k rules) = IsNumber k × AreRules p.as4 rules
-IsWellFormed p (events.FilterOut k rules) = IsNumber k × AreRules p.as4 rules
-IsWellFormed p (events.RouteAdd n row) = IsPrefix n × IsInterior row
-IsWellFormed p (events.RouteDel proto n) = IsPrefix n
-IsWellFormed p (events.Lose proto) = Unit {0}
-IsWellFormed p (events.Redist proto on) = Unit {0}
-IsWellFormed p (events.Cover addr) = IsIpv4 addr
-IsWellFormed p (events.Settled n) = IsPrefix n
-IsWellFormed p events.Idle = Unit {0}
-IsWellFormed p (events.Work task n) = IsTask task × (n < 2 ^ 32)
-IsWellFormed p (events.Ask link n) = IsNamed link × IsPrefix n
-IsWellFormed p (events.Show link) = IsNamed link
+-- its numbers, words, octets, prefix, link and task are what the grammar says, behind the lines that hold for the whole file; its addresses
+-- are those of the network's family, and a peer's is IPv4's
+abbrev pub IsWellFormed : Bool → Profile → Event → Type 0
+IsWellFormed v6 p events.Nothing = Unit {0}
+IsWellFormed v6 p events.As4 = Unit {0}
+IsWellFormed v6 p events.Revised = Unit {0}
+IsWellFormed v6 p events.Reflect = Unit {0}
+IsWellFormed v6 p (events.Local words) = IsSpeaker v6 p.as4 words
+IsWellFormed v6 p (events.Peer k words client) = IsNumber k × IsSpeaker false p.as4 words × MayBeClient p client
+IsWellFormed v6 p (events.Up k) = IsNumber k
+IsWellFormed v6 p (events.Down k) = IsNumber k
+IsWellFormed v6 p (events.Bgp k octets) = IsNumber k × IsMessage octets
+IsWellFormed v6 p (events.FilterIn k rules) = IsNumber k × AreRules v6 p.as4 rules
+IsWellFormed v6 p (events.FilterOut k rules) = IsNumber k × AreRules v6 p.as4 rules
+IsWellFormed v6 p (events.RouteAdd n row) = IsPrefixOf v6 n × IsInterior v6 row
+IsWellFormed v6 p (events.RouteDel proto n) = IsPrefixOf v6 n
+IsWellFormed v6 p (events.Lose proto) = Unit {0}
+IsWellFormed v6 p (events.Redist proto on) = Unit {0}
+IsWellFormed v6 p (events.Cover addr) = IsAddress v6 addr
+IsWellFormed v6 p (events.Settled n) = IsPrefixOf v6 n
+IsWellFormed v6 p events.Idle = Unit {0}
+IsWellFormed v6 p (events.Work task n) = IsTask task × (n < 2 ^ 32)
+IsWellFormed v6 p (events.Ask link n) = IsNamed link × IsPrefixOf v6 n
+IsWellFormed v6 p (events.Show link) = IsNamed link

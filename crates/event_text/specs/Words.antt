@@ -1,17 +1,20 @@
 -- What single words of a line say.
-use Rattle.std.specs.Prelude.{ℕ, Bool, true, false, not, ◌&&◌, ◌||◌, if◌then◌else◌, List, [], ◌∷◌, length, nat_le, ◌==◌, Option, Some, None, codes}
+use Rattle.std.specs.Prelude.{ℕ, Bool, true, false, not, ◌&&◌, ◌||◌, if◌then◌else◌, List, [], ◌∷◌, drop, length, nat_le, ◌==◌, Option, Some, None, codes}
 use Rattle.std.specs.Result.{result_ok}
 use Rattle.std.specs.Str.{bytes_eq}
 use Rattle.std.specs.List.{list_all}
 use Rattle.hex.specs.Hex.{decode_of}
 use Rattle.addr4.specs.Texts.{number_of, number_below, addr_of, id_of}
-use Rattle.bgp_attr.specs.Hosts.{is_host}
+use Rattle.addr4.specs.Hosts.{is_host}
 use Rattle.bgp_attr.specs.Speakers.{asn_bound}
 use Rattle.bgp_attr.specs.Speakers.{Speaker}
 use Rattle.bgp_attr.specs.declared.speaker.Profile.{Profile}
 use Rattle.rib_route.specs.Ifaces.{iface_of}
 use Rattle.rib_route.specs.declared.Proto.{Proto}
 use Rattle.rib_route.specs.Rows.{Interior}
+use Rattle.journal_text.specs.Names.{is_marked, link_of, task_of}
+use Rattle.journal_text.specs.declared.link.Link.{Link}
+use Rattle.journal_text.specs.declared.link.Task.{Task}
 use Rattle.policy_rules.specs.Words.{◌>>=◌}
 
 -- at most 16,384 bytes, all from 32 to 126
@@ -29,8 +32,8 @@ unfoldable pub speaker_by : Bool → List ℕ → List ℕ → List ℕ → Opti
 speaker_by as4 asn id addr = do
   a ← number_below (asn_bound as4) asn
   i ← id_of id
-  h ← addr_of addr
-  if a == 0 || i == 0 || not (is_host h) then None else Some (record { asn = a; id = i; addr = h })
+  h ← addr_of false addr
+  if a == 0 || i == 0 || not (is_host false h) then None else Some (record { asn = a; id = i; addr = h })
 
 -- `AS ID ADDR` and no other word
 unfoldable pub speaker_of : Bool → List (List ℕ) → Option Speaker
@@ -57,17 +60,17 @@ way_out proto gateway (name ∷ metric ∷ []) = do
   Some (record { proto = proto; gateway = gateway; iface = i; metric = m })
 way_out proto gateway other = None
 
--- `GATEWAY IF METRIC`
-unfoldable pub way_over : Proto → List (List ℕ) → Option Interior
-way_over proto [] = None
-way_over proto (gateway ∷ ws) = addr_of gateway >>= λ g. way_out proto (Some g) ws
+-- `GATEWAY IF METRIC`, with a gateway of the family
+unfoldable pub way_over : Bool → Proto → List (List ℕ) → Option Interior
+way_over v6 proto [] = None
+way_over v6 proto (gateway ∷ ws) = addr_of v6 gateway >>= λ g. way_out proto (Some g) ws
 
 -- `direct IF METRIC` or `via GATEWAY IF METRIC`
-unfoldable pub interior_of : Proto → List (List ℕ) → Option Interior
-interior_of proto [] = None
-interior_of proto (way ∷ ws) =
+unfoldable pub interior_of : Bool → Proto → List (List ℕ) → Option Interior
+interior_of v6 proto [] = None
+interior_of v6 proto (way ∷ ws) =
     if bytes_eq way (codes "direct") then way_out proto None ws
-    else if bytes_eq way (codes "via") then way_over proto ws
+    else if bytes_eq way (codes "via") then way_over v6 proto ws
     else None
 
 -- `on` or `off`
@@ -76,3 +79,19 @@ switch_of word =
     if bytes_eq word (codes "on") then Some true
     else if bytes_eq word (codes "off") then Some false
     else None
+
+-- the link of a name, where it is one of the network of the family: IPv6's have a mark in front
+unfoldable pub link_named : Bool → List ℕ → Option Link
+link_named false name = link_of name
+link_named true name = if is_marked name then link_of (drop 2 name) else None
+
+-- the task of a name, likewise
+unfoldable pub task_named : Bool → List ℕ → Option Task
+task_named false name = task_of name
+task_named true name = if is_marked name then task_of (drop 2 name) else None
+
+-- the address of a host of IPv6
+unfoldable pub host6_of : List ℕ → Option ℕ
+host6_of word = do
+  a ← addr_of true word
+  if is_host true a then Some a else None

@@ -1,26 +1,21 @@
 //! What was declared so far.
 
-ghost use Rattle.std.specs.Prelude.{◌≡◌, ◌==◌, ◌≤◌, if◌then◌else◌, map, Option, Some, None, OnOk, OnErr};
+ghost use Rattle.std.specs.Prelude.{◌≡◌, ◌==◌, ◌≤◌, if◌then◌else◌, false, map, Option, Some, None, OnOk, OnErr};
 ghost use Rattle.std.specs.List.{All};
 ghost use Rattle.journal_text.specs.declared.line.Code.TheVariants.{E7};
-ghost use Rattle.event_text.specs.declared.event.Event.{Event};
+ghost use Rattle.bgp_attr.specs.Speakers.{IsProfileOf};
+ghost use Rattle.event_text.specs.Event.{Event};
 ghost use Rattle.event_text.specs.declared.event.Event.TheVariants as events;
 ghost use Rattle.event_text.specs.Declarations.{no_declaration, refusal, peer_at, with_profile, with_speaker, with_peer, with_session, without_session, IsDeclaration, IsCounted, begun_at, ended_at, has_addr, is_taken, is_internal, session_refusal, rules_refusal, undeclared, task_refusal, link_refusal, peer_refusal, refusal_by, refusal_first};
+ghost use Rattle.event_text.specs.FileEvents.{with_ipv6};
 ghost use Rattle.event_text.specs.WellFormed.{IsWellFormed};
 
-use crate::event::Event;
+use crate::event::{Event, EventOf};
 use addr4::{Addr, Family, Memory, V4};
 use bgp_attr::{Neighbour, Profile, Speaker};
 use journal_text::{Code, Link, Task};
 use std::alloc::Global;
 use std::marker::Model;
-
-/// AS numbers have two octets, errors in attributes are handled by RFC 4271, section 6.3, and this speaker is no route reflector.
-const PLAIN: Profile = Profile {
-    as4: false,
-    revised: false,
-    reflect: false,
-};
 
 /// A peer that was declared.
 #[derive(Clone, Copy, PartialEq, Eq)]
@@ -53,22 +48,39 @@ impl<F: Family> Model for Declared<F> {
 
     ghost coded = { declaration_code profile_row.the_row.coded (speaker_row.the_row word).coded peer_row.the_row.coded };
 
-    ghost view = { λ d. record { profile = d.profile; speaker = d.speaker; peers = d.peers.items } };
+    ghost view = { λ d. record { v6 = F.V6; profile = d.profile; speaker = d.speaker; peers = d.peers.items } };
 
-    ghost invariant = { λ d. IsCounted d.peers.items };
+    ghost use Rattle.bgp_attr.specs.Speakers.{IsProfileOf};
+
+    ghost invariant = { λ d. IsCounted d.peers.items × IsProfileOf F.V6 d.profile };
 }
 
 impl<F: Family> Declared<F> {
-    /// Nothing was declared. Takes no memory.
+    /// Nothing was declared: AS numbers have two octets, errors in attributes are handled by RFC 4271, section 6.3, and this speaker is
+    /// no route reflector. Takes no memory.
     pub fn new(alloc: Global) -> Declared<F>
-        ensures value { result ≡ no_declaration }
+        ensures value { result ≡ no_declaration F.V6 }
         ensures declared { IsDeclaration result }
     {
         Declared {
-            profile: PLAIN,
+            profile: Profile {
+                as4: false,
+                revised: false,
+                reflect: false,
+                v6: F::V6,
+                second: F::V6,
+            },
             speaker: None,
             peers: Vec::new(alloc),
         }
+    }
+
+    /// It is of the family's network, and so is its profile.
+    pub fn known(&self)
+        ensures family { self.now.v6 ≡ F.V6 }
+        ensures profile { IsProfileOf F.V6 self.now.profile }
+    {
+        let _profile = self.profile;
     }
 
     /// Whether AS numbers have four octets, whether errors in attributes are handled by the revised
@@ -102,16 +114,25 @@ impl<F: Family> Declared<F> {
 
     /// `as4`, `revised` or `reflect` was said: this holds for the whole file. Takes no memory.
     pub fn set_profile(&mut self, profile: Profile)
+        requires { IsProfileOf F.V6 profile }
         ensures value { self.new ≡ with_profile self.old profile }
         ensures kept { IsDeclaration self.old → self.old.speaker ≡ None → IsDeclaration self.new }
     {
         self.profile = profile;
     }
 
+    /// `local6` was said: routes of IPv6 are read in messages. Takes no memory.
+    pub fn set_ipv6(&mut self)
+        ensures value { self.new ≡ with_profile self.old (with_ipv6 self.old.profile) }
+        ensures kept { IsDeclaration self.old → IsDeclaration self.new }
+    {
+        self.profile.v6 = true;
+    }
+
     /// `local` was declared. Takes no memory.
     pub fn set_speaker(&mut self, words: Speaker<Addr<F>>)
         ensures value { self.new ≡ with_speaker self.old words }
-        ensures kept { IsDeclaration self.old → refusal self.old (events.Local words) ≡ None → IsWellFormed self.old.profile (events.Local words) → IsDeclaration self.new }
+        ensures kept { IsDeclaration self.old → refusal self.old (events.Local words) ≡ None → IsWellFormed self.old.v6 self.old.profile (events.Local words) → IsDeclaration self.new }
     {
         self.speaker = Some(words);
     }
@@ -121,7 +142,7 @@ impl<F: Family> Declared<F> {
         requires { refusal self.old (events.Peer number words client) ≡ None }
         ensures ok { OnOk result (self.new ≡ with_peer self.old number words client) }
         ensures memory { OnErr result (self.new ≡ self.old) }
-        ensures kept { IsDeclaration self.old → IsWellFormed self.old.profile (events.Peer number words client) → IsDeclaration self.new }
+        ensures kept { IsDeclaration self.old → IsWellFormed self.old.v6 self.old.profile (events.Peer number words client) → IsDeclaration self.new }
     {
         let internal = is_internal(self.speaker, words.asn);
         self.peers.push(DeclaredPeer {
@@ -326,7 +347,7 @@ fn repeated(said: bool) -> Option<Code>
 }
 
 /// Why the event may not stand before `local`.
-fn refusal_first(profile: Profile, event: &Event) -> Option<Code>
+fn refusal_first<F: Family>(profile: Profile, event: &EventOf<F>) -> Option<Code>
     ensures { result ≡ refusal_first profile event.now }
 {
     match event {
@@ -338,9 +359,9 @@ fn refusal_first(profile: Profile, event: &Event) -> Option<Code>
     }
 }
 
-/// Why the event may not stand after `local`.
-fn refusal_by(local: Speaker, peers: &[DeclaredPeer], event: &Event) -> Option<Code>
-    ensures { result ≡ refusal_by local peers.now event.now }
+/// Why the event may not stand after `local`, in IPv4's network.
+fn refusal_by<F: Family>(local: Speaker, peers: &[DeclaredPeer], event: &EventOf<F>) -> Option<Code>
+    ensures { result ≡ refusal_by false local peers.now event.now }
 {
     match event {
         Event::Nothing
@@ -368,9 +389,10 @@ fn refusal_by(local: Speaker, peers: &[DeclaredPeer], event: &Event) -> Option<C
 }
 
 /// Why the event may not stand here: before `local` (E4), said of the whole file after `local` or twice (E7), declared twice
-/// (E3), of an undeclared peer (E5), a client of another AS (E8), past a limit (E6). None where it may.
+/// (E3), of an undeclared peer (E5), a client of another AS (E8), past a limit (E6). None where it may. It may be an event of
+/// either network; what was declared is what IPv4's knows of it.
 #[tactic(auto, unfolding(crate::specs::Declarations::refusal))]
-pub fn admit(event: &Event, declared: &Declared) -> Option<Code>
+pub fn admit<F: Family>(event: &EventOf<F>, declared: &Declared) -> Option<Code>
     ensures { result ≡ refusal declared.now event.now }
 {
     match declared.speaker {

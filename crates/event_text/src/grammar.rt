@@ -1,18 +1,18 @@
-//! Reading a line of the event language.
+//! Reading a line of the event language that has no word of IPv6.
 
-ghost use Rattle.std.specs.Prelude.{◌≡◌, IfOk};
+ghost use Rattle.std.specs.Prelude.{◌≡◌, IfOk, false};
 ghost use Rattle.policy_rules.specs.Words.{words};
-ghost use Rattle.event_text.specs.Events.{local_of, peer_of, one_number, bgp_of, filter_on, filter_of, route_add_of, route_del_of, route_of, lost_of, redist_of, cover_of, profile_event, interior_event, work_of, ask_of, show_of, settled_of, plain_event, named_event, event_of, read_event};
+ghost use Rattle.event_text.specs.Events.{local_of, peer_of, one_number, bgp_of, profile_event, interior_event, plain_event, named_event, event_of, read_event};
 ghost use Rattle.event_text.specs.WellFormed.{IsWellFormed};
 
+use crate::asking::{ask, cover, settled, show, work};
 use crate::event::Event;
-use crate::words::{
-    client, from_one, interior, is_clean, is_end, octets, protocol, speaker, speaker_by, switch,
-};
-use addr4::{Memory, read_addr, read_number, read_prefix};
+use crate::routes::{filter, lost, redist, route};
+use crate::words::{client, from_one, is_clean, is_end, octets, speaker, speaker_by};
+use addr4::{Memory, V4};
 use bgp_attr::Profile;
-use journal_text::{Code, Link, Task};
-use policy_rules::{Rules, first_word, read_rules};
+use journal_text::Code;
+use policy_rules::first_word;
 use std::alloc::Global;
 
 /// What a line says, without its end of line; or the code with which it is refused. E1 where it has more than 16,384 bytes
@@ -22,7 +22,7 @@ use std::alloc::Global;
 #[tactic(auto, unfolding(crate::specs::Events::read_event))]
 pub fn parse(alloc: Global, profile: Profile, line: &[u8]) -> Result<Result<Event, Code>, Memory>
     ensures value { IfOk result (λ event. event ≡ read_event profile line.now) }
-    ensures words { IfOk result (λ event. IfOk event (IsWellFormed profile)) }
+    ensures words { IfOk result (λ event. IfOk event (IsWellFormed false profile)) }
 {
     if !is_clean(line) {
         return Ok(Err(Code::E1));
@@ -35,7 +35,7 @@ pub fn parse(alloc: Global, profile: Profile, line: &[u8]) -> Result<Result<Even
 
 /// A line without words, a comment, or an event.
 #[tactic(auto, unfolding(crate::specs::Events::event_of))]
-fn event(alloc: Global, profile: Profile, line: &[u8]) -> Result<Option<Event>, Memory>
+pub(crate) fn event(alloc: Global, profile: Profile, line: &[u8]) -> Result<Option<Event>, Memory>
     ensures { IfOk result (λ event. event ≡ event_of profile (words line.now)) }
 {
     let Some((word, rest)) = first_word(line) else {
@@ -67,7 +67,7 @@ fn named_event(
         return bgp(alloc, rest);
     }
     if word == b"filter".as_slice() {
-        return filter(alloc, profile, rest);
+        return filter::<V4>(alloc, profile, rest);
     }
     Ok(plain_event(word, rest))
 }
@@ -119,40 +119,6 @@ fn bgp(alloc: Global, rest: &[u8]) -> Result<Option<Event>, Memory>
     }
 }
 
-/// What follows `filter`.
-#[tactic(auto, unfolding(crate::specs::Events::filter_of))]
-fn filter(alloc: Global, profile: Profile, rest: &[u8]) -> Result<Option<Event>, Memory>
-    ensures { IfOk result (λ event. event ≡ filter_of profile.as4 (words rest.now)) }
-{
-    let Some((side, rest)) = first_word(rest) else {
-        return Ok(None);
-    };
-    let Some((number, rest)) = first_word(rest) else {
-        return Ok(None);
-    };
-    let Some(number) = from_one(number) else {
-        return Ok(None);
-    };
-    match read_rules(alloc, profile, rest)? {
-        Ok(rules) => Ok(filter_on(side, number, rules)),
-        Err(_) => Ok(None),
-    }
-}
-
-/// New rules of a peer's filter on the side of the word.
-#[tactic(auto, unfolding(crate::specs::Events::filter_on))]
-fn filter_on(side: &[u8], number: u32, rules: Rules) -> Option<Event>
-    ensures { result ≡ filter_on side.now number rules }
-{
-    if side == b"in".as_slice() {
-        Some(Event::FilterIn(number, rules))
-    } else if side == b"out".as_slice() {
-        Some(Event::FilterOut(number, rules))
-    } else {
-        None
-    }
-}
-
 /// The events `up`, `down`, `idle`, `work`, `ask`, `show` and `settled`, those of the interior routes and of the whole file.
 #[tactic(auto, unfolding(crate::specs::Events::plain_event))]
 fn plain_event(word: &[u8], rest: &[u8]) -> Option<Event>
@@ -172,16 +138,16 @@ fn plain_event(word: &[u8], rest: &[u8]) -> Option<Event>
         };
     }
     if word == b"work".as_slice() {
-        return work(rest);
+        return work::<V4>(rest);
     }
     if word == b"ask".as_slice() {
-        return ask(rest);
+        return ask::<V4>(rest);
     }
     if word == b"show".as_slice() {
-        return show(rest);
+        return show::<V4>(rest);
     }
     if word == b"settled".as_slice() {
-        return settled(rest);
+        return settled::<V4>(rest);
     }
     interior_event(word, rest)
 }
@@ -192,16 +158,16 @@ fn interior_event(word: &[u8], rest: &[u8]) -> Option<Event>
     ensures { result ≡ interior_event word.now (words rest.now) }
 {
     if word == b"route".as_slice() {
-        return route(rest);
+        return route::<V4>(rest);
     }
     if word == b"lost".as_slice() {
-        return lost(rest);
+        return lost::<V4>(rest);
     }
     if word == b"redist".as_slice() {
-        return redist(rest);
+        return redist::<V4>(rest);
     }
     if word == b"cover".as_slice() {
-        return cover(rest);
+        return cover::<V4>(rest);
     }
     profile_event(word, rest)
 }
@@ -225,90 +191,6 @@ fn profile_event(word: &[u8], rest: &[u8]) -> Option<Event>
     }
 }
 
-/// What follows `route`.
-#[tactic(auto, unfolding(crate::specs::Events::route_of))]
-fn route(rest: &[u8]) -> Option<Event>
-    ensures { result ≡ route_of (words rest.now) }
-{
-    let (word, rest) = first_word(rest)?;
-    if word == b"add".as_slice() {
-        return route_add(rest);
-    }
-    if word == b"del".as_slice() {
-        return route_del(rest);
-    }
-    None
-}
-
-/// What follows `route add`.
-#[tactic(auto, unfolding(crate::specs::Events::route_add_of))]
-fn route_add(rest: &[u8]) -> Option<Event>
-    ensures { result ≡ route_add_of (words rest.now) }
-{
-    let (name, rest) = first_word(rest)?;
-    let (prefix, rest) = first_word(rest)?;
-    let proto = protocol(name)?;
-    let prefix = read_prefix(prefix).ok()?;
-    let row = interior(proto, rest)?;
-    Some(Event::RouteAdd(prefix, row))
-}
-
-/// What follows `route del`.
-#[tactic(auto, using(crate::proofs::WordLemmas::no_word_behind_route), unfolding(crate::specs::Events::route_del_of))]
-fn route_del(rest: &[u8]) -> Option<Event>
-    ensures { result ≡ route_del_of (words rest.now) }
-{
-    let (name, rest) = first_word(rest)?;
-    let (prefix, rest) = first_word(rest)?;
-    if !is_end(rest) {
-        return None;
-    }
-    let proto = protocol(name)?;
-    let prefix = read_prefix(prefix).ok()?;
-    Some(Event::RouteDel(proto, prefix))
-}
-
-/// What follows `lost`.
-#[tactic(auto, using(crate::proofs::WordLemmas::no_word_behind_protocol), unfolding(crate::specs::Events::lost_of))]
-fn lost(rest: &[u8]) -> Option<Event>
-    ensures { result ≡ lost_of (words rest.now) }
-{
-    let (name, rest) = first_word(rest)?;
-    if !is_end(rest) {
-        return None;
-    }
-    let proto = protocol(name)?;
-    Some(Event::Lose(proto))
-}
-
-/// What follows `redist`.
-#[tactic(auto, using(crate::proofs::WordLemmas::no_word_behind_switch), unfolding(crate::specs::Events::redist_of))]
-fn redist(rest: &[u8]) -> Option<Event>
-    ensures { result ≡ redist_of (words rest.now) }
-{
-    let (name, rest) = first_word(rest)?;
-    let (state, rest) = first_word(rest)?;
-    if !is_end(rest) {
-        return None;
-    }
-    let proto = protocol(name)?;
-    let on = switch(state)?;
-    Some(Event::Redist(proto, on))
-}
-
-/// What follows `cover`.
-#[tactic(auto, using(crate::proofs::WordLemmas::no_word_behind_addr), unfolding(crate::specs::Events::cover_of))]
-fn cover(rest: &[u8]) -> Option<Event>
-    ensures { result ≡ cover_of (words rest.now) }
-{
-    let (addr, rest) = first_word(rest)?;
-    if !is_end(rest) {
-        return None;
-    }
-    let addr = read_addr(addr).ok()?;
-    Some(Event::Cover(addr))
-}
-
 /// The one word is a peer's number.
 #[tactic(auto, using(crate::proofs::WordLemmas::no_word_behind_number), unfolding(crate::specs::Events::one_number))]
 fn one_number(rest: &[u8]) -> Option<u32>
@@ -319,60 +201,4 @@ fn one_number(rest: &[u8]) -> Option<u32>
         return None;
     }
     from_one(number)
-}
-
-/// What follows `work`.
-#[tactic(auto, using(crate::proofs::WordLemmas::no_word_behind_turns), unfolding(crate::specs::Events::work_of))]
-fn work(rest: &[u8]) -> Option<Event>
-    ensures { result ≡ work_of (words rest.now) }
-{
-    let (name, rest) = first_word(rest)?;
-    let (turns, rest) = first_word(rest)?;
-    if !is_end(rest) {
-        return None;
-    }
-    let task = Task::read(name)?;
-    let turns = read_number(turns)?;
-    Some(Event::Work(task, turns))
-}
-
-/// What follows `ask`.
-#[tactic(auto, using(crate::proofs::WordLemmas::no_word_behind_prefix), unfolding(crate::specs::Events::ask_of))]
-fn ask(rest: &[u8]) -> Option<Event>
-    ensures { result ≡ ask_of (words rest.now) }
-{
-    let (name, rest) = first_word(rest)?;
-    let (prefix, rest) = first_word(rest)?;
-    if !is_end(rest) {
-        return None;
-    }
-    let link = Link::read(name)?;
-    let prefix = read_prefix(prefix).ok()?;
-    Some(Event::Ask(link, prefix))
-}
-
-/// What follows `show`.
-#[tactic(auto, using(crate::proofs::WordLemmas::no_word_behind_link), unfolding(crate::specs::Events::show_of))]
-fn show(rest: &[u8]) -> Option<Event>
-    ensures { result ≡ show_of (words rest.now) }
-{
-    let (name, rest) = first_word(rest)?;
-    if !is_end(rest) {
-        return None;
-    }
-    let link = Link::read(name)?;
-    Some(Event::Show(link))
-}
-
-/// What follows `settled`.
-#[tactic(auto, using(crate::proofs::WordLemmas::no_word_behind_one_prefix), unfolding(crate::specs::Events::settled_of))]
-fn settled(rest: &[u8]) -> Option<Event>
-    ensures { result ≡ settled_of (words rest.now) }
-{
-    let (prefix, rest) = first_word(rest)?;
-    if !is_end(rest) {
-        return None;
-    }
-    let prefix = read_prefix(prefix).ok()?;
-    Some(Event::Settled(prefix))
 }

@@ -3,11 +3,15 @@
 ghost use Rattle.std.specs.Prelude.{◌≡◌, ◌==◌, length, IfOk};
 ghost use Rattle.journal_text.specs.Names.{proto_of};
 ghost use Rattle.policy_rules.specs.Words.{words};
-ghost use Rattle.event_text.specs.Words.{is_clean, from_one, speaker_by, speaker_of, client_of, octets_of, way_out, way_over, interior_of, switch_of};
+ghost use Rattle.event_text.specs.Words.{is_clean, from_one, speaker_by, speaker_of, client_of, octets_of, way_out, way_over, interior_of, switch_of, link_named, task_named, host6_of};
 
-use addr4::{Addr, Memory, all_printable, read_addr, read_id, read_number, read_number_below};
-use bgp_attr::{Octets, Profile, Speaker, is_host};
+use addr4::{
+    Addr, Family, Memory, Texts, all_printable, read_addr, read_id, read_number, read_number_below,
+};
+use addr6::V6;
+use bgp_attr::{Octets, Profile, Speaker};
 use hex::FromHexError;
+use journal_text::{Link, Task};
 use policy_rules::first_word;
 use rib_route::{Iface, Interior, Proto};
 use std::alloc::Global;
@@ -44,7 +48,7 @@ pub fn speaker_by(profile: Profile, asn: &[u8], id: &[u8], addr: &[u8]) -> Optio
     let asn = read_number_below(asn, profile.asn_bound())?;
     let id = read_id(id).ok()?;
     let addr = read_addr(addr).ok()?;
-    if asn == 0 || id.number() == 0 || !is_host(addr) {
+    if asn == 0 || id.number() == 0 || !addr.is_host() {
         return None;
     }
     Some(Speaker { asn, id, addr })
@@ -119,7 +123,11 @@ pub fn protocol(word: &[u8]) -> Option<Proto>
 
 /// The words `IF METRIC`, and no other.
 #[tactic(auto, using(crate::proofs::WordLemmas::no_word_behind_metric), unfolding(crate::specs::Words::way_out))]
-fn way_out(proto: Proto, gateway: Option<Addr>, rest: &[u8]) -> Option<Interior>
+fn way_out<F: Family>(
+    proto: Proto,
+    gateway: Option<Addr<F>>,
+    rest: &[u8],
+) -> Option<Interior<Addr<F>>>
     ensures { result ≡ way_out proto gateway (words rest.now) }
 {
     let (name, rest) = first_word(rest)?;
@@ -137,10 +145,10 @@ fn way_out(proto: Proto, gateway: Option<Addr>, rest: &[u8]) -> Option<Interior>
     })
 }
 
-/// The words `GATEWAY IF METRIC`, and no other.
+/// The words `GATEWAY IF METRIC`, with a gateway of the family, and no other.
 #[tactic(auto, unfolding(crate::specs::Words::way_over))]
-fn way_over(proto: Proto, rest: &[u8]) -> Option<Interior>
-    ensures { result ≡ way_over proto (words rest.now) }
+fn way_over<F: Texts>(proto: Proto, rest: &[u8]) -> Option<Interior<Addr<F>>>
+    ensures { result ≡ way_over F.V6 proto (words rest.now) }
 {
     let (gateway, rest) = first_word(rest)?;
     let gateway = read_addr(gateway).ok()?;
@@ -149,8 +157,8 @@ fn way_over(proto: Proto, rest: &[u8]) -> Option<Interior>
 
 /// The words `direct IF METRIC` or `via GATEWAY IF METRIC`, and no other.
 #[tactic(auto, unfolding(crate::specs::Words::interior_of))]
-pub fn interior(proto: Proto, rest: &[u8]) -> Option<Interior>
-    ensures { result ≡ interior_of proto (words rest.now) }
+pub fn interior<F: Texts>(proto: Proto, rest: &[u8]) -> Option<Interior<Addr<F>>>
+    ensures { result ≡ interior_of F.V6 proto (words rest.now) }
 {
     let (way, rest) = first_word(rest)?;
     if way == b"direct".as_slice() {
@@ -174,4 +182,41 @@ pub fn switch(word: &[u8]) -> Option<bool>
     } else {
         None
     }
+}
+
+/// The link of a name, where it is one of the family's network.
+#[tactic(auto, unfolding(crate::specs::Words::link_named, journal_text::specs::Names::link_in))]
+pub fn link_named<F: Family>(name: &[u8]) -> Option<Link>
+    ensures { result ≡ link_named F.V6 name.now }
+{
+    if !F::V6 {
+        return Link::read(name);
+    }
+    match Link::read_in(name)? {
+        (true, link) => Some(link),
+        (false, _) => None,
+    }
+}
+
+/// The task of a name, where it is one of the family's network.
+#[tactic(auto, unfolding(crate::specs::Words::task_named, journal_text::specs::Names::task_in))]
+pub fn task_named<F: Family>(name: &[u8]) -> Option<Task>
+    ensures { result ≡ task_named F.V6 name.now }
+{
+    if !F::V6 {
+        return Task::read(name);
+    }
+    match Task::read_in(name)? {
+        (true, task) => Some(task),
+        (false, _) => None,
+    }
+}
+
+/// The address of a host of IPv6.
+#[tactic(auto, unfolding(crate::specs::Words::host6_of))]
+pub fn host6(word: &[u8]) -> Option<Addr<V6>>
+    ensures { result ≡ host6_of word.now }
+{
+    let addr: Addr<V6> = read_addr(word).ok()?;
+    if addr.is_host() { Some(addr) } else { None }
 }

@@ -51,9 +51,7 @@ unheard_joins (x ∷ xs) ys first later = (first.0, unheard_joins xs ys first.1 
 module _ (before now : Declaration) (keeps : KeepsPeers before now) where
   line_stays : (v v' : Views) (line : Line) → HearsLine before.profile (neighbours before) line v v' → HearsLine now.profile (neighbours now) line v v'
   line_stays v v' (Out j octets) heard =
-      let hears = heard.2 in
-      let reads : Reads now.profile (not heard.0.internal) octets (Update hears.update) = subst (λ (p : Profile). Reads p (not heard.0.internal) octets (Update hears.update)) (sym (keeps.profile j heard.0 heard.1)) hears.reads in
-      (heard.0, keeps.words j heard.0 heard.1, record { update = hears.update; reads = reads; after = hears.after })
+      (heard.0, keeps.words j heard.0 heard.1, subst (λ (p : Profile). HearsOctets p heard.0 j octets v v') (sym (keeps.profile j heard.0 heard.1)) heard.2)
   line_stays v v' (Journal (Begin (Adv j s))) heard = heard
   line_stays v v' (Journal (End (Adv j s))) heard = heard
   line_stays v v' other heard = heard
@@ -83,7 +81,7 @@ line_is_one law profile peers (Out j octets) v a b first second =
     let peer : second.0 ≡ first.0 = one_peer second.0 first.0 (peers j) second.1 first.1 in
     let again : HearsOctets profile first.0 j octets v b = subst (λ (w : Neighbour). HearsOctets profile w j octets v b) peer second.2 in
     let same : first.2.update ≡ again.update = one_update law profile (not first.0.internal) octets first.2.update again.update first.2.reads again.reads in
-    first.2.after ∙ ap (λ (u : Updated). with_routes v j (routes_after (v j) (changes_of u))) same ∙ sym again.after
+    first.2.after ∙ ap (λ (u : Updated). with_routes v j (routes_after (v j) (changes_of profile u))) same ∙ sym again.after
 line_is_one law profile peers (Journal (Begin (Adv j s))) v a b first second = first ∙ sym second
 line_is_one law profile peers (Journal (End (Adv j s))) v a b first second = first ∙ sym second
 line_is_one law profile peers other v a b first second = first ∙ sym second

@@ -120,24 +120,26 @@ module _ (profile : Profile) (peers : ℕ → Option Neighbour) where
 
   pub begun_exits : (j reader : ℕ) (c : OutChained) (e : Exited) → c.sent ≡ tables.empty → IsNamed (Adv j c.session) → ArePrintableExits profile peers e → ArePrintableExits profile peers (with_exit j c (tables.insert e.queue reader []) e)
   begun_exits j reader c e none named are = record {
+    first = are.first;
     unread = queue_insert e.queue reader [] are.unread tt;
     each = each_put j c (tables.insert e.queue reader []) e (begun_exit j c named none) are.each;
   }
 
   pub ended_exits : (j reader : ℕ) (e : Exited) → ArePrintableExits profile peers e → ArePrintableExits profile peers (without_exit j (tables.remove e.queue reader) e)
-  ended_exits j reader e are = record { unread = queue_remove e.queue reader are.unread; each = each_gone j (tables.remove e.queue reader) e are.each }
+  ended_exits j reader e are = record { first = are.first; unread = queue_remove e.queue reader are.unread; each = each_gone j (tables.remove e.queue reader) e are.each }
 
   edited_exits : (j : ℕ) (rules : List Rule) (o : Option OutChained) (e : Exited) → chain_at j e ≡ o → ArePrintableExits profile peers e → ArePrintableExits profile peers (edited_by j rules o e)
   edited_exits j rules None e at are = are
   edited_exits j rules (Some c) e at are =
       let own = are.each j c at in
-      record { unread = are.unread; each = each_put j (with_rules rules c) e.queue e (record { named = own.named; sent = own.sent }) are.each }
+      record { first = are.first; unread = are.unread; each = each_put j (with_rules rules c) e.queue e (record { named = own.named; sent = own.sent }) are.each }
 
   pub with_unread : (queue : Queued Route) (e : Exited) → AreBestChanges profile peers queue → ArePrintableExits profile peers e → ArePrintableExits profile peers (with_queue queue e)
-  with_unread queue e all are = record { unread = all; each = are.each }
+  with_unread queue e all are = record { first = are.first; unread = all; each = are.each }
 
 pub empty_is_printed : EmptyIsPrinted
-empty_is_printed profile peers e none empty = record {
+empty_is_printed profile peers e first none empty = record {
+  first = first;
   unread = λ reader. subst (AllBest profile peers) (sym (empty reader)) tt;
   each = λ j c at. no_chain profile peers c (chain_at j e) (IsPrintableExit peers j c) (none j) at;
 }

@@ -1,10 +1,11 @@
--- The octets of an UPDATE of one prefix are octets.
+-- The octets of an UPDATE of one prefix are octets, whatever its family.
 use Rattle.std.proofs.Common.{◌≡◌, ℕ, zero, suc, ◌+◌, ◌/◌, ◌^◌, ◌<◌, ◌≤◌, Bool, true, false, cond, nat_lt, List, [], ◌∷◌, ◌++◌, length, take, Option, Some, None, refl, arith}
 use Rattle.std.specs.Prelude.{replicate, map, filter, All}
 use Rattle.std.proofs.lemmas.Bool.Decides.{nat_tests}
 use Rattle.std.proofs.lemmas.Nat.{mod_below}
 use Rattle.std.specs.Int.{byte_at, bytes_high_first}
 use Rattle.std.specs.List.{AllByRecursion, flat_map}
+use Rattle.std.specs.Option.{ForSome}
 use Rattle.addr4.specs.Prefixes.{AddressPrefix}
 use Rattle.bgp_attr.specs.declared.attrs.Aggregator.{Aggregator}
 use Rattle.bgp_attr.specs.Attributes.{Attrs}
@@ -15,13 +16,13 @@ use Rattle.bgp_attr.specs.declared.path.SegmentKind.{SegmentKind}
 use Rattle.bgp_attr.specs.declared.path.SegmentKind.TheVariants.{Set, Sequence}
 use Rattle.bgp_attr.specs.declared.unrecognized.Unrecognized.{Unrecognized}
 use Rattle.bgp_attr.specs.Reflections.{Reflected}
-use Rattle.bgp_wire.proofs.JudgedTypes.{Place, first, middle, last}
+use Rattle.bgp_wire.proofs.JudgedTypes.{Place, first, middle, inner, last}
 use Rattle.bgp_wire.specs.Attributes.{Attribute}
 use Rattle.bgp_wire.specs.Paths.{width_of, code_of}
 use Rattle.bgp_wire.specs.Prefixes.{octets_for}
-use Rattle.bgp_wire.specs.Readable.{withdrawal, announcement}
+use Rattle.bgp_wire.specs.Said.{Said}
 use Rattle.bgp_wire.specs.Routes.{code_of_origin}
-use Rattle.bgp_wire.specs.Spelling.{prefix_octets, segment_octets, path_octets, is_long, spelled_octets, spelled, optional, aggregator_value, aggregator_flags, stands_in, clusters_attributes, reflection_attributes, unrecognized_attribute, unrecognized_attributes, mandatory_attributes, further_attributes, sent_attributes, attrs_octets, prefixes_octets, framed, fields_octets, update_octets}
+use Rattle.bgp_wire.specs.Spelling.{prefix_octets, segment_octets, path_octets, is_long, spelled_octets, spelled, optional, aggregator_value, aggregator_flags, stands_in, clusters_attributes, reflection_attributes, unrecognized_attribute, unrecognized_attributes, hop_attributes, reach_value, reach_attributes, mandatory_attributes, further_attributes, leading_attributes, sent_attributes, attrs_octets, unreach_value, unreach_octets, own_octets, prefixes_octets, framed, fields_octets, update_octets}
 use Rattle.journal_check.proofs.InkLemmas.{all_append, all_flat}
 
 abbrev pub AreSmall : List ℕ → Type 0
@@ -61,11 +62,15 @@ numbers width [] = tt
 numbers width (n ∷ ns) = both (bytes_high_first width n) (flat_map (bytes_high_first width) ns) (number width n) (numbers width ns)
 
 -- ---- the parts of a message
-prefix : (p : AddressPrefix) → p.length ≤ 32 → AreSmall (prefix_octets p)
-prefix p few = (omega (arith, few), front (octets_for p.length) (bytes_high_first 4 (p.address / 2 ^ 96)) (number 4 (p.address / 2 ^ 96)))
+-- a length in bits has its octet
+abbrev pub HasShortLength : AddressPrefix → Type 0
+HasShortLength p = p.length < 2 ^ 8
 
-one_prefix : (p : AddressPrefix) → p.length ≤ 32 → AreSmall (prefixes_octets (p ∷ []))
-one_prefix p few = both (prefix_octets p) [] (prefix p few) tt
+prefix : (p : AddressPrefix) → HasShortLength p → AreSmall (prefix_octets p)
+prefix p few = (few, front (octets_for p.length) (bytes_high_first 16 p.address) (number 16 p.address))
+
+prefixes : (ps : List AddressPrefix) → AllByRecursion HasShortLength ps → AreSmall (prefixes_octets ps)
+prefixes ps few = all_flat HasShortLength (λ b. b < 2 ^ 8) prefix_octets prefix ps few
 
 kind_small : (kind : SegmentKind) → code_of kind < 2 ^ 8
 kind_small Set = omega arith
@@ -99,13 +104,22 @@ origin Igp = omega arith
 origin Egp = omega arith
 origin Incomplete = omega arith
 
-mandatory : (as4 : Bool) (a : Attrs) → AllByRecursion HasFewNumbers a.path → AllByRecursion IsSmall (mandatory_attributes as4 a)
-mandatory as4 a few = (
+hop : (v6 : Bool) (n : ℕ) → AllByRecursion IsSmall (hop_attributes v6 n)
+hop false n = (spelled_small 64 3 (bytes_high_first 4 (n / 2 ^ 96)) (omega arith) (omega arith) (number 4 (n / 2 ^ 96)), tt)
+hop true n = tt
+
+mandatory : (v6 as4 : Bool) (a : Attrs) → AllByRecursion HasFewNumbers a.path → AllByRecursion IsSmall (mandatory_attributes v6 as4 a)
+mandatory v6 as4 a few = (
   spelled_small 64 1 (code_of_origin a.origin ∷ []) (omega arith) (omega arith) (origin a.origin, tt),
-  (
-    spelled_small 64 2 (path_octets (width_of as4) a.path) (omega arith) (omega arith) (path (width_of as4) a.path few),
-    (spelled_small 64 3 (bytes_high_first 4 (a.next_hop / 2 ^ 96)) (omega arith) (omega arith) (number 4 (a.next_hop / 2 ^ 96)), tt),
-  ),
+  (spelled_small 64 2 (path_octets (width_of as4) a.path) (omega arith) (omega arith) (path (width_of as4) a.path few), hop v6 a.next_hop),
+)
+
+reach : (v6 : Bool) (n : ℕ) (ps : List AddressPrefix) → AreSmall (prefixes_octets ps) → AllByRecursion IsSmall (reach_attributes v6 n ps)
+reach false n ps each = tt
+reach true n ps each = (
+  spelled_small 128 14 (reach_value n ps) (omega arith) (omega arith)
+      (omega arith, (omega arith, (omega arith, (omega arith, both (bytes_high_first 16 n) (0 ∷ prefixes_octets ps) (number 16 n) (omega arith, each))))),
+  tt,
 )
 
 optional_small : {A : Type 0} (f : A → Attribute) (o : Option A) → ((x : A) → IsSmall (f x)) → AllByRecursion IsSmall (optional f o)
@@ -161,21 +175,30 @@ pub record CanBeSpelled (a : Attrs) : Type 0 where
   pub path : AllByRecursion HasFewNumbers a.path
   pub unrecognized : AllByRecursion IsKnown a.unrecognized
 
-attributes : (as4 : Bool) (a : Attrs) → CanBeSpelled a → AreSmall (attrs_octets as4 (Some a))
-attributes as4 a can =
+leading : (v6 as4 : Bool) (a : Attrs) → CanBeSpelled a → AllByRecursion IsSmall (leading_attributes v6 as4 a)
+leading v6 as4 a can =
     let us : (place : Place) → AllByRecursion IsSmall (unrecognized_attributes place a.unrecognized) = λ place. unrecognized place a.unrecognized can.unrecognized in
     let before = unrecognized_attributes first a.unrecognized in
-    let own = before ++ mandatory_attributes as4 a in
+    let own = before ++ mandatory_attributes v6 as4 a in
     let more = own ++ further_attributes as4 a in
     let between = more ++ unrecognized_attributes middle a.unrecognized in
-    let added = between ++ reflection_attributes a.reflection in
-    all_flat IsSmall (λ b. b < 2 ^ 8) (λ (x : Attribute). x.octets) (λ x is. is) (sent_attributes as4 a)
-    (all_append IsSmall added (unrecognized_attributes last a.unrecognized)
-    (all_append IsSmall between (reflection_attributes a.reflection)
+    all_append IsSmall between (reflection_attributes a.reflection)
     (all_append IsSmall more (unrecognized_attributes middle a.unrecognized)
     (all_append IsSmall own (further_attributes as4 a)
-    (all_append IsSmall before (mandatory_attributes as4 a) (us first) (mandatory as4 a can.path)) (further as4 a))
-    (us middle)) (reflection a.reflection)) (us last))
+    (all_append IsSmall before (mandatory_attributes v6 as4 a) (us first) (mandatory v6 as4 a can.path)) (further as4 a))
+    (us middle)) (reflection a.reflection)
+
+attributes : (v6 as4 : Bool) (a : Attrs) (ps : List AddressPrefix) → CanBeSpelled a → AreSmall (prefixes_octets ps) → AreSmall (attrs_octets v6 as4 (Some a) ps)
+attributes v6 as4 a ps can each =
+    let us : (place : Place) → AllByRecursion IsSmall (unrecognized_attributes place a.unrecognized) = λ place. unrecognized place a.unrecognized can.unrecognized in
+    let first_ones = leading_attributes v6 as4 a in
+    let before = first_ones ++ unrecognized_attributes inner a.unrecognized in
+    let reached = before ++ reach_attributes v6 a.next_hop ps in
+    all_flat IsSmall (λ b. b < 2 ^ 8) (λ (x : Attribute). x.octets) (λ x is. is) (sent_attributes v6 as4 a ps)
+    (all_append IsSmall reached (unrecognized_attributes last a.unrecognized)
+    (all_append IsSmall before (reach_attributes v6 a.next_hop ps)
+    (all_append IsSmall first_ones (unrecognized_attributes inner a.unrecognized) (leading v6 as4 a can) (us inner))
+    (reach v6 a.next_hop ps each)) (us last))
 
 -- ---- messages
 frame : (body : List ℕ) → AreSmall body → AreSmall (framed 2 body)
@@ -188,9 +211,25 @@ fields w a p hw ha hp =
     both (((lw ++ w) ++ la) ++ a) p
     (both ((lw ++ w) ++ la) a (both (lw ++ w) la (both lw w (number 2 (length w)) hw) (number 2 (length a))) ha) hp
 
-pub withdrawal_small : (as4 : Bool) (p : AddressPrefix) → p.length ≤ 32 → AreSmall (update_octets as4 (withdrawal p))
-withdrawal_small as4 p few = frame (fields_octets (prefixes_octets (p ∷ [])) [] []) (fields (prefixes_octets (p ∷ [])) [] [] (one_prefix p few) tt tt)
+unreach : (v6 : Bool) (ps : List AddressPrefix) → AreSmall (prefixes_octets ps) → AreSmall (unreach_octets v6 ps)
+unreach false ps each = tt
+unreach true [] each = tt
+unreach true (p ∷ ps) each = spelled_small 128 15 (unreach_value (p ∷ ps)) (omega arith) (omega arith) (omega arith, (omega arith, (omega arith, each)))
 
-pub announcement_small : (as4 : Bool) (p : AddressPrefix) (a : Attrs) → p.length ≤ 32 → CanBeSpelled a → AreSmall (update_octets as4 (announcement p a))
-announcement_small as4 p a few can =
-    frame (fields_octets [] (attrs_octets as4 (Some a)) (prefixes_octets (p ∷ []))) (fields [] (attrs_octets as4 (Some a)) (prefixes_octets (p ∷ [])) tt (attributes as4 a can) (one_prefix p few))
+own_small : (v6 : Bool) (ps : List AddressPrefix) → AreSmall (prefixes_octets ps) → AreSmall (own_octets v6 ps)
+own_small false ps each = each
+own_small true ps each = tt
+
+attributes_if : (v6 as4 : Bool) (attrs : Option Attrs) (ps : List AddressPrefix) → ForSome attrs CanBeSpelled → AreSmall (prefixes_octets ps) → AreSmall (attrs_octets v6 as4 attrs ps)
+attributes_if v6 as4 None ps can each = tt
+attributes_if v6 as4 (Some a) ps can each = attributes v6 as4 a ps (can a refl) each
+
+pub update_small : (v6 as4 : Bool) (s : Said) → AllByRecursion HasShortLength s.withdrawn → AllByRecursion HasShortLength s.announced → ForSome s.attrs CanBeSpelled
+    → AreSmall (update_octets v6 as4 s)
+update_small v6 as4 s withdrawn announced can =
+    let w = prefixes s.withdrawn withdrawn in
+    let n = prefixes s.announced announced in
+    let attrs = unreach_octets v6 s.withdrawn ++ attrs_octets v6 as4 s.attrs s.announced in
+    let attrs_are : AreSmall attrs = both (unreach_octets v6 s.withdrawn) (attrs_octets v6 as4 s.attrs s.announced) (unreach v6 s.withdrawn w) (attributes_if v6 as4 s.attrs s.announced can n) in
+    frame (fields_octets (own_octets v6 s.withdrawn) attrs (own_octets v6 s.announced))
+    (fields (own_octets v6 s.withdrawn) attrs (own_octets v6 s.announced) (own_small v6 s.withdrawn w) attrs_are (own_small v6 s.announced n))

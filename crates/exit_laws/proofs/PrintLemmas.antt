@@ -1,5 +1,5 @@
 -- The lines of a turn can be printed: what is sent is the form of a row that can be, and its octets are octets.
-use Rattle.std.proofs.Common.{◌≡◌, ◌≢◌, ℕ, ◌+◌, ◌^◌, ◌<◌, Bool, true, false, cond, nat_eq, ◌&&◌, List, [], ◌∷◌, ◌++◌, Option, Some, None, IfSome, inl, inr, refl, sym, ap, subst, ◌∙◌, append_assoc}
+use Rattle.std.proofs.Common.{◌≡◌, ◌≢◌, ℕ, ◌+◌, ◌^◌, ◌<◌, ◌≤◌, Bool, true, false, cond, nat_eq, ◌&&◌, List, [], ◌∷◌, ◌++◌, Option, Some, None, IfSome, inl, inr, refl, sym, ap, subst, ◌∙◌, append_assoc, arith}
 use Rattle.std.specs.Prelude.{option_map, nat_le, All}
 use Rattle.std.specs.Option.{ForSome}
 use Rattle.std.specs.List.{AllByRecursion}
@@ -14,7 +14,9 @@ use Rattle.bgp_attr.specs.declared.speaker.Profile.{Profile}
 use Rattle.bgp_attr.specs.declared.speaker.Neighbour.{Neighbour}
 use Rattle.bgp_wire.specs.Lengths.{announcement_length}
 use Rattle.bgp_wire.specs.Paths.{width_of}
-use Rattle.bgp_wire.specs.Readable.{IsReadableSegment}
+use Rattle.bgp_wire.specs.declared.message.Message.TheVariants as messages
+use Rattle.bgp_wire.specs.Grammar.{Reads}
+use Rattle.bgp_wire.specs.Readable.{IsReadableSegment, said_in}
 use Rattle.bgp_wire.specs.Spelling.{update_octets}
 use Rattle.bgp_wire.proofs.ReadableLaws.{Every, all_every}
 use Rattle.wire_laws.proofs.Prepended.{prepended_is_readable}
@@ -28,7 +30,7 @@ use Rattle.filter_bank.proofs.OutLemmas.{only_forms_of_rows}
 use Rattle.fanout_queue.specs.Queues.{Queued}
 use Rattle.fanout_queue.specs.Readers.{unread_by, read_rows}
 use Rattle.journal_check.proofs.InkLemmas.{all_append, all_mapped}
-use Rattle.journal_check.specs.Laws.{IsPrefix}
+use Rattle.addr4.specs.Families.{IsIpv4Prefix}
 use Rattle.journal_text.specs.Names.{IsNamed}
 use Rattle.journal_text.specs.Links.{same_link}
 use Rattle.journal_text.specs.Values.{attrs_value, route_value, attrs_rows, valued_change, sent_entries}
@@ -56,7 +58,7 @@ use Rattle.exit_side.specs.Steps.{TurnsExit, beside}
 use Rattle.exit_laws.specs.Views.{entry_lines}
 use Rattle.exit_laws.specs.Printable.{IsPrintableBest, AreBestRows, IsBestChange, AreBestChanges, IsPrintableSent, IsPrintableExit, ArePrintableExits}
 use Rattle.exit_laws.specs.Laws.{ArePrinted, PrintsOn, BeginningIsPrinted, EndIsPrinted, TurnIsPrinted, TakeIsPrinted, PrintingStays}
-use Rattle.exit_laws.proofs.OctetLemmas.{AreSmall, HasFewNumbers, CanBeSpelled, each_small, withdrawal_small, announcement_small}
+use Rattle.exit_laws.proofs.OctetLemmas.{AreSmall, HasFewNumbers, CanBeSpelled, each_small, update_small}
 use Rattle.exit_laws.proofs.ViewLemmas.{put_here, numbered, turned_sent}
 use Rattle.exit_laws.proofs.KeptLemmas.{rows_read, taken_change, queue_taken, each_put, sent_there, sent_kept, begun_exits, ended_exits, with_unread}
 
@@ -74,7 +76,7 @@ module _ (exit : Exit) (p : AddressPrefix) (row : Route) (a : Attrs) where
   is_form : (peer : Neighbour) (rules : Option (List Rule)) → outgoing (form_of exit) peer rules p (Some row) ≡ Some a → IsFormOfOne exit row a
   is_form peer rules e =
       let of = only_forms_of_rows (form_of exit) peer rules p row a e in
-      of_fitting of.0 (nat_le (announcement_length exit.profile.as4 p (sent_form exit.profile exit.me exit.external of.0)) 4096) of.2 of.1
+      of_fitting of.0 (nat_le (announcement_length exit.profile.second exit.profile.as4 p (sent_form exit.profile exit.me exit.external of.0)) 4096) of.2 of.1
 
 -- ---- so it can be spelled
 few_of : (as4 : Bool) (path : List Segment) → Every (IsReadableSegment as4) path → AllByRecursion HasFewNumbers path
@@ -95,9 +97,9 @@ can_be_spelled profile peers exit p row a fits best form =
     subst CanBeSpelled (sym form.is) (record { path = few; unrecognized = subst (λ x. AllByRecursion (λ (u : Unrecognized). (u.kind < 2 ^ 8) × AreSmall u.value) x.unrecognized) (sym form.attrs) best.printed.well_told.ranges.attrs.unrecognized })
 
 -- the octets of a change
-pub octets_small : (as4 : Bool) (p : AddressPrefix) (after : Option Attrs) → IsPrefix p → ForSome after CanBeSpelled → AreSmall (update_octets as4 (saying p after))
-octets_small as4 p None prefix can = withdrawal_small as4 p prefix.short
-octets_small as4 p (Some a) prefix can = announcement_small as4 p a prefix.short (can a refl)
+pub octets_small : (v6 as4 : Bool) (p : AddressPrefix) (after : Option Attrs) → IsIpv4Prefix p → ForSome after CanBeSpelled → AreSmall (update_octets v6 as4 (saying p after))
+octets_small v6 as4 p None prefix can = let short : p.length ≤ 32 = prefix.short in update_small v6 as4 (saying p None) (omega (arith, short), tt) tt (λ a e. absurd (let clash : ◌≡◌ {A = Option Attrs} None (Some a) = e in cc))
+octets_small v6 as4 p (Some a) prefix can = let short : p.length ≤ 32 = prefix.short in update_small v6 as4 (saying p (Some a)) tt (omega (arith, short), tt) can
 
 -- ---- lines
 module _ (peers : ℕ → Option Neighbour) where
@@ -121,10 +123,10 @@ module _ (peers : ℕ → Option Neighbour) where
 
   -- what is known of a change that is sent
   pub record IsSayable (change : Change Attrs) : Type 0 where
-    pub prefix : IsPrefix change.prefix
+    pub prefix : IsIpv4Prefix change.prefix
     pub before : ForSome change.before (IsPrintableSent peers change.prefix)
     pub after : ForSome change.after (IsPrintableSent peers change.prefix)
-    pub octets : (as4 : Bool) → AreSmall (update_octets as4 (saying change.prefix change.after))
+    pub octets : (v6 as4 : Bool) → AreSmall (update_octets v6 as4 (saying change.prefix change.after))
 
   sent_printed : (link : Link) (sent : Option (Change Attrs)) → IsNamed link → ((change : Change Attrs) → sent ≡ Some change → IsSayable change)
       → AllByRecursion (λ e. IsPrinted peers (Journal e)) (sent_entries attrs_value link sent)
@@ -138,7 +140,7 @@ module _ (peers : ℕ → Option Neighbour) where
       → ArePrinted peers (message_lines c sent)
   message_printed c None small told each = tt
   message_printed c (Some change) small told each =
-      (record { short = record { ranges = (small, (each change refl).octets c.exit.profile.as4); values = tt; octets = (told change refl).reads.1.frame.top }; told = tt }, tt)
+      (record { short = record { ranges = (small, (each change refl).octets c.exit.profile.second c.exit.profile.as4); values = tt; octets = (told change refl).reads.1.frame.top }; told = tt }, tt)
 
 -- ---- a turn
 -- what the change that a turn sends came from
@@ -194,7 +196,7 @@ module _ (links : Links Value) (rows : Rows Attrs) (n t : ℕ) (is : links (Adv 
       let there = subst (λ (o : Option Attrs). IsLawful (fold_links links first) (change_entries (Adv n t) change.prefix (option_map attrs_value o) (option_map attrs_value change.after))) before own in
       value_back (rows change.prefix) a (stood (fold_links links first) (Adv n t) (attrs_rows rows) change.prefix (attrs_value a) (option_map attrs_value change.after) (stays ∙ is) there)
 
-prefix_of_one : (p : AddressPrefix) (before after : Option Attrs) → after ≢ before → ((b : Attrs) → before ≡ Some b → IsPrefix p) → ((a : Attrs) → after ≡ Some a → IsPrefix p) → IsPrefix p
+prefix_of_one : (p : AddressPrefix) (before after : Option Attrs) → after ≢ before → ((b : Attrs) → before ≡ Some b → IsIpv4Prefix p) → ((a : Attrs) → after ≡ Some a → IsIpv4Prefix p) → IsIpv4Prefix p
 prefix_of_one p None None differs was is = absurd (differs refl)
 prefix_of_one p (Some b) after differs was is = was b refl
 prefix_of_one p None (Some a) differs was is = is a refl
@@ -204,12 +206,12 @@ row_there form peer rules p None a e = absurd (let clash : ◌≡◌ {A = Option
 row_there form peer rules p (Some row) a e = (row, refl, e)
 
 -- the change that a turn sends can be said and printed
-module _ (profile : Profile) (peers : ℕ → Option Neighbour) (old new : OutChained) (now : Rows Route) (rows : AreBestRows profile peers now) (exact : HasSent new now) (chain : IsOutChain new) (written : new.exit.profile ≡ profile) where
+module _ (profile : Profile) (peers : ℕ → Option Neighbour) (old new : OutChained) (now : Rows Route) (rows : AreBestRows profile peers now) (exact : HasSent new now) (chain : IsOutChain new) (written : new.exit.profile ≡ profile) (first : old.exit.profile.second ≡ false) where
   fits : new.exit.me.asn < 256 ^ width_of profile.as4
   fits = subst (λ (p : Profile). new.exit.me.asn < 256 ^ width_of p.as4) written chain.sender.asn
 
   module _ (change : Change Attrs) (told : IsTold old.exit change) (at : tables.get new.sent change.prefix ≡ change.after) where
-    from_row : (a : Attrs) → change.after ≡ Some a → IsPrefix change.prefix × CanBeSpelled a
+    from_row : (a : Attrs) → change.after ≡ Some a → IsIpv4Prefix change.prefix × CanBeSpelled a
     from_row a is =
         let p = change.prefix in
         let made : outf_rows new now p ≡ Some a = ap (λ (r : Rows Attrs). r p) (sym exact) ∙ at ∙ is in
@@ -220,10 +222,12 @@ module _ (profile : Profile) (peers : ℕ → Option Neighbour) (old new : OutCh
     after_printed : (a : Attrs) → change.after ≡ Some a → IsPrintableSent peers change.prefix a
     after_printed a is =
         let own = from_row a is in
-        let octets = octets_small old.exit.profile.as4 change.prefix change.after own.0 (λ b b_is. subst CanBeSpelled (let e : Some a ≡ Some b = sym is ∙ b_is in let same : a ≡ b = cc in same) own.1) in
+        let octets = octets_small old.exit.profile.second old.exit.profile.as4 change.prefix change.after own.0 (λ b b_is. subst CanBeSpelled (let e : Some a ≡ Some b = sym is ∙ b_is in let same : a ≡ b = cc in same) own.1) in
+        let reads : Reads old.exit.profile old.exit.external (message_octets old.exit.profile change) (messages.Update (said_in false (saying change.prefix change.after))) =
+        subst (λ (v6 : Bool). Reads old.exit.profile old.exit.external (message_octets old.exit.profile change) (messages.Update (said_in v6 (saying change.prefix change.after)))) first told.reads in
         record {
           prefix = own.0;
-          printed = read_printable peers old.exit.profile old.exit.external (message_octets old.exit.profile.as4 change) (saying change.prefix change.after) a (each_small (message_octets old.exit.profile.as4 change) octets) told.reads (said change.after is);
+          printed = read_printable peers old.exit.profile old.exit.external (message_octets old.exit.profile change) (said_in false (saying change.prefix change.after)) a (each_small (message_octets old.exit.profile change) octets) reads (said change.after is);
         }
       where
         said : (o : Option Attrs) → o ≡ Some a → (saying change.prefix o).attrs ≡ Some a
@@ -233,8 +237,8 @@ module _ (profile : Profile) (peers : ℕ → Option Neighbour) (old new : OutCh
     sayable : SendsFrom old change → ((p : AddressPrefix) → ForSome (tables.get old.sent p) (IsPrintableSent peers p)) → IsSayable peers change
     sayable from was =
         let before : ForSome change.before (IsPrintableSent peers change.prefix) = λ b is. was change.prefix b (from.was b is) in
-        let prefix : IsPrefix change.prefix = prefix_of_one change.prefix change.before change.after from.differs (λ b is. (before b is).prefix) (λ a is. (from_row a is).0) in
-        record { prefix = prefix; before = before; after = after_printed; octets = λ as4. octets_small as4 change.prefix change.after prefix (λ a is. (from_row a is).1) }
+        let prefix : IsIpv4Prefix change.prefix = prefix_of_one change.prefix change.before change.after from.differs (λ b is. (before b is).prefix) (λ a is. (from_row a is).0) in
+        record { prefix = prefix; before = before; after = after_printed; octets = λ v6 as4. octets_small v6 as4 change.prefix change.after prefix (λ a is. (from_row a is).1) }
 
 -- ---- the steps
 module _ (profile : Profile) (peers : ℕ → Option Neighbour) (j : ℕ) (candidates : Candidates) (best : Rows Route) (sent : Option (Change Attrs)) (e e' : Exited) (said : List Line)
@@ -300,7 +304,7 @@ module _ (profile : Profile) (peers : ℕ → Option Neighbour) (j : ℕ) (candi
 
   each_sayable : (change : Change Attrs) → sent ≡ Some change → IsSayable peers change
   each_sayable change is =
-      sayable profile peers turn.chain turn.taken now (rows_read profile peers _ best (queue turn.chain.reader) rows) turn.turns.goes.exact (turn.stand j turn.taken at).chain written change
+      sayable profile peers turn.chain turn.taken now (rows_read profile peers _ best (queue turn.chain.reader) rows) turn.turns.goes.exact (turn.stand j turn.taken at).chain written (ap (λ (w : Profile). w.second) (ap (λ (x : Exit). x.profile) (sym turn.same.exit) ∙ written) ∙ are.first) change
       (turn.turns.goes.told change is)
       (ap (λ r. tables.get r change.prefix) (kept ∙ ap (sent_after turn.chain.sent) is) ∙ sent_there profile peers turn.chain.sent change)
       (from is) own.sent
@@ -341,7 +345,7 @@ module _ (profile : Profile) (peers : ℕ → Option Neighbour) (j : ℕ) (candi
   turn_prints : PrintsOn profile peers e' said
   turn_prints = record {
     lines = subst (ArePrinted peers) (sym turn.turns.goes.lines) lines_are;
-    exits = subst (ArePrintableExits profile peers) (sym turn.after) (record { unread = queue; each = each_put profile peers j turn.taken e'.queue e chain_is are.each });
+    exits = subst (ArePrintableExits profile peers) (sym turn.after) (record { first = are.first; unread = queue; each = each_put profile peers j turn.taken e'.queue e chain_is are.each });
   }
 
 pub turn_is_printed : TurnIsPrinted
@@ -401,6 +405,7 @@ module _ (profile : Profile) (before now : Declaration) (keeps : KeepsPeers befo
 
 pub printing_stays : PrintingStays
 printing_stays profile before now e keeps are = record {
+  first = are.first;
   unread = λ reader. all_mapped (IsBestChange profile (neighbours before)) (IsBestChange profile (neighbours now)) (change_stays profile before now keeps) (unread_by e.queue reader) (are.unread reader);
   each = λ j c at. record { named = (are.each j c at).named; sent = λ p a is. sent_stays profile before now keeps p a ((are.each j c at).sent p a is) };
 }

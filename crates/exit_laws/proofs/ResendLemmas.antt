@@ -6,7 +6,7 @@ use Rattle.std.specs.FinMap as tables
 use Rattle.std.specs.FinMap.{get-insert, same_map}
 use Rattle.addr4.specs.Prefixes.{AddressPrefix}
 use Rattle.addr4.proofs.PrefixOrder.{prefixes_total, by_prefix, exact_prefixes}
-use Rattle.bgp_attr.specs.Hosts.{is_host_prefix}
+use Rattle.addr4.specs.Hosts.{is_host_prefix}
 use Rattle.bgp_attr.specs.Attributes.{Attrs}
 use Rattle.bgp_attr.specs.declared.speaker.Neighbour.{Neighbour}
 use Rattle.bgp_attr.specs.declared.speaker.Profile.{Profile}
@@ -64,11 +64,11 @@ resend_is_heard profile peers j best e e' said declared sound stand resends =
     let stands = stand j c resends.there in
     let same : c.exit.profile ≡ profile = own.profile ∙ declared.profile in
     let made : outf_rows c (read_rows e.queue c.reader best) r.prefix ≡ Some r.attrs = ap (λ (rows : Rows Attrs). rows r.prefix) (sym stands.exact) ∙ r.row in
-    let host : is_host_prefix r.prefix ≡ true = hosts_alone (form_of c.exit) c.peer (function_at c.filter r.prefix) r.prefix (read_rows e.queue c.reader best r.prefix) r.attrs made in
+    let host : is_host_prefix profile.second r.prefix ≡ true = subst (λ (w : Profile). is_host_prefix w.second r.prefix ≡ true) same (hosts_alone (form_of c.exit) c.peer (function_at c.filter r.prefix) r.prefix (read_rows e.queue c.reader best r.prefix) r.attrs made) in
     let heard : Hears profile peers (views_of e) (message_lines c (Some (announcing r.prefix r.attrs))) (with_routes (views_of e) j c.sent) =
     hears_message profile peers j c (views_of e) own.number (declared.words j c resends.there) same stands.chain.kind (ap sent_by resends.there) (Some (announcing r.prefix r.attrs)) c.sent (put_again c.sent r.prefix r.attrs r.row)
     (λ change is. subst (λ (x : Change Attrs). IsTold c.exit x) (same_change (announcing r.prefix r.attrs) change is) r.told)
-    (λ change is a after. subst (λ (x : Change Attrs). is_host_prefix x.prefix ≡ true) (same_change (announcing r.prefix r.attrs) change is) host) in
+    (λ change is a after. subst (λ (x : Change Attrs). is_host_prefix profile.second x.prefix ≡ true) (same_change (announcing r.prefix r.attrs) change is) host) in
     subst (λ (ls : List Line). Hears profile peers (views_of e) ls (views_of e')) (sym r.line)
     (subst (λ (v : Views). Hears profile peers (views_of e) (message_lines c (Some (announcing r.prefix r.attrs))) v) (routes_same (views_of e) j c.sent (ap sent_by resends.there) ∙ sym (resend_keeps_views j e e' said resends)) heard)
 
@@ -80,13 +80,13 @@ refresh_is_printed profile peers j e are = by_chain (chain_at j e) refl
     by_chain None at = are
     by_chain (Some c) at =
         let own = are.each j c at in
-        record { unread = are.unread; each = each_put profile peers j (refreshed c) e.queue e (record { named = own.named; sent = own.sent }) are.each }
+        record { first = are.first; unread = are.unread; each = each_put profile peers j (refreshed c) e.queue e (record { named = own.named; sent = own.sent }) are.each }
 
 -- what is sent of a route that may be heard can be spelled, where it can be printed
 spelled_of : (peers : ℕ → Option Neighbour) (profile : Profile) (external : Bool) (p : AddressPrefix) (a : Attrs) → IsSentOf profile external p a → IsPrintableSent peers p a → CanBeSpelled a
 spelled_of peers profile external p a of printed =
     let exit : Exit = record { profile = profile; me = of.me; external = external } in
-    let form : IsFormOfOne exit of.row a = of_fitting exit p of.row a of.row (nat_le (announcement_length profile.as4 p (sent_form profile of.me external of.row)) 4096) refl of.sent in
+    let form : IsFormOfOne exit of.row a = of_fitting exit p of.row a of.row (nat_le (announcement_length profile.second profile.as4 p (sent_form profile of.me external of.row)) 4096) refl of.sent in
     let r = form.route in
     let few = sent_few profile.as4 external (1 + r.prepend) of.me.asn r.attrs.path of.sender.asn (subst (λ (x : Attrs). All (IsReadableSegment profile.as4) x.path) (sym form.attrs) of.heard.path) in
     record { path = subst (λ (x : Attrs). AllByRecursion HasFewNumbers x.path) (sym form.is) few; unrecognized = printed.printed.well_told.ranges.unrecognized }
@@ -104,12 +104,13 @@ resend_is_printed profile peers j best e e' said sound stand are resends =
       prefix = printed.prefix;
       before = λ a none. absurd (let clash : ◌≡◌ {A = Option Attrs} None (Some a) = none in cc);
       after = λ a there. subst (IsPrintableSent peers r.prefix) (let same : r.attrs ≡ a = (let both : Some r.attrs ≡ Some a = there in cc) in same) printed;
-      octets = λ as4. octets_small as4 r.prefix (Some r.attrs) printed.prefix (λ a there. subst CanBeSpelled (let same : r.attrs ≡ a = (let both : Some r.attrs ≡ Some a = there in cc) in same) can);
+      octets = λ v6 as4. octets_small v6 as4 r.prefix (Some r.attrs) printed.prefix (λ a there. subst CanBeSpelled (let same : r.attrs ≡ a = (let both : Some r.attrs ≡ Some a = there in cc) in same) can);
     } in
     let lines : ArePrinted peers (message_lines c (Some change)) = message_printed peers c (Some change) names.0.1 (λ x there. subst (IsTold c.exit) (same_change change x there) r.told) (λ x there. subst (IsSayable peers) (same_change change x there) is) in
     record {
       lines = subst (ArePrinted peers) (sym r.line) lines;
       exits = subst (ArePrintableExits profile peers) (sym resends.after) (record {
+        first = are.first;
         unread = are.unread;
         each = each_put profile peers j resends.taken e.queue e (subst (IsPrintableExit peers j) (sym r.after) (record { named = own.named; sent = own.sent })) are.each;
       });

@@ -132,10 +132,10 @@ at_peer : (j k : ℕ) (e : Exited) (c : OutChained) → j ≡ k → chain_at k e
 at_peer j k e c is at = ap (λ (n : ℕ). chain_at n e) is ∙ at
 
 -- what a message says
-said_by : (j k : ℕ) (c : OutChained) (first : List Line) (change : Change Attrs) → c.peer.number ≡ k → j ≡ k → IsReadAs c.exit.profile c.exit.external (message_octets c.exit.profile.as4 change) (saying change.prefix change.after)
+said_by : (j k : ℕ) (c : OutChained) (first : List Line) (change : Change Attrs) → c.peer.number ≡ k → j ≡ k → IsReadAs c.exit.profile c.exit.external (message_octets c.exit.profile change) (saying change.prefix change.after)
     → IsSaid j c.exit (first ++ message_lines c (Some change)) change
 said_by j k c first change number is told =
-    let octets = message_octets c.exit.profile.as4 change in
+    let octets = message_octets c.exit.profile change in
     record {
       octets = octets;
       among = Contains-append_right first (message_lines c (Some change)) (Out j octets)

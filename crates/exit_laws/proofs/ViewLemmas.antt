@@ -7,13 +7,15 @@ use Rattle.std.specs.Cmp.{nat_cmp_total}
 use Rattle.std.proofs.lemmas.Bool.Decides.{nat_tests}
 use Rattle.addr4.specs.Prefixes.{AddressPrefix}
 use Rattle.addr4.proofs.PrefixOrder.{prefixes_total, itself}
-use Rattle.bgp_attr.specs.Hosts.{is_host_prefix}
+use Rattle.addr4.specs.Hosts.{is_host_prefix}
 use Rattle.bgp_attr.specs.Attributes.{Attrs}
 use Rattle.bgp_attr.specs.Routes.{Route}
 use Rattle.bgp_attr.specs.declared.speaker.Profile.{Profile}
 use Rattle.bgp_attr.specs.declared.speaker.Neighbour.{Neighbour}
 use Rattle.bgp_wire.specs.declared.message.Message.TheVariants.{Update}
 use Rattle.bgp_wire.specs.Grammar.{Reads}
+use Rattle.bgp_wire.specs.Readable.{said_of, said_in}
+use Rattle.bgp_wire.specs.Said.{Said}
 use Rattle.link_change.specs.Rows.{Rows, Candidates}
 use Rattle.link_change.specs.Changes.{Change}
 use Rattle.link_change.proofs.RowLemmas.{same_function}
@@ -36,7 +38,7 @@ use Rattle.out_chain.specs.Steps.{exit_to, new_out, sending_entries, message_lin
 use Rattle.exit_side.specs.Exits.{Exited, chain_at, with_exit, without_exit, links_by}
 use Rattle.exit_side.specs.Steps.{edited_by}
 use Rattle.exit_side.proofs.SwapLemmas.{by_number}
-use Rattle.live_state.specs.Messages.{changes_of}
+use Rattle.live_state.specs.Messages.{changes_in, changes_of}
 use Rattle.live_state.specs.Lives.{Routes, with_routes, routes_after}
 use Rattle.live_state.specs.Heard.{Views, HearsOctets, Hears}
 use Rattle.exit_laws.specs.Views.{sent_by, views_of, AreUnheard, entry_lines}
@@ -115,14 +117,19 @@ let_out_hosts true kept form p later a e = refl
 let_out_hosts false true form p later a e = absurd (let clash : ◌≡◌ {A = Option Attrs} None (Some a) = e in cc)
 let_out_hosts false false form p later a e = absurd (let clash : ◌≡◌ {A = Option Attrs} None (Some a) = e in cc)
 
-pub hosts_alone : (form : Form Attrs) (peer : Neighbour) (rules : Option (List Rule)) (p : AddressPrefix) (row : Option Route) (a : Attrs) → outgoing form peer rules p row ≡ Some a → is_host_prefix p ≡ true
+pub hosts_alone : (form : Form Attrs) (peer : Neighbour) (rules : Option (List Rule)) (p : AddressPrefix) (row : Option Route) (a : Attrs) → outgoing form peer rules p row ≡ Some a → is_host_prefix form.v6 p ≡ true
 hosts_alone form peer rules p None a e = absurd (let clash : ◌≡◌ {A = Option Attrs} None (Some a) = e in cc)
-hosts_alone form peer rules p (Some r) a e = let_out_hosts (is_host_prefix p) _ form p (let_by rules p (first_out peer r)) a e
+hosts_alone form peer rules p (Some r) a e = let_out_hosts (is_host_prefix form.v6 p) _ form p (let_by rules p (first_out peer r)) a e
 
 -- what a neighbour makes of a change that it is told
-told_routes : (routes : Routes) (p : AddressPrefix) (after : Option Attrs) → ((a : Attrs) → after ≡ Some a → is_host_prefix p ≡ true) → routes_after routes (changes_of (saying p after)) ≡ kept_after routes p after
-told_routes routes p None hosts = refl
-told_routes routes p (Some a) hosts = ap (λ (b : Bool). routes_after routes (map (λ (q : AddressPrefix). (q, Some a)) (cond b (p ∷ []) []))) (hosts a refl)
+told_routes : (v6 : Bool) (routes : Routes) (p : AddressPrefix) (after : Option Attrs) → ((a : Attrs) → after ≡ Some a → is_host_prefix v6 p ≡ true) → routes_after routes (changes_in v6 (saying p after)) ≡ kept_after routes p after
+told_routes v6 routes p None hosts = refl
+told_routes v6 routes p (Some a) hosts = ap (λ (b : Bool). routes_after routes (map (λ (q : AddressPrefix). (q, Some a)) (cond b (p ∷ []) []))) (hosts a refl)
+
+-- what is said of a family, an UPDATE that says it says of it
+said_back : (v6 : Bool) (s : Said) → said_of v6 (said_in v6 s) ≡ s
+said_back false s = refl
+said_back true s = refl
 
 -- what was sent at the prefix of a change, then
 kept_here : (rows : Routes) (p : AddressPrefix) (a : Attrs) → tables.get (kept_after rows p (Some a)) p ≡ Some a
@@ -130,7 +137,7 @@ kept_here rows p a = get-insert prefixes_total rows p a p ∙ ap (λ (b : Bool).
 
 -- of a chain that sent a change, and what it made of the rows that its reader has then
 sent_hosts : (new : OutChained) (now : Rows Route) (rows : Routes) (change : Change Attrs) → HasSent new now → new.sent ≡ sent_after rows (Some change)
-    → (a : Attrs) → change.after ≡ Some a → is_host_prefix change.prefix ≡ true
+    → (a : Attrs) → change.after ≡ Some a → is_host_prefix new.exit.profile.second change.prefix ≡ true
 sent_hosts new now rows change exact after a is =
     let p = change.prefix in
     let there : tables.get new.sent p ≡ Some a = ap (λ (r : Routes). tables.get r p) (after ∙ ap (kept_after rows p) is) ∙ kept_here rows p a in
@@ -163,16 +170,20 @@ sending_unheard c sent =
 -- what the message of a change says to peer j
 module _ (profile : Profile) (peers : ℕ → Option Neighbour) (j : ℕ) (old : OutChained) (v : Views) (number : old.peer.number ≡ j) (known : peers j ≡ Some old.peer) (same : old.exit.profile ≡ profile) (kind : old.exit.external ≡ not old.peer.internal) (is : v j ≡ old.sent) where
   pub hears_message : (sent : Option (Change Attrs)) (routes : Routes) → routes ≡ sent_after old.sent sent
-      → ((change : Change Attrs) → sent ≡ Some change → IsTold old.exit change) → ((change : Change Attrs) → sent ≡ Some change → (a : Attrs) → change.after ≡ Some a → is_host_prefix change.prefix ≡ true)
+      → ((change : Change Attrs) → sent ≡ Some change → IsTold old.exit change) → ((change : Change Attrs) → sent ≡ Some change → (a : Attrs) → change.after ≡ Some a → is_host_prefix profile.second change.prefix ≡ true)
       → Hears profile peers v (message_lines old sent) (with_routes v j routes)
   hears_message None routes after told hosts = routes_same v j routes (is ∙ sym after)
   hears_message (Some change) routes after told hosts =
-      let octets = message_octets old.exit.profile.as4 change in
-      let made : routes_after (v j) (changes_of (saying change.prefix change.after)) ≡ routes = told_routes (v j) change.prefix change.after (hosts change refl) ∙ ap (λ (r : Routes). kept_after r change.prefix change.after) is ∙ sym after in
+      let octets = message_octets old.exit.profile change in
+      let said = saying change.prefix change.after in
+      let update = said_in profile.second said in
+      let made : routes_after (v j) (changes_of profile update) ≡ routes =
+      ap (λ (s : Said). routes_after (v j) (changes_in profile.second s)) (said_back profile.second said)
+      ∙ told_routes profile.second (v j) change.prefix change.after (hosts change refl) ∙ ap (λ (r : Routes). kept_after r change.prefix change.after) is ∙ sym after in
       let hears : HearsOctets profile old.peer j octets v (with_routes v j routes) = record {
-        update = saying change.prefix change.after;
-        reads = subst (λ (external : Bool). Reads profile external octets (Update (saying change.prefix change.after))) kind
-            (subst (λ (p : Profile). Reads p old.exit.external octets (Update (saying change.prefix change.after))) same (told change refl).reads);
+        update = update;
+        reads = subst (λ (external : Bool). Reads profile external octets (Update update)) kind
+            (subst (λ (p : Profile). Reads p old.exit.external octets (Update (said_in p.second said))) same (told change refl).reads);
         after = ap (with_routes v j) (sym made);
       } in
       subst (λ (n : ℕ). Hears profile peers v (lines.Out n octets ∷ []) (with_routes v j routes)) (sym number) (with_routes v j routes, (old.peer, known, hears), refl)
@@ -185,14 +196,15 @@ turn_is_heard_from profile peers j candidates best sent e e' said v declared tur
     let own = turn.sound.each j taken at in
     let stands = turn.stand j taken at in
     let number : chain.peer.number ≡ j = ap (λ (w : Neighbour). w.number) (sym turn.same.peer) ∙ own.number in
-    let same : chain.exit.profile ≡ profile = ap (λ x. x.profile) (sym turn.same.exit) ∙ own.profile ∙ ap (λ (x : Exited). x.profile) turn.after ∙ declared.profile in
+    let taken_same : taken.exit.profile ≡ profile = own.profile ∙ ap (λ (x : Exited). x.profile) turn.after ∙ declared.profile in
+    let same : chain.exit.profile ≡ profile = ap (λ x. x.profile) (sym turn.same.exit) ∙ taken_same in
     let kind : chain.exit.external ≡ not chain.peer.internal = ap (λ x. x.external) (sym turn.same.exit) ∙ stands.chain.kind ∙ ap (λ (w : Neighbour). not w.internal) turn.same.peer in
     let after = turned_sent chain taken e.queue e'.queue candidates best sent said turn.turns in
     let entries = turn.turns.entries ++ sending_entries chain sent in
     let quiet = nothing_is_heard profile peers v (entry_lines entries)
     (unheard_joins turn.turns.entries (sending_entries chain sent) (entries_unheard chain taken e.queue e'.queue candidates best sent said turn.turns) (sending_unheard chain sent)) in
     let message = hears_message profile peers j chain v number (declared.words j chain turn.at) same kind is sent taken.sent after turn.turns.goes.told
-    (λ change sends. sent_hosts taken _ chain.sent change turn.turns.goes.exact (after ∙ ap (sent_after chain.sent) sends)) in
+    (λ change sends a is_after. subst (λ (w : Profile). is_host_prefix w.second change.prefix ≡ true) taken_same (sent_hosts taken _ chain.sent change turn.turns.goes.exact (after ∙ ap (sent_after chain.sent) sends) a is_after)) in
     subst (λ (ls : List Line). Hears profile peers v ls (with_routes v j taken.sent)) (sym turn.turns.goes.lines)
     (hearing_joins profile peers v v (with_routes v j taken.sent) (entry_lines entries) (message_lines chain sent) quiet message)
 

@@ -186,8 +186,8 @@ PrintingStays =
     (profile : Profile) (before now : Declaration) (e : Exited) → KeepsPeers before now → ArePrintableExits profile (neighbours before) e
     → ArePrintableExits profile (neighbours now) e
 
--- Where no peer is up, and no reader has a change to take, all that stands in the exits can be printed, whatever the profile is.
+-- Where no peer is up, and no reader has a change to take, all that stands in the exits can be printed, whatever the profile of IPv4 is.
 abbrev pub EmptyIsPrinted : Type 0
 EmptyIsPrinted =
-    (profile : Profile) (peers : ℕ → Option Neighbour) (e : Exited) → ((j : ℕ) → chain_at j e ≡ None) → ((reader : ℕ) → unread_by e.queue reader ≡ [])
+    (profile : Profile) (peers : ℕ → Option Neighbour) (e : Exited) → profile.second ≡ false → ((j : ℕ) → chain_at j e ≡ None) → ((reader : ℕ) → unread_by e.queue reader ≡ [])
     → ArePrintableExits profile peers e

@@ -3,6 +3,7 @@
 
 ghost use Rattle.std.specs.Prelude.{◌≡◌, OnOk, IsSome, None};
 ghost use Rattle.std.specs.Option.{option_copied};
+ghost use Rattle.bgp_attr.specs.Speakers.{IsProfileOf};
 ghost use Rattle.peer_out.specs.Changes.{IsSender};
 ghost use Rattle.journal_text.specs.Journals.{Adds};
 ghost use Rattle.exit_side.specs.Exits.{no_exits, chain_at, IsExits};
@@ -47,12 +48,17 @@ impl<F: Family> Model for Exits<F> {
     ghost coded = { exited_code profile_row.the_row.coded (queued_code (route_row.the_row (attrs_row.the_row word)).coded) (map.code coded_ℕ (chain_row.the_row family_row.the_row ⟦<V4 as Family>⟧).coded) };
 
     ghost view = { λ e. record { profile = e.profile; queue = e.queue; chains = map.from_entries e.chains.entries } };
+
+    ghost use Rattle.bgp_attr.specs.Speakers.{IsProfileOf};
+
+    ghost invariant = { λ e. IsProfileOf F.V6 e.profile };
 }
 
 impl<F: Writes> Exits<F> {
     /// No peer is up, and the queue has no reader. Messages are written by this profile. Takes no
     /// memory.
     pub fn new(alloc: Global, profile: Profile) -> Exits<F>
+        requires { IsProfileOf F.V6 profile }
         ensures { result ≡ no_exits profile }
     {
         Exits {

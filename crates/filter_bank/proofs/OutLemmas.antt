@@ -2,7 +2,7 @@
 use Rattle.std.proofs.Common.{◌≡◌, ◌≢◌, nat_eq, not, ◌&&◌, ◌||◌, Bool, true, false, cond, List, Option, Some, None, IfSome, refl, sym, ap, ◌∙◌, arith}
 use Rattle.std.proofs.lemmas.Bool.Decides.{nat_tests}
 use Rattle.addr4.specs.Prefixes.{AddressPrefix}
-use Rattle.bgp_attr.specs.Hosts.{is_host_prefix}
+use Rattle.addr4.specs.Hosts.{is_host_prefix}
 use Rattle.bgp_attr.specs.Attributes.{Attrs}
 use Rattle.bgp_attr.specs.Routes.{Route}
 use Rattle.bgp_attr.specs.declared.speaker.Neighbour.{Neighbour}
@@ -25,7 +25,7 @@ bare form p false = refl
 
 nothing_by_none : (form : Form Attrs) (peer : Neighbour) (p : AddressPrefix) (row : Option Route) → outgoing form peer None p row ≡ None
 nothing_by_none form peer p None = refl
-nothing_by_none form peer p (Some r) = bare form p (may_go peer p r)
+nothing_by_none form peer p (Some r) = bare form p (may_go form.v6 peer p r)
 
 pub nothing_at_first : NothingAtFirst
 nothing_at_first form peer rules upper = same_function _ _ (λ q. nothing_by_none form peer q (upper q))
@@ -54,7 +54,7 @@ went form p false later a e = absurd (let f : None ≡ Some a = e in cc)
 
 pub only_what_may_go : OnlyWhatMayGo
 only_what_may_go form peer rules p r a e =
-    let may = both (is_kept_from peer r.from) (is_host_prefix p) (went form p (may_go peer p r) (let_by rules p (first_out peer r)) a e) in
+    let may = both (is_kept_from peer r.from) (is_host_prefix form.v6 p) (went form p (may_go form.v6 peer p r) (let_by rules p (first_out peer r)) a e) in
     record {
       not_back = λ from is. (not_kept peer r.from from may.0 is).0;
       reflected_inside = λ from is. (not_kept peer r.from from may.0 is).1;
@@ -89,4 +89,4 @@ module _ (form : Form Attrs) (p : AddressPrefix) (row : Route) (sent : Attrs) wh
 pub only_forms_of_rows : OnlyFormsOfRows
 only_forms_of_rows form peer rules p row sent e =
     let first = first_out peer row in
-    of_let form p row sent (may_go peer p row) (let_by rules p first) (of_rules form p row sent first rules (first_keeps peer row)) e
+    of_let form p row sent (may_go form.v6 peer p row) (let_by rules p first) (of_rules form p row sent first rules (first_keeps peer row)) e

@@ -7,8 +7,8 @@
 //! the prefix make of the row above, and nothing else is kept: no copy of the table, only the rules.
 //!
 //! The outgoing filter (RFC 4271, sections 9.1.3 and 9.2): a route doesn't go back to the peer that it came from, nor from one
-//! internal peer to another unless one of them is a client of this speaker (RFC 4456, section 6), nor does a prefix of
-//! multicast or of class E go out. An external peer gets no MULTI_EXIT_DISC but one that rules set. Then the rules judge the
+//! internal peer to another unless one of them is a client of this speaker (RFC 4456, section 6), nor does a prefix that no
+//! host may have (of IPv4 multicast and class E, of IPv6 multicast) go out. An external peer gets no MULTI_EXIT_DISC but one that rules set. Then the rules judge the
 //! route, and what the peer is sent of it is asked ([`Sent`]). A session begins with nothing sent, and a walk to its rules.
 //!
 //! New rules hold nowhere at first: a walk over the prefixes of the link above brings them into force, a candidate each

@@ -6,7 +6,7 @@ ghost use Rattle.filter_bank.specs.Outgoing.{is_reflected, is_kept_from, may_go,
 
 use crate::sent::Sent;
 use addr4::{Family, Memory, Prefix, Row};
-use bgp_attr::{Neighbour, Route, SharedAttrs, is_host_prefix};
+use bgp_attr::{Neighbour, Route, SharedAttrs};
 use link_change::Change;
 use policy_rules::{Rules, judge};
 
@@ -32,9 +32,9 @@ fn is_kept_from(peer: &Neighbour, from: Option<Neighbour>) -> bool
 
 /// Whether the peer may get the route, if the rules let it.
 fn may_go<F: Family>(peer: &Neighbour, prefix: Prefix<F>, route: &Route<SharedAttrs<F>>) -> bool
-    ensures { result ≡ may_go peer.now prefix route.now }
+    ensures { result ≡ may_go F.V6 peer.now prefix route.now }
 {
-    !is_kept_from(peer, route.from) && is_host_prefix(prefix)
+    !is_kept_from(peer, route.from) && prefix.is_of_hosts()
 }
 
 /// The route before any rule.
@@ -55,7 +55,7 @@ fn let_out<F: Family>(
     prefix: Prefix<F>,
     row: Option<Route<SharedAttrs<F>>>,
 ) -> Option<Route<SharedAttrs<F>>>
-    ensures { result ≡ let_out peer.now rules.now prefix row }
+    ensures { result ≡ let_out F.V6 peer.now rules.now prefix row }
 {
     match (rules, row) {
         (Some(rules), Some(route)) => {
@@ -78,6 +78,7 @@ pub(crate) fn sent_row<F: Family, S: Sent<F>>(
 ) -> Result<Option<S::Row>, Memory>
     ensures { IfOk result (λ sent. sent ≡ outgoing (S.form form.now) peer.now rules.now prefix row) }
 {
+    form.known();
     match let_out(peer, rules, prefix, row) {
         None => Ok(None),
         Some(route) => form.sent(&prefix, &route),

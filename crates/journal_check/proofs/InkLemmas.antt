@@ -11,6 +11,10 @@ use Rattle.std.proofs.lemmas.List.Folds.{list_all-append}
 use Rattle.hex.specs.Hex.{lower_digits, encode_with, encode_lower}
 use Rattle.addr4.specs.Texts.{parts, dotted}
 
+pub both_true : (a b : Bool) → (a && b) ≡ true → (a ≡ true) × (b ≡ true)
+both_true true b e = (refl, e)
+both_true false b e = absurd (cc)
+
 -- what holds of the bytes of both holds of them together
 pub all_append : {A : Type 0} (P : A → Type 0) (xs ys : List A) → AllByRecursion P xs → AllByRecursion P ys → AllByRecursion P (xs ++ ys)
 all_append P [] ys g h = h
@@ -19,6 +23,11 @@ all_append P (x ∷ xs) ys g h = (g.0, all_append P xs ys g.1 h)
 pub all_mapped : {A : Type 0} (P Q : A → Type 0) → ((x : A) → P x → Q x) → (xs : List A) → AllByRecursion P xs → AllByRecursion Q xs
 all_mapped P Q f [] h = tt
 all_mapped P Q f (x ∷ xs) h = (f x h.0, all_mapped P Q f xs h.1)
+
+-- what a test tells of each byte that passes it
+pub all_passed : (p : ℕ → Bool) (Q : ℕ → Type 0) → ((x : ℕ) → p x ≡ true → Q x) → (xs : List ℕ) → list_all p xs ≡ true → AllByRecursion Q xs
+all_passed p Q each [] h = tt
+all_passed p Q each (x ∷ xs) h = let t = both_true (p x) (list_all p xs) h in (each x t.0, all_passed p Q each xs t.1)
 
 pub all_flat : {A : Type 0} (P : A → Type 0) (Q : ℕ → Type 0) (f : A → List ℕ) → ((x : A) → P x → AllByRecursion Q (f x)) → (xs : List A) → AllByRecursion P xs → AllByRecursion Q (flat_map f xs)
 all_flat P Q f each [] h = tt
@@ -55,10 +64,6 @@ AreInk text = AllByRecursion IsInk text
 
 abbrev pub inky : ℕ → Bool
 inky b = nat_le 33 b && nat_le b 126
-
-pub both_true : (a b : Bool) → (a && b) ≡ true → (a ≡ true) × (b ≡ true)
-both_true true b e = (refl, e)
-both_true false b e = absurd (cc)
 
 ink_byte : (b : ℕ) → inky b ≡ true → IsInk b
 ink_byte b e = let t = both_true (nat_le 33 b) (nat_le b 126) e in let low = t.0 in let high = t.1 in (grind (arith, nat_tests), grind (arith, nat_tests))

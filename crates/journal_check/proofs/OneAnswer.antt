@@ -2,12 +2,13 @@
 use Rattle.std.proofs.Common.{◌≡◌, ◌⊎◌, ℕ, ◌+◌, ◌<◌, List, [], ◌∷◌, ◌++◌, length, Some, None, refl, sym, ap, subst, ◌∙◌, inl, inr, arith, append_assoc, length-append}
 use Rattle.std.proofs.lemmas.Bool.Decides.{nat_tests}
 use Rattle.journal_text.specs.Walk.{Links, Demands, IsLawful, after, fold_links, no_links}
-use Rattle.journal_check.specs.Readings.{TextEntry, reading_of}
-use Rattle.journal_check.specs.Judged.{rule_of, entries_in, joined, each_read, entries_read, IsReached, IsBrokenAt, IsNotAJournalAt, IsLawfulJournal}
+use Rattle.journal_check.specs.Entries.{TextEntry, FamilyEntry, entries_in}
+use Rattle.journal_check.specs.Readings.{reading_of}
+use Rattle.journal_check.specs.Judged.{rule_of, entries_given, joined, each_read, entries_read, AreLawful, Breaks, IsReached, IsBrokenAt, IsNotAJournalAt, IsLawfulJournal}
 use Rattle.journal_check.specs.Laws.{OneAnswer}
 use Rattle.journal_check.specs.declared.reading.Reading.TheVariants.{Read, NotALine}
 use Rattle.journal_check.specs.declared.checked.Checked.TheVariants.{Lawful, Broken, NotAJournal}
-use Rattle.journal_check.proofs.JudgeLemmas.{same_entries, parts_of, entries_few}
+use Rattle.journal_check.proofs.JudgeLemmas.{same_entries, parts_of, entries_few, own_entries, lawful_in}
 
 -- ---- two ways to part the same lines
 
@@ -32,26 +33,26 @@ meet (w ∷ a) x s (v ∷ b) y t e = let same = first_same w v (a ++ x ∷ s) (b
 
 -- ---- a line at which it is decided
 
-abbrev Fails : List (List ℕ) → List ℕ → List TextEntry → Type 0
+abbrev Fails : List (List ℕ) → List ℕ → List FamilyEntry → Type 0
 Fails before line entries =
-    ((entry : TextEntry) × (reading_of line ≡ Read entry) × (Demands (fold_links no_links entries) entry → ⊥))
+    ((entry : FamilyEntry) × (reading_of line ≡ Read entry) × Breaks entries entry)
     ⊎ ((reading_of line ≡ NotALine) ⊎ (length before + 1 ≡ 4294967296))
 
 -- the entries of lines that are all read, at one of them
-record Within (before : List (List ℕ)) (line : List ℕ) (es : List TextEntry) : Type 0 where
-  first : List TextEntry
-  own : List TextEntry
-  last : List TextEntry
+record Within (before : List (List ℕ)) (line : List ℕ) (es : List FamilyEntry) : Type 0 where
+  first : List FamilyEntry
+  own : List FamilyEntry
+  last : List FamilyEntry
   reads : each_read before ≡ Some first
-  gives : entries_in (reading_of line) ≡ Some own
+  gives : entries_given (reading_of line) ≡ Some own
   all : es ≡ first ++ (own ++ last)
 
-within : (before : List (List ℕ)) (line : List ℕ) (more : List (List ℕ)) (es : List TextEntry) → each_read (before ++ line ∷ more) ≡ Some es → Within before line es
+within : (before : List (List ℕ)) (line : List ℕ) (more : List (List ℕ)) (es : List FamilyEntry) → each_read (before ++ line ∷ more) ≡ Some es → Within before line es
 within [] line more es reads =
-    let p = parts_of (entries_in (reading_of line)) (each_read more) es reads in
+    let p = parts_of (entries_given (reading_of line)) (each_read more) es reads in
     record { first = []; own = p.0; last = p.1; reads = refl; gives = p.2; all = sym p.4 }
 within (x ∷ before) line more es reads =
-    let p = parts_of (entries_in (reading_of x)) (each_read (before ++ line ∷ more)) es reads in
+    let p = parts_of (entries_given (reading_of x)) (each_read (before ++ line ∷ more)) es reads in
     let w = within before line more p.1 p.3 in
     record {
       first = p.0 ++ w.first;
@@ -66,20 +67,21 @@ demanded : (links : Links (List ℕ)) (first : List TextEntry) (entry : TextEntr
 demanded links [] entry last lawful = lawful.0
 demanded links (e ∷ first) entry last lawful = demanded (after links e) first entry last lawful.1
 
-none_given : (line : List ℕ) (own : List TextEntry) → entries_in (reading_of line) ≡ Some own → reading_of line ≡ NotALine → ⊥
-none_given line own gives is = let none : None ≡ Some own = sym (ap entries_in is) ∙ gives in cc
+none_given : (line : List ℕ) (own : List FamilyEntry) → entries_given (reading_of line) ≡ Some own → reading_of line ≡ NotALine → ⊥
+none_given line own gives is = let none : None ≡ Some own = sym (ap entries_given is) ∙ gives in cc
 
-one_given : (own : List TextEntry) (entry : TextEntry) → entries_in (Read entry) ≡ Some own → own ≡ entry ∷ []
+one_given : (own : List FamilyEntry) (entry : FamilyEntry) → entries_given (Read entry) ≡ Some own → own ≡ entry ∷ []
 one_given own entry gives = sym (same_entries (entry ∷ []) own gives)
 
 -- lines that are all read and lawful have no such line among them
-no_failure : (before : List (List ℕ)) (line : List ℕ) (more : List (List ℕ)) (entries es : List TextEntry) → entries_read before ≡ Some entries → Fails before line entries → entries_read (before ++ line ∷ more) ≡ Some es → IsLawful no_links es → ⊥
+no_failure : (before : List (List ℕ)) (line : List ℕ) (more : List (List ℕ)) (entries es : List FamilyEntry) → entries_read before ≡ Some entries → Fails before line entries → entries_read (before ++ line ∷ more) ≡ Some es → AreLawful es → ⊥
 no_failure before line more entries es reads (inl (entry, is, broken)) all lawful =
     let w = within before line more es (entries_few (before ++ line ∷ more) es all).1 in
-    let own : w.own ≡ entry ∷ [] = one_given w.own entry (sym (ap entries_in is) ∙ w.gives) in
+    let own : w.own ≡ entry ∷ [] = one_given w.own entry (sym (ap entries_given is) ∙ w.gives) in
     let first : w.first ≡ entries = same_entries w.first entries (sym w.reads ∙ (entries_few before entries reads).1) in
     let whole : es ≡ entries ++ entry ∷ w.last = w.all ∙ (λ i. first i ++ (own i ++ w.last)) in
-    broken (demanded no_links entries entry w.last (subst (IsLawful no_links) whole lawful))
+    let walk = own_entries entries entry w.last in
+    broken (demanded no_links (entries_in entry.v6 entries) entry.entry (entries_in entry.v6 w.last) (subst (IsLawful no_links) (ap (entries_in entry.v6) whole ∙ walk) (lawful_in entry.v6 es lawful)))
 no_failure before line more entries es reads (inr (inl is)) all lawful =
     let w = within before line more es (entries_few (before ++ line ∷ more) es all).1 in none_given line w.own w.gives is
 no_failure before line more entries es reads (inr (inr last)) all lawful =
@@ -90,31 +92,31 @@ no_failure before line more entries es reads (inr (inr last)) all lawful =
 -- ---- two answers
 
 -- where it is decided by line n
-record IsDecided (lines : List (List ℕ)) (n : ℕ) (line : List ℕ) (entries : List TextEntry) : Type 0 where
+record IsDecided (lines : List (List ℕ)) (n : ℕ) (line : List ℕ) (entries : List FamilyEntry) : Type 0 where
   reached : IsReached lines n entries line
   fails : Fails reached.before line entries
 
 decided_broken : (lines : List (List ℕ)) (n rule : ℕ) (is : IsBrokenAt lines n rule) → IsDecided lines n is.line is.entries
 decided_broken lines n rule is = record { reached = is.reached; fails = inl (is.entry, is.reads, is.broken) }
 
-cause_there : (lines : List (List ℕ)) (n : ℕ) (line : List ℕ) (entries : List TextEntry) (r : IsReached lines n entries line) → (reading_of line ≡ NotALine) ⊎ (n ≡ 4294967296) → (reading_of line ≡ NotALine) ⊎ (length r.before + 1 ≡ 4294967296)
+cause_there : (lines : List (List ℕ)) (n : ℕ) (line : List ℕ) (entries : List FamilyEntry) (r : IsReached lines n entries line) → (reading_of line ≡ NotALine) ⊎ (n ≡ 4294967296) → (reading_of line ≡ NotALine) ⊎ (length r.before + 1 ≡ 4294967296)
 cause_there lines n line entries r (inl is) = inl is
 cause_there lines n line entries r (inr last) = inr (sym r.number ∙ last)
 
 decided_none : (lines : List (List ℕ)) (n : ℕ) (is : IsNotAJournalAt lines n) → IsDecided lines n is.line is.entries
 decided_none lines n is = record { reached = is.reached; fails = inr (cause_there lines n is.line is.entries is.reached is.cause) }
 
-lawful_or_decided : (lines : List (List ℕ)) (n : ℕ) (line : List ℕ) (entries : List TextEntry) → IsLawfulJournal lines → IsDecided lines n line entries → ⊥
+lawful_or_decided : (lines : List (List ℕ)) (n : ℕ) (line : List ℕ) (entries : List FamilyEntry) → IsLawfulJournal lines → IsDecided lines n line entries → ⊥
 lawful_or_decided lines n line entries lawful d =
     no_failure d.reached.before line d.reached.later entries lawful.0 d.reached.reads d.fails (sym (ap entries_read d.reached.parted) ∙ lawful.1) lawful.2
 
 -- the same line, with the same entries before it
-record IsSame (n m : ℕ) (x y : List ℕ) (es fs : List TextEntry) : Type 0 where
+record IsSame (n m : ℕ) (x y : List ℕ) (es fs : List FamilyEntry) : Type 0 where
   number : n ≡ m
   line : x ≡ y
   entries : es ≡ fs
 
-decided_once : (lines : List (List ℕ)) (n m : ℕ) (x y : List ℕ) (es fs : List TextEntry) → IsDecided lines n x es → IsDecided lines m y fs → IsSame n m x y es fs
+decided_once : (lines : List (List ℕ)) (n m : ℕ) (x y : List ℕ) (es fs : List FamilyEntry) → IsDecided lines n x es → IsDecided lines m y fs → IsSame n m x y es fs
 decided_once lines n m x y es fs d e = by (meet d.reached.before x d.reached.later e.reached.before y e.reached.later (sym d.reached.parted ∙ e.reached.parted))
   where
     by : Meets d.reached.before x e.reached.before y → IsSame n m x y es fs
@@ -126,20 +128,20 @@ decided_once lines n m x y es fs d e = by (meet d.reached.before x d.reached.lat
     by (inr (inl later)) = absurd (no_failure d.reached.before x later.0 es fs d.reached.reads d.fails (sym (ap entries_read later.1) ∙ e.reached.reads) e.reached.lawful)
     by (inr (inr later)) = absurd (no_failure e.reached.before y later.0 fs es e.reached.reads e.fails (sym (ap entries_read later.1) ∙ d.reached.reads) d.reached.lawful)
 
-same_reading : (a b : TextEntry) → Read a ≡ Read b → a ≡ b
+same_reading : (a b : FamilyEntry) → Read a ≡ Read b → a ≡ b
 same_reading a b e = cc
 
 broken_once : (lines : List (List ℕ)) (n rule m law : ℕ) → IsBrokenAt lines n rule → IsBrokenAt lines m law → Broken n rule ≡ Broken m law
 broken_once lines n rule m law a b =
     let same = decided_once lines n m a.line b.line a.entries b.entries (decided_broken lines n rule a) (decided_broken lines m law b) in
     let entry : a.entry ≡ b.entry = same_reading a.entry b.entry (sym a.reads ∙ (ap reading_of same.line ∙ b.reads)) in
-    let by : rule ≡ law = sym a.by ∙ (ap rule_of entry ∙ b.by) in
+    let by : rule ≡ law = sym a.by ∙ (ap (λ (e : FamilyEntry). rule_of e.entry) entry ∙ b.by) in
     λ i. Broken (same.number i) (by i)
 
 none_once : (lines : List (List ℕ)) (n m : ℕ) → IsNotAJournalAt lines n → IsNotAJournalAt lines m → NotAJournal n ≡ NotAJournal m
 none_once lines n m a b = ap (λ (k : ℕ). NotAJournal k) (decided_once lines n m a.line b.line a.entries b.entries (decided_none lines n a) (decided_none lines m b)).number
 
-not_both : (n m : ℕ) (x y : List ℕ) (entry : TextEntry) → n ≡ m → x ≡ y → reading_of x ≡ Read entry → n < 4294967296 → (reading_of y ≡ NotALine) ⊎ (m ≡ 4294967296) → ⊥
+not_both : (n m : ℕ) (x y : List ℕ) (entry : FamilyEntry) → n ≡ m → x ≡ y → reading_of x ≡ Read entry → n < 4294967296 → (reading_of y ≡ NotALine) ⊎ (m ≡ 4294967296) → ⊥
 not_both n m x y entry number line reads below (inl is) = let clash : Read entry ≡ NotALine = sym reads ∙ (ap reading_of line ∙ is) in cc
 not_both n m x y entry number line reads below (inr last) = omega arith
 

@@ -1,63 +1,21 @@
 -- A prefix is read back from its text.
-use Rattle.std.proofs.Common.{◌≡◌, ℕ, zero, suc, ◌/◌, ◌%◌, ◌^◌, ◌<◌, ◌≤◌, ◌&&◌, ◌||◌, not, Bool, true, false, cond, nat_eq, List, [], ◌∷◌, length, get_or, Option, Some, None, refl, sym, ap, ◌∙◌, arith, option_map}
+use Rattle.std.proofs.Common.{◌≡◌, ℕ, ◌/◌, ◌%◌, ◌^◌, ◌<◌, ◌≤◌, ◌||◌, Bool, true, false, cond, nat_eq, [], ◌∷◌, Option, Some, None, refl, ap, ◌∙◌, arith, option_map}
 use Rattle.std.proofs.lemmas.Bool.Decides.{nat_tests}
 use Rattle.std.proofs.lemmas.Nat.{mod_below, from_be_bytes-to_be_bytes_4}
-use Rattle.std.specs.Char.{is_ascii_digit}
+use Rattle.std.specs.Char.{is_digit}
 use Rattle.std.specs.Int.{w32, to_be_bytes, from_be_bytes}
-use Rattle.std.specs.List.{AllByRecursion, list_all}
+use Rattle.std.specs.List.{AllByRecursion}
 use Rattle.std.specs.Fmt.{decimal}
-use Rattle.std.specs.Str.Parse.{digits_value}
-use Rattle.std.proofs.lemmas.Fmt.{decimal_is_IsNumeral, first_decimal, decimal_digit}
 use Rattle.std.proofs.lemmas.Slice.Eq.{bytes_eq-Decides}
 use Rattle.addr4.specs.Blocks.{masked_to, width}
 use Rattle.addr4.specs.Prefixes.{AddressPrefix}
-use Rattle.addr4.specs.Texts.{is_numeral, value_below, number_below, parts, id_from_octets, id_from_parts, addr_of, dotted, addr_text, address_prefix_of, prefix_from_parts, prefix_of, prefix_text, id_of, id_text}
-use Rattle.addr4.proofs.NumberLemmas.{value_small}
-use Rattle.addr4.specs.Families.{in_front, IsIpv4}
+use Rattle.addr4.specs.Texts.{number_below, parts, id_from_octets, id_from_parts, addr_of, dotted, addr_text, address_prefix_of, prefix_from_parts, prefix_of, prefix_text, id_of, id_text}
+use Rattle.addr4.proofs.NumberBack.{number_back}
+use Rattle.addr6.proofs.PrintedLemmas.{addr_bytes, prefix_back as prefix6_back}
+use Rattle.addr4.specs.Families.{in_front, IsIpv4, IsIpv4Prefix, IsPrefixOf}
 use Rattle.addr4.proofs.FrontLemmas.{front_below, front_again, front_prefix}
-use Rattle.journal_check.specs.Laws.{IsPrefix}
 use Rattle.journal_check.specs.Readings.{◌>>=◌, as_printed, printed_prefix}
-use Rattle.journal_check.proofs.InkLemmas.{AreInk, IsInk, all_append, decimal_are, dotted_are, ink_dotted, ink_decimal, apart_then, apart_alone}
-
--- ---- numbers
-
-digit_passes : (c : ℕ) → 48 ≤ c → c ≤ 57 → is_ascii_digit c ≡ true
-digit_passes c low high = grind (arith, nat_tests)
-
-and_yes : (a b : Bool) → a ≡ true → b ≡ true → (a && b) ≡ true
-and_yes a b ha hb = cc
-
-all_digits : (cs : List ℕ) → AllByRecursion (λ c. is_ascii_digit c ≡ true) cs → list_all is_ascii_digit cs ≡ true
-all_digits [] h = refl
-all_digits (c ∷ cs) h = and_yes (is_ascii_digit c) (list_all is_ascii_digit cs) h.0 (all_digits cs h.1)
-
-numeral_by : (a b c d : Bool) → a ≡ false → c ≡ false → d ≡ true → (not a && (b || not c) && d) ≡ true
-numeral_by true b c d ha hc hd = absurd (cc)
-numeral_by false b true d ha hc hd = absurd (cc)
-numeral_by false true false d ha hc hd = hd
-numeral_by false false false d ha hc hd = hd
-
-numeral_above : (n : ℕ) → 0 < n → n < 2 ^ 64 → is_numeral (decimal n) ≡ true
-numeral_above n some wide =
-    let text = decimal n in
-    let numeral = decimal_is_IsNumeral n wide in
-    let long = numeral.0.0 in
-    let first = first_decimal n some wide in
-    let not_empty : nat_eq (length text) 0 ≡ false = grind (arith, nat_tests) in
-    let not_zero : nat_eq (get_or text 0 0) 48 ≡ false = grind (arith, nat_tests) in
-    numeral_by (nat_eq (length text) 0) (nat_eq (length text) 1) (nat_eq (get_or text 0 0) 48) (list_all is_ascii_digit text) not_empty not_zero (all_digits text (decimal_are (λ c. is_ascii_digit c ≡ true) digit_passes n wide))
-
-numeral_of : (n : ℕ) → n < 2 ^ 64 → is_numeral (decimal n) ≡ true
-numeral_of zero wide = ap is_numeral (decimal_digit 0 (omega arith))
-numeral_of (suc n) wide = numeral_above (suc n) (omega arith) wide
-
-pub number_back : (bound n : ℕ) → n < bound → n < 2 ^ 64 → number_below bound (decimal n) ≡ Some n
-unfolding number_below
-number_back bound n below wide =
-    let numeral = decimal_is_IsNumeral n wide in
-    let value = numeral.1 in
-    let small : digits_value 10 (decimal n) < bound = omega arith in
-    ap (λ b. cond b (value_below bound (decimal n)) None) (numeral_of n wide) ∙ (sym (value_small bound (decimal n) small) ∙ ap Some value)
+use Rattle.journal_check.proofs.InkLemmas.{AreInk, IsInk, all_append, all_passed, decimal_are, dotted_are, ink_dotted, ink_decimal, apart_then, apart_alone}
 
 -- ---- addresses
 
@@ -97,7 +55,7 @@ id_back a small =
     ∙ (octets_back (a / 16777216 % 256) (a / 65536 % 256) (a / 256 % 256) (a % 256) first second third fourth
     ∙ ap Some (from_be_bytes-to_be_bytes_4 a small))
 
-pub addr_back : (a : ℕ) → IsIpv4 a → addr_of (addr_text a) ≡ Some a
+pub addr_back : (a : ℕ) → IsIpv4 a → addr_of false (addr_text false a) ≡ Some a
 addr_back a is = ap (option_map in_front) (id_back (a / 2 ^ 96) (front_below a is.0)) ∙ ap Some (front_again a is.1)
 
 number_octet : (n : ℕ) → n % 256 < 2 ^ 32
@@ -110,14 +68,18 @@ pub ink_id : (a : ℕ) → AreInk (id_text a)
 unfolding id_text
 ink_id a = ink_dotted (to_be_bytes w32 a) (octets_are a)
 
-pub ink_addr : (a : ℕ) → AreInk (addr_text a)
-ink_addr a = ink_id (a / 2 ^ 96)
+hex_or_colon_ink : (c : ℕ) → (is_digit c 16 || nat_eq c 58) ≡ true → IsInk c
+hex_or_colon_ink c passes = (grind (arith, nat_tests), grind (arith, nat_tests))
+
+pub ink_addr : (v6 : Bool) (a : ℕ) → AreInk (addr_text v6 a)
+ink_addr false a = ink_id (a / 2 ^ 96)
+ink_addr true a = all_passed (λ c. is_digit c 16 || nat_eq c 58) IsInk hex_or_colon_ink (addr_text true a) (addr_bytes a)
 
 pub slashless_id : (a : ℕ) → AllByRecursion (λ c. nat_eq c 47 ≡ false) (id_text a)
 unfolding id_text
 slashless_id a = dotted_are (λ c. nat_eq c 47 ≡ false) not_slash refl (to_be_bytes w32 a) (octets_are a)
 
-pub slashless : (a : ℕ) → AllByRecursion (λ c. nat_eq c 47 ≡ false) (addr_text a)
+pub slashless : (a : ℕ) → AllByRecursion (λ c. nat_eq c 47 ≡ false) (addr_text false a)
 slashless a = slashless_id (a / 2 ^ 96)
 
 -- ---- prefixes
@@ -125,27 +87,28 @@ slashless a = slashless_id (a / 2 ^ 96)
 pub slashless_length : (n : ℕ) → n ≤ 32 → AllByRecursion (λ c. nat_eq c 47 ≡ false) (decimal n)
 slashless_length n small = decimal_are (λ c. nat_eq c 47 ≡ false) not_slash n (omega arith)
 
-pub ink_prefix : (p : AddressPrefix) → IsPrefix p → AreInk (prefix_text p)
+pub ink_prefix : (v6 : Bool) (p : AddressPrefix) → IsPrefixOf v6 p → AreInk (prefix_text v6 p)
 unfolding prefix_text
-ink_prefix p h =
-    let short = h.short in
-    all_append IsInk (addr_text p.address) (47 ∷ decimal p.length) (ink_addr p.address) ((omega arith, omega arith), ink_decimal p.length (omega arith))
+ink_prefix v6 p h =
+    let short = h.masked.0 in
+    all_append IsInk (addr_text v6 p.address) (47 ∷ decimal p.length) (ink_addr v6 p.address) ((omega arith, omega arith), ink_decimal p.length (omega arith))
 
-masked_itself : (p : AddressPrefix) → IsPrefix p → masked_to width p.address p.length ≡ p.address
+masked_itself : (p : AddressPrefix) → IsIpv4Prefix p → masked_to width p.address p.length ≡ p.address
 masked_itself p h = let rest = h.masked.1 in omega arith
 
-prefix_back : (p : AddressPrefix) → IsPrefix p → prefix_of 32 (prefix_text p) ≡ Some p
+prefix_back : (v6 : Bool) (p : AddressPrefix) → IsPrefixOf v6 p → prefix_of v6 (prefix_text v6 p) ≡ Some p
 unfolding prefix_of prefix_text
-prefix_back p h =
+prefix_back false p h =
     let short = h.short in
-    ap (prefix_from_parts 32) (apart_then 47 (addr_text p.address) (decimal p.length) refl (slashless p.address) ∙ ap (λ ps. addr_text p.address ∷ ps) (apart_alone 47 (decimal p.length) (slashless_length p.length short)))
+    ap (prefix_from_parts false) (apart_then 47 (addr_text false p.address) (decimal p.length) refl (slashless p.address) ∙ ap (λ ps. addr_text false p.address ∷ ps) (apart_alone 47 (decimal p.length) (slashless_length p.length short)))
     ∙ ((λ i. address_prefix_of (addr_back p.address (front_prefix p h) i) (number_back 33 p.length (omega arith) (omega arith) i))
     ∙ ap (λ (a : ℕ). Some (record { address = a; length = p.length })) (masked_itself p h))
+prefix_back true p h = prefix6_back p h.masked h.fits
 
-as_itself : (p : AddressPrefix) → as_printed (prefix_text p) p ≡ Some p
+as_itself : (v6 : Bool) (p : AddressPrefix) → as_printed v6 (prefix_text v6 p) p ≡ Some p
 unfolding as_printed
-as_itself p = ap (λ b. cond b (Some p) None) ((bytes_eq-Decides (prefix_text p) (prefix_text p)).1 refl)
+as_itself v6 p = ap (λ b. cond b (Some p) None) ((bytes_eq-Decides (prefix_text v6 p) (prefix_text v6 p)).1 refl)
 
-pub printed_back : (p : AddressPrefix) → IsPrefix p → printed_prefix (prefix_text p) ≡ Some p
+pub printed_back : (v6 : Bool) (p : AddressPrefix) → IsPrefixOf v6 p → printed_prefix v6 (prefix_text v6 p) ≡ Some p
 unfolding printed_prefix
-printed_back p h = ap (λ (o : Option AddressPrefix). o >>= λ q. as_printed (prefix_text p) q) (prefix_back p h) ∙ as_itself p
+printed_back v6 p h = ap (λ (o : Option AddressPrefix). o >>= λ q. as_printed v6 (prefix_text v6 p) q) (prefix_back v6 p h) ∙ as_itself v6 p

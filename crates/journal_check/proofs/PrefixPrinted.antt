@@ -1,4 +1,4 @@
--- A word that spells a prefix is printed so exactly where the address has no bits beyond the length.
+-- A word that spells a prefix of IPv4 is printed so exactly where the address has no bits beyond the length.
 use Rattle.std.proofs.Common.{◌≡◌, ℕ, zero, suc, ◌^◌, ◌<◌, ◌≤◌, ◌||◌, not, Bool, true, false, cond, nat_eq, List, [], ◌∷◌, ◌++◌, length, get_or, Option, Some, None, refl, sym, ap, ◌∙◌, ◌/◌, arith, option_map}
 use Rattle.std.proofs.lemmas.Bool.Decides.{nat_tests}
 use Rattle.std.proofs.lemmas.Fmt.{decimal-digits_value}
@@ -110,10 +110,10 @@ id_printed text a e = by_parts (parts 46 text) refl e
     by_parts (p ∷ q ∷ r ∷ s ∷ t ∷ ps) parted is = absurd (cc)
 
 -- and so is an address
-address_text : (text : List ℕ) (a : ℕ) → addr_of text ≡ Some a → addr_text a ≡ text
+address_text : (text : List ℕ) (a : ℕ) → addr_of false text ≡ Some a → addr_text false a ≡ text
 address_text text a is = by_id (id_of text) refl is
   where
-    by_id : (o : Option ℕ) → id_of text ≡ o → option_map in_front o ≡ Some a → addr_text a ≡ text
+    by_id : (o : Option ℕ) → id_of text ≡ o → option_map in_front o ≡ Some a → addr_text false a ≡ text
     by_id None at e = absurd (cc)
     by_id (Some n) at e =
         let front : in_front n ≡ a = cc in
@@ -129,35 +129,35 @@ pub record Spells (word : List ℕ) (a n : ℕ) : Type 0 where
   pub address : List ℕ
   pub length : List ℕ
   pub parted : parts 47 word ≡ address ∷ length ∷ []
-  pub is_address : addr_of address ≡ Some a
+  pub is_address : addr_of false address ≡ Some a
   pub is_length : number_below 33 length ≡ Some n
 
-spelled_word : (word : List ℕ) (a n : ℕ) → Spells word a n → addr_text a ++ 47 ∷ decimal n ≡ word
+spelled_word : (word : List ℕ) (a n : ℕ) → Spells word a n → addr_text false a ++ 47 ∷ decimal n ≡ word
 spelled_word word a n s =
     let length = spelled 33 s.length n (omega arith) s.is_length in
     (λ i. address_text s.address a s.is_address i ++ 47 ∷ length.printed i) ∙ (ap (join_with_byte 47) (sym s.parted) ∙ join_with_byte-slice_split 47 word)
 
-read_so : (word : List ℕ) (a n : ℕ) → Spells word a n → printed_prefix word ≡ as_printed word (masked a n)
+read_so : (word : List ℕ) (a n : ℕ) → Spells word a n → printed_prefix false word ≡ as_printed false word (masked a n)
 unfolding printed_prefix prefix_of
-read_so word a n s = ap (λ (o : Option AddressPrefix). o >>= λ q. as_printed word q) (ap (prefix_from_parts 32) s.parted ∙ (λ i. address_prefix_of (s.is_address i) (s.is_length i)))
+read_so word a n s = ap (λ (o : Option AddressPrefix). o >>= λ q. as_printed false word q) (ap (prefix_from_parts false) s.parted ∙ (λ i. address_prefix_of (s.is_address i) (s.is_length i)))
 
-pub printed_where_masked : (word : List ℕ) (a n : ℕ) → Spells word a n → masked_to width a n ≡ a → printed_prefix word ≡ Some (masked a n)
+pub printed_where_masked : (word : List ℕ) (a n : ℕ) → Spells word a n → masked_to width a n ≡ a → printed_prefix false word ≡ Some (masked a n)
 unfolding as_printed prefix_text
 printed_where_masked word a n s same =
-    let text : word ≡ prefix_text (masked a n) = sym (spelled_word word a n s) ∙ ap (λ (b : ℕ). addr_text b ++ 47 ∷ decimal n) (sym same) in
-    read_so word a n s ∙ ap (λ (b : Bool). cond b (Some (masked a n)) None) ((bytes_eq-Decides word (prefix_text (masked a n))).1 text)
+    let text : word ≡ prefix_text false (masked a n) = sym (spelled_word word a n s) ∙ ap (λ (b : ℕ). addr_text false b ++ 47 ∷ decimal n) (sym same) in
+    read_so word a n s ∙ ap (λ (b : Bool). cond b (Some (masked a n)) None) ((bytes_eq-Decides word (prefix_text false (masked a n))).1 text)
 
-parted_text : (a n : ℕ) → n < 33 → parts 47 (prefix_text (masked a n)) ≡ addr_text (masked_to width a n) ∷ decimal n ∷ []
+parted_text : (a n : ℕ) → n < 33 → parts 47 (prefix_text false (masked a n)) ≡ addr_text false (masked_to width a n) ∷ decimal n ∷ []
 unfolding prefix_text
 parted_text a n short =
-    apart_then 47 (addr_text (masked_to width a n)) (decimal n) refl (slashless (masked_to width a n))
-    ∙ ap (λ ps. addr_text (masked_to width a n) ∷ ps) (apart_alone 47 (decimal n) (slashless_length n (omega arith)))
+    apart_then 47 (addr_text false (masked_to width a n)) (decimal n) refl (slashless (masked_to width a n))
+    ∙ ap (λ ps. addr_text false (masked_to width a n) ∷ ps) (apart_alone 47 (decimal n) (slashless_length n (omega arith)))
 
-pub not_printed : (word : List ℕ) (a n : ℕ) → IsIpv4 a → Spells word a n → (masked_to width a n ≡ a → ⊥) → printed_prefix word ≡ None
+pub not_printed : (word : List ℕ) (a n : ℕ) → IsIpv4 a → Spells word a n → (masked_to width a n ≡ a → ⊥) → printed_prefix false word ≡ None
 unfolding as_printed
-not_printed word a n ipv4 s other = read_so word a n s ∙ by_text (bytes_eq word (prefix_text (masked a n))) refl
+not_printed word a n ipv4 s other = read_so word a n s ∙ by_text (bytes_eq word (prefix_text false (masked a n))) refl
   where
-    same_address : word ≡ prefix_text (masked a n) → masked_to width a n ≡ a
+    same_address : word ≡ prefix_text false (masked a n) → masked_to width a n ≡ a
     same_address text =
         let length = spelled 33 s.length n (omega arith) s.is_length in
         let prefix : IsIpv4Prefix (masked a n) = record {
@@ -165,10 +165,10 @@ not_printed word a n ipv4 s other = read_so word a n s ∙ by_text (bytes_eq wor
           fits = omega (arith, ipv4.0);
           short = omega (arith, length.below);
         } in
-        let first : s.address ≡ addr_text (masked_to width a n) = ap (λ (ps : List (List ℕ)). get_or ps 0 []) (sym s.parted ∙ (ap (parts 47) text ∙ parted_text a n length.below)) in
-        let read : Some (masked_to width a n) ≡ Some a = sym (addr_back (masked_to width a n) (front_prefix (masked a n) prefix)) ∙ (ap addr_of (sym first) ∙ s.is_address) in
+        let first : s.address ≡ addr_text false (masked_to width a n) = ap (λ (ps : List (List ℕ)). get_or ps 0 []) (sym s.parted ∙ (ap (parts 47) text ∙ parted_text a n length.below)) in
+        let read : Some (masked_to width a n) ≡ Some a = sym (addr_back (masked_to width a n) (front_prefix (masked a n) prefix)) ∙ (ap (addr_of false) (sym first) ∙ s.is_address) in
         cc
 
-    by_text : (same : Bool) → bytes_eq word (prefix_text (masked a n)) ≡ same → cond same (Some (masked a n)) None ≡ None
-    by_text true is = absurd (other (same_address ((bytes_eq-Decides word (prefix_text (masked a n))).0 is)))
+    by_text : (same : Bool) → bytes_eq word (prefix_text false (masked a n)) ≡ same → cond same (Some (masked a n)) None ≡ None
+    by_text true is = absurd (other (same_address ((bytes_eq-Decides word (prefix_text false (masked a n))).0 is)))
     by_text false is = refl

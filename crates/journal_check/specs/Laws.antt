@@ -1,7 +1,7 @@
 -- Laws of the judge: printed lines are read back, and there is one answer.
-use Rattle.std.specs.Prelude.{◌≡◌, ℕ, ◌^◌, ◌<◌, ◌≤◌, true, List, [], ◌∷◌, ◌++◌, length, Option, Some, None, option_map}
+use Rattle.std.specs.Prelude.{◌≡◌, ℕ, ◌^◌, ◌<◌, ◌≤◌, Bool, true, List, [], ◌∷◌, ◌++◌, length, Option, Some, None, option_map}
 use Rattle.std.specs.List.{AllByRecursion}
-use Rattle.addr4.specs.Families.{IsIpv4, IsIpv4Prefix}
+use Rattle.addr4.specs.Families.{IsAddress, IsPrefixOf}
 use Rattle.addr4.specs.Prefixes.{AddressPrefix}
 use Rattle.bgp_attr.specs.declared.path.Segment.{Segment}
 use Rattle.bgp_attr.specs.declared.attrs.Aggregator.{Aggregator}
@@ -18,17 +18,14 @@ use Rattle.journal_text.specs.Lines.{Entry}
 use Rattle.journal_text.specs.declared.entry.Entry.TheVariants.{Begin, Inherit, Add, Delete, Replace, Asked, Weld, End}
 use Rattle.journal_text.specs.Lines.{Line}
 use Rattle.journal_text.specs.declared.line.Line.TheVariants.{Journal, Out, Note, Row, Rows, Cover, Settled, Work, Bound, Idle, Ignored, Absent, Refused}
-use Rattle.journal_check.specs.Readings.{TextEntry, reading_of}
+use Rattle.journal_check.specs.Entries.{TextEntry}
+use Rattle.journal_check.specs.Readings.{reading_of}
 use Rattle.journal_check.specs.Judged.{IsChecked}
 use Rattle.journal_check.specs.declared.checked.Checked.{Checked}
 use Rattle.journal_check.specs.declared.reading.Reading.{Reading}
 use Rattle.journal_check.specs.declared.reading.Reading.TheVariants.{Skipped, Read}
 
 -- ---- values that the program can have: numbers and octets in their ranges
-
--- an IPv4 prefix
-abbrev pub IsPrefix : AddressPrefix → Type 0
-IsPrefix = IsIpv4Prefix
 
 abbrev pub AreOctets : List ℕ → Type 0
 AreOctets octets = AllByRecursion (λ b. b < 2 ^ 8) octets
@@ -73,73 +70,73 @@ abbrev pub IsAnswer : Option Value → Type 0
 IsAnswer None = Unit {0}
 IsAnswer (Some value) = IsValue value
 
--- an entry that the program can print
-abbrev pub IsEntry : Entry Value → Type 0
-IsEntry (Begin link) = IsNamed link
-IsEntry (Inherit link from) = IsNamed link × IsNamed from
-IsEntry (Add link p new) = IsNamed link × IsPrefix p × IsValue new
-IsEntry (Delete link p old) = IsNamed link × IsPrefix p × IsValue old
-IsEntry (Replace link p old new) = IsNamed link × IsPrefix p × IsValue old × IsValue new
-IsEntry (Asked link p row) = IsNamed link × IsPrefix p × IsAnswer row
-IsEntry (Weld upper lower) = IsNamed upper × IsNamed lower
-IsEntry (End link) = IsNamed link
+-- an entry of a family that the program can print
+abbrev pub IsEntry : Bool → Entry Value → Type 0
+IsEntry v6 (Begin link) = IsNamed link
+IsEntry v6 (Inherit link from) = IsNamed link × IsNamed from
+IsEntry v6 (Add link p new) = IsNamed link × IsPrefixOf v6 p × IsValue new
+IsEntry v6 (Delete link p old) = IsNamed link × IsPrefixOf v6 p × IsValue old
+IsEntry v6 (Replace link p old new) = IsNamed link × IsPrefixOf v6 p × IsValue old × IsValue new
+IsEntry v6 (Asked link p row) = IsNamed link × IsPrefixOf v6 p × IsAnswer row
+IsEntry v6 (Weld upper lower) = IsNamed upper × IsNamed lower
+IsEntry v6 (End link) = IsNamed link
 
-abbrev pub IsMatch : Option AddressPrefix → Type 0
-IsMatch None = Unit {0}
-IsMatch (Some p) = IsPrefix p
+abbrev pub IsMatch : Bool → Option AddressPrefix → Type 0
+IsMatch v6 None = Unit {0}
+IsMatch v6 (Some p) = IsPrefixOf v6 p
 
 abbrev pub IsNamedIfAny : Option Task → Type 0
 IsNamedIfAny None = Unit {0}
 IsNamedIfAny (Some task) = IsNamedTask task
 
--- a line that the program can print
-abbrev pub IsLine : Line → Type 0
-IsLine (Journal entry) = IsEntry entry
-IsLine (Out k octets) = (k < 2 ^ 32) × AreOctets octets
-IsLine (Note k octets) = (k < 2 ^ 32) × AreOctets octets
-IsLine (Row link p value) = IsNamed link × IsPrefix p × IsValue value
-IsLine (Rows link count) = IsNamed link × (count < 2 ^ 128)
-IsLine (Cover addr found subnet) = IsIpv4 addr × IsMatch found × IsPrefix subnet
-IsLine (Settled p held) = IsPrefix p × IsNamedIfAny held
-IsLine (Work turns) = turns < 2 ^ 128
-IsLine (Bound turns) = turns < 2 ^ 128
-IsLine (Idle turns) = turns < 2 ^ 128
-IsLine Ignored = Unit {0}
-IsLine Absent = Unit {0}
-IsLine (Refused number code) = number < 2 ^ 64
+-- a line of a family that the program can print
+abbrev pub IsLine : Bool → Line → Type 0
+IsLine v6 (Journal entry) = IsEntry v6 entry
+IsLine v6 (Out k octets) = (k < 2 ^ 32) × AreOctets octets
+IsLine v6 (Note k octets) = (k < 2 ^ 32) × AreOctets octets
+IsLine v6 (Row link p value) = IsNamed link × IsPrefixOf v6 p × IsValue value
+IsLine v6 (Rows link count) = IsNamed link × (count < 2 ^ 128)
+IsLine v6 (Cover addr found subnet) = IsAddress v6 addr × IsMatch v6 found × IsPrefixOf v6 subnet
+IsLine v6 (Settled p held) = IsPrefixOf v6 p × IsNamedIfAny held
+IsLine v6 (Work turns) = turns < 2 ^ 128
+IsLine v6 (Bound turns) = turns < 2 ^ 128
+IsLine v6 (Idle turns) = turns < 2 ^ 128
+IsLine v6 Ignored = Unit {0}
+IsLine v6 Absent = Unit {0}
+IsLine v6 (Refused number code) = number < 2 ^ 64
 
 -- ---- what is read
 
--- the entry, with a text in the place of each value
-abbrev pub texts_of : Entry Value → TextEntry
-texts_of (Begin link) = Begin link
-texts_of (Inherit link from) = Inherit link from
-texts_of (Add link p new) = Add link p (value_text new)
-texts_of (Delete link p old) = Delete link p (value_text old)
-texts_of (Replace link p old new) = Replace link p (value_text old) (value_text new)
-texts_of (Asked link p row) = Asked link p (option_map value_text row)
-texts_of (Weld upper lower) = Weld upper lower
-texts_of (End link) = End link
+-- the entry of a family, with a text in the place of each value
+abbrev pub texts_of : Bool → Entry Value → TextEntry
+texts_of v6 (Begin link) = Begin link
+texts_of v6 (Inherit link from) = Inherit link from
+texts_of v6 (Add link p new) = Add link p (value_text v6 new)
+texts_of v6 (Delete link p old) = Delete link p (value_text v6 old)
+texts_of v6 (Replace link p old new) = Replace link p (value_text v6 old) (value_text v6 new)
+texts_of v6 (Asked link p row) = Asked link p (option_map (value_text v6) row)
+texts_of v6 (Weld upper lower) = Weld upper lower
+texts_of v6 (End link) = End link
 
--- what a printed line says of links
-abbrev pub said : Line → Reading
-said (Journal entry) = Read (texts_of entry)
-said (Out k octets) = Skipped
-said (Note k octets) = Skipped
-said (Row link p value) = Skipped
-said (Rows link count) = Skipped
-said (Cover addr found subnet) = Skipped
-said (Settled p held) = Skipped
-said (Work turns) = Skipped
-said (Bound turns) = Skipped
-said (Idle turns) = Skipped
-said Ignored = Skipped
-said Absent = Skipped
-said (Refused number code) = Skipped
+-- what a printed line of a family says of links
+abbrev pub said : Bool → Line → Reading
+said v6 (Journal entry) = Read (record { v6 = v6; entry = texts_of v6 entry })
+said v6 (Out k octets) = Skipped
+said v6 (Note k octets) = Skipped
+said v6 (Row link p value) = Skipped
+said v6 (Rows link count) = Skipped
+said v6 (Cover addr found subnet) = Skipped
+said v6 (Settled p held) = Skipped
+said v6 (Work turns) = Skipped
+said v6 (Bound turns) = Skipped
+said v6 (Idle turns) = Skipped
+said v6 Ignored = Skipped
+said v6 Absent = Skipped
+said v6 (Refused number code) = Skipped
 
--- A line that the program prints, of at most 65,536 bytes without its LF, is read as what it says.
+-- A line of a family that the program prints, of at most 65,536 bytes without its LF, is read as what it says.
 abbrev pub PrintedLinesAreReadBack : Type 0
-PrintedLinesAreReadBack = (line : Line) (text : List ℕ) → IsLine line → line_text line ≡ text ++ 10 ∷ [] → length text ≤ 65536 → reading_of text ≡ said line
+PrintedLinesAreReadBack = (v6 : Bool) (line : Line) (text : List ℕ) → IsLine v6 line → line_text v6 line ≡ text ++ 10 ∷ [] → length text ≤ 65536 → reading_of text ≡ said v6 line
 
 -- One thing alone is to be said of the lines of a journal.
 abbrev pub OneAnswer : Type 0

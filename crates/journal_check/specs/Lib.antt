@@ -1,4 +1,5 @@
 pub mod Maps
+pub mod Entries
 pub mod Readings
 pub mod Judged
 pub mod Walked

@@ -4,12 +4,15 @@
 //! A [`Walk`] takes the journal line by line, with one map of rows for each live link, and says after each line what is
 //! known: all is lawful so far, or which line was the first to break which rule, or to be no line of a journal. A line is
 //! an entry, or one of the other lines of the output, which say nothing of links and are skipped. Values are texts here,
-//! into which nothing looks.
+//! into which nothing looks. A journal may be of two networks, IPv4's and IPv6's: an entry is of the one that its links are
+//! of, and its prefix is too; the entries of each are judged by themselves.
 #![tactic(auto)]
 
 mod checked;
+mod entries;
 mod laws;
 mod links;
+mod prefixes;
 mod reading;
 mod rows;
 mod steps;

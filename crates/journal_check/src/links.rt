@@ -11,6 +11,7 @@ ghost use Rattle.journal_text.specs.Links.{proto_number};
 use crate::rows::TextRows;
 use crate::text::Text;
 use addr4::{Memory, Prefix, Row};
+use addr6::V6;
 use journal_text::Link;
 use rib_route::Proto;
 use std::alloc::Global;
@@ -125,7 +126,7 @@ impl LiveLinks {
     }
 
     /// Whether a link is live and has this row at a prefix.
-    pub(crate) fn has_row(&self, link: Link, p: Prefix, row: Option<&Text>) -> bool
+    pub(crate) fn has_row(&self, link: Link, p: Prefix<V6>, row: Option<&Text>) -> bool
         ensures { IsTrue result ↔ HasRow (links_of self.now) link p (option_copied row.entry) }
     {
         match self.get(link) {
@@ -172,7 +173,7 @@ impl LiveLinks {
     }
 
     /// Sets a row of a link, if it is live.
-    pub(crate) fn set_row(&mut self, link: Link, p: Prefix, text: Text) -> Result<(), Memory>
+    pub(crate) fn set_row(&mut self, link: Link, p: Prefix<V6>, text: Text) -> Result<(), Memory>
         ensures { OnOk result (links_of self.new ≡ with_row_on (links_of self.old) link p (Some text)) }
     {
         let Some(rows) = self.maps.get_mut(&key_of(link)) else {
@@ -183,7 +184,7 @@ impl LiveLinks {
     }
 
     /// Takes a row of a link out, if it is live.
-    pub(crate) fn drop_row(&mut self, link: Link, p: Prefix)
+    pub(crate) fn drop_row(&mut self, link: Link, p: Prefix<V6>)
         ensures { links_of self.new ≡ with_row_on (links_of self.old) link p None }
     {
         let Some(rows) = self.maps.get_mut(&key_of(link)) else {

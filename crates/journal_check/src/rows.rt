@@ -1,4 +1,4 @@
-//! The rows of a live link.
+//! The rows of a live link. Prefixes of both families are kept as those of 128 bits, in front of which stand IPv4's.
 
 ghost use Rattle.std.specs.Prelude.{◌≡◌, ◌↔◌, IsTrue, IfOk, OnOk};
 ghost use Rattle.std.specs.Option.{option_copied};
@@ -6,6 +6,7 @@ ghost use Rattle.std.specs.FinMap as map;
 
 use crate::text::Text;
 use addr4::{Memory, Prefix, Row};
+use addr6::V6;
 use std::alloc::Global;
 use std::collections::BTreeMap;
 use std::marker::Model;
@@ -14,7 +15,7 @@ use std::marker::Model;
 #[derive(Drop)]
 pub(crate) struct TextRows {
     alloc: Global,
-    texts: BTreeMap<Prefix, Text>,
+    texts: BTreeMap<Prefix<V6>, Text>,
 }
 
 impl Model for TextRows {
@@ -52,21 +53,21 @@ impl TextRows {
         }
     }
 
-    fn get(&self, p: Prefix) -> Option<&Text>
+    fn get(&self, p: Prefix<V6>) -> Option<&Text>
         ensures { option_copied result ≡ map.get self.now p }
     {
         self.texts.get(&p)
     }
 
     /// Whether this is the row of the prefix.
-    pub(crate) fn has(&self, p: Prefix, row: Option<&Text>) -> bool
+    pub(crate) fn has(&self, p: Prefix<V6>, row: Option<&Text>) -> bool
         ensures { IsTrue result ↔ (map.get self.now p ≡ option_copied row.entry) }
     {
         is_same_row(self.get(p), row)
     }
 
     /// Sets the row of the prefix.
-    pub(crate) fn put(&mut self, p: Prefix, text: Text) -> Result<(), Memory>
+    pub(crate) fn put(&mut self, p: Prefix<V6>, text: Text) -> Result<(), Memory>
         ensures { OnOk result (self.new ≡ map.insert self.old p text) }
     {
         self.texts.insert(p, text)?;
@@ -74,7 +75,7 @@ impl TextRows {
     }
 
     /// Takes the row of the prefix out, if there is one.
-    pub(crate) fn take(&mut self, p: Prefix)
+    pub(crate) fn take(&mut self, p: Prefix<V6>)
         ensures { self.new ≡ map.remove self.old p }
     {
         self.texts.remove(&p);

@@ -1,17 +1,31 @@
 //! What an entry demands of the live links, and what it makes of them.
 
-ghost use Rattle.std.specs.Prelude.{◌≡◌, ◌↔◌, ◌≢◌, List, ℕ, IsTrue, None, OnOk};
+ghost use Rattle.std.specs.Prelude.{◌≡◌, ◌↔◌, ◌≢◌, List, ℕ, IsTrue, None, IfOk, OnOk};
 ghost use Rattle.journal_text.specs.Walk.{Demands, HaveSameRows, after, with_link};
 ghost use Rattle.journal_check.specs.Maps.{links_of};
+ghost use Rattle.journal_check.specs.Walked.{Admits};
 
 use crate::links::LiveLinks;
 use crate::text::Text;
 use addr4::{Memory, Prefix, Row};
+use addr6::V6;
 use journal_text::{Entry, Link};
 
 impl LiveLinks {
+    /// Follows the entry where the links keep what it demands of them, and answers whether they do.
+    pub(crate) fn admit(&mut self, entry: Entry<Text, Prefix<V6>>) -> Result<bool, Memory>
+        ensures { IfOk result (λ admitted. Admits admitted entry (links_of self.old) (links_of self.new)) }
+    {
+        if !self.allows(&entry) {
+            drop(entry);
+            return Ok(false);
+        }
+        self.follow(entry)?;
+        Ok(true)
+    }
+
     /// Whether the links keep what the entry demands of them.
-    pub(crate) fn allows(&self, entry: &Entry<Text>) -> bool
+    fn allows(&self, entry: &Entry<Text, Prefix<V6>>) -> bool
         ensures { IsTrue result ↔ Demands (links_of self.now) entry.now }
     {
         match entry {
@@ -36,7 +50,7 @@ impl LiveLinks {
     }
 
     /// The links after the entry.
-    pub(crate) fn follow(&mut self, entry: Entry<Text>) -> Result<(), Memory>
+    fn follow(&mut self, entry: Entry<Text, Prefix<V6>>) -> Result<(), Memory>
         ensures { OnOk result (links_of self.new ≡ after (links_of self.old) entry) }
     {
         match entry {

@@ -2,14 +2,16 @@
 
 ghost use Rattle.std.specs.Prelude.{◌≡◌, ◌+◌, ◌<◌, ℕ, List, [], ◌∷◌, ◌++◌, OnOk, IfOk};
 ghost use Rattle.journal_check.specs.Judged.{rule_of};
-ghost use Rattle.journal_check.specs.Walked.{IsAfter, Judges, Steps};
+ghost use Rattle.journal_check.specs.Walked.{Follows, IsAfter, Judges, Steps};
 ghost use Rattle.journal_check.specs.declared.checked.Checked.TheVariants as states;
 
 use crate::checked::Checked;
+use crate::entries::FamilyEntry;
 use crate::links::LiveLinks;
 use crate::reading::{Reading, read_line};
 use crate::text::Text;
-use addr4::Memory;
+use addr4::{Memory, Prefix};
+use addr6::V6;
 use journal_text::Entry;
 use std::alloc::Global;
 use std::marker::Model;
@@ -17,14 +19,17 @@ use std::marker::Model;
 // The number of the line that is none of a journal, whatever it holds.
 const LAST_LINE: u64 = 4_294_967_296;
 
-/// A walk through a journal, line by line, with the rows of each live link.
+/// A walk through a journal, line by line, with the rows of each live link: those of both networks, of which each entry
+/// speaks of one.
 #[derive(Drop)]
 pub struct Walk {
     alloc: Global,
     // How many lines were read while all was lawful.
     number: u32,
     state: Checked,
-    links: LiveLinks,
+    // The live links of the first network, and of the second.
+    first: LiveLinks,
+    second: LiveLinks,
 }
 
 impl Model for Walk {
@@ -35,11 +40,11 @@ impl Model for Walk {
 
     ghost coded = { walked_code checked_row.the_row.coded };
 
-    ghost view = { λ w. record { number = w.number; state = w.state; links = w.links } };
+    ghost view = { λ w. record { number = w.number; state = w.state; first = w.first; second = w.second } };
 }
 
 // The rule that an entry can break.
-fn rule_of(entry: &Entry<Text>) -> u8
+fn rule_of(entry: &Entry<Text, Prefix<V6>>) -> u8
     ensures { result ≡ rule_of entry.now }
 {
     match entry {
@@ -63,7 +68,8 @@ impl Walk {
             alloc,
             number: 0,
             state: Checked::Lawful,
-            links: LiveLinks::new(alloc),
+            first: LiveLinks::new(alloc),
+            second: LiveLinks::new(alloc),
         }
     }
 
@@ -105,18 +111,29 @@ impl Walk {
         Ok(())
     }
 
-    // One more entry.
-    fn judge(&mut self, entry: Entry<Text>) -> Result<(), Memory>
-        requires { self.old.number + 1 < 4294967296 }
-        ensures { OnOk result (Judges entry self.old self.new) }
+    // One more entry, for the links of its network, which admit it or not.
+    fn admit(&mut self, read: FamilyEntry) -> Result<bool, Memory>
+        ensures { IfOk result (λ admitted. Follows admitted read self.old self.new) }
     {
-        if !self.links.allows(&entry) {
-            self.state = Checked::Broken(u64::from(self.number) + 1, rule_of(&entry));
-            drop(entry);
-            return Ok(());
+        if read.v6 {
+            self.second.admit(read.entry)
+        } else {
+            self.first.admit(read.entry)
         }
-        self.links.follow(entry)?;
-        self.number += 1;
+    }
+
+    // One more entry.
+    fn judge(&mut self, read: FamilyEntry) -> Result<(), Memory>
+        requires { self.old.number + 1 < 4294967296 }
+        ensures { OnOk result (Judges read self.old self.new) }
+    {
+        let rule = rule_of(&read.entry);
+        let admitted = self.admit(read)?;
+        if admitted {
+            self.number += 1;
+        } else {
+            self.state = Checked::Broken(u64::from(self.number) + 1, rule);
+        }
         Ok(())
     }
 }

@@ -6,7 +6,7 @@ use Rattle.bgp_attr.specs.declared.speaker.Profile.{Profile}
 use Rattle.bgp_attr.specs.Speakers.{IsSpeaker}
 use Rattle.event_text.specs.declared.event.Event.TheVariants.{As4, Revised, Reflect, Local, Peer, Up}
 use Rattle.event_text.specs.declared.declared.DeclaredPeer.{DeclaredPeer}
-use Rattle.event_text.specs.Declarations.{Declaration, peer_at, refusal, with_profile, with_four_octets, with_revised, with_reflection, with_speaker, with_peer, with_session, without_session, begun_at, ended_at, IsCounted, IsDeclaredBy, IsDeclaration}
+use Rattle.event_text.specs.Declarations.{Declaration, peer_at, refusal, with_profile, with_four_octets, with_revised, with_reflection, with_speaker, with_peer, with_session, without_session, begun_at, ended_at, to_peers, IsCounted, IsDeclaredBy, IsDeclaration}
 use Rattle.event_text.specs.WellFormed.{IsWellFormed}
 use Rattle.event_text.proofs.Sessions.{KeepsWords, begun_words, ended_words}
 use Rattle.event_text.proofs.DeclarationLemmas.{profile_kept, speaker_kept, peer_kept, session_kept, end_kept, found_peer}
@@ -29,12 +29,12 @@ pub record IsKnown (k : ℕ) (p : DeclaredPeer) : Type 0 where
   pub session : p.session ≤ 65535
 
 pub known_peer : (d : Declaration) (k : ℕ) (p : DeclaredPeer) → IsDeclaration d → peer_at k d.peers ≡ Some p → IsKnown k p
-known_peer d k p declared found = by_speaker d.profile d.speaker d.peers declared found
+known_peer d k p declared found = by_speaker d.v6 d.profile d.speaker d.peers declared found
   where
-    by_speaker : (profile : Profile) (o : Option Speaker) (peers : List DeclaredPeer) → IsDeclaredBy profile o peers → peer_at k peers ≡ Some p → IsKnown k p
-    by_speaker profile None peers none found = absurd (let contra : peer_at k [] ≡ Some p = ap (peer_at k) (sym none) ∙ found in cc)
-    by_speaker profile (Some local) peers are found =
-        let f = found_peer profile local peers k p are.each found in
+    by_speaker : (v6 : Bool) (profile : Profile) (o : Option Speaker) (peers : List DeclaredPeer) → IsDeclaredBy v6 profile o peers → peer_at k peers ≡ Some p → IsKnown k p
+    by_speaker v6 profile None peers none found = absurd (let contra : peer_at k [] ≡ Some p = ap (peer_at k) (sym none) ∙ found in cc)
+    by_speaker v6 profile (Some local) peers are found =
+        let f = found_peer profile (to_peers v6 local) peers k p are.each found in
         let own = f.0.words.neighbour in
         record {
           number = f.1;
@@ -79,7 +79,7 @@ leaves_all d declared = leaves d d declared refl (λ k w there. there)
 -- before `local` nobody is declared
 none_before : (d : Declaration) (k : ℕ) (w : Neighbour) (P : Type 0) → IsDeclaration d → d.speaker ≡ None → neighbours d k ≡ Some w → P
 none_before d k w P declared none there =
-    let nobody : d.peers ≡ [] = subst (λ (o : Option Speaker). IsDeclaredBy d.profile o d.peers) none declared in
+    let nobody : d.peers ≡ [] = subst (λ (o : Option Speaker). IsDeclaredBy d.v6 d.profile o d.peers) none declared in
     absurd (let clash : ◌≡◌ {A = Option Neighbour} None (Some w) = sym (ap (λ (ps : List DeclaredPeer). words_in (peer_at k ps)) nobody) ∙ there in cc)
 
 -- so another profile is nobody's
@@ -97,10 +97,10 @@ revised_leaves d declared admitted = profile_leaves d (with_revised d.profile) d
 pub reflect_leaves : (d : Declaration) → IsDeclaration d → refusal d Reflect ≡ None → Leaves d (with_profile d (with_reflection d.profile))
 reflect_leaves d declared admitted = profile_leaves d (with_reflection d.profile) declared (reflect_is_first d admitted)
 
-pub speaker_leaves : (d : Declaration) (words : Speaker) → IsDeclaration d → refusal d (Local words) ≡ None → IsSpeaker d.profile.as4 words → Leaves d (with_speaker d words)
+pub speaker_leaves : (d : Declaration) (words : Speaker) → IsDeclaration d → refusal d (Local words) ≡ None → IsSpeaker d.v6 d.profile.as4 words → Leaves d (with_speaker d words)
 speaker_leaves d words declared admitted formed = leaves d (with_speaker d words) (speaker_kept d words declared admitted formed) refl (λ k w there. there)
 
-pub peer_leaves : (d : Declaration) (k : ℕ) (words : Speaker) (client : Bool) → IsDeclaration d → refusal d (Peer k words client) ≡ None → IsWellFormed d.profile (Peer k words client) → Leaves d (with_peer d k words client)
+pub peer_leaves : (d : Declaration) (k : ℕ) (words : Speaker) (client : Bool) → IsDeclaration d → refusal d (Peer k words client) ≡ None → IsWellFormed d.v6 d.profile (Peer k words client) → Leaves d (with_peer d k words client)
 peer_leaves d k words client declared admitted formed = leaves d (with_peer d k words client) (peer_kept d k words client declared admitted formed) refl (λ j w there. words_pushed j d.peers _ w there)
 
 pub session_leaves : (d : Declaration) (k : ℕ) → IsDeclaration d → refusal d (Up k) ≡ None → Leaves d (with_session d k)

@@ -17,8 +17,9 @@ use Rattle.journal_text.specs.declared.entry.Entry.TheVariants.{Begin, Inherit, 
 use Rattle.journal_text.specs.declared.line.Code.{Code}
 use Rattle.journal_text.specs.Lines.{Line}
 use Rattle.journal_text.specs.declared.line.Line.TheVariants.{Journal, Refused}
-use Rattle.journal_check.specs.Readings.{TextEntry, is_clean, read_or_not, reading_from, reading_of}
-use Rattle.journal_check.specs.Judged.{entries_in, joined, each_read, entries_read, IsChecked}
+use Rattle.journal_check.specs.Entries.{TextEntry, FamilyEntry, entries_in}
+use Rattle.journal_check.specs.Readings.{is_clean, read_or_not, reading_from, reading_of}
+use Rattle.journal_check.specs.Judged.{entries_given, joined, each_read, entries_read, IsChecked}
 use Rattle.journal_check.specs.Laws.{IsAnswer, IsEntry, IsLine, said, texts_of}
 use Rattle.journal_check.specs.declared.checked.Checked.TheVariants.{Lawful}
 use Rattle.journal_check.proofs.InkLemmas.{all_append, both_true, printable}
@@ -36,28 +37,28 @@ use Rattle.journal_laws.proofs.TextWalks.{texts_walked}
 -- ---- one line
 
 pub lines_read : PrintedLinesAreRead
-lines_read line text h is = lines_back line text h.ranges is (omega (arith, lines_short line h, length-append text (10 ∷ []), ap length is))
+lines_read line text h is = lines_back false line text h.ranges is (omega (arith, lines_short line h, length-append text (10 ∷ []), ap length is))
 
 -- a line without its LF
 abbrev printed : Line → List ℕ
-printed line = join_with_byte 32 (line_words line)
+printed line = join_with_byte 32 (line_words false line)
 
-line_ended : (line : Line) → line_text line ≡ ended (printed line)
+line_ended : (line : Line) → line_text false line ≡ ended (printed line)
 unfolding line_text
 line_ended line = refl
 
-printed_read : (line : Line) → IsShortLine line → reading_of (printed line) ≡ said line
+printed_read : (line : Line) → IsShortLine line → reading_of (printed line) ≡ said false line
 printed_read line h = lines_read line (printed line) h (line_ended line)
 
-is_said : (line : Line) → read_or_not None ≡ said line → ⊥
+is_said : (line : Line) → read_or_not None ≡ said false line → ⊥
 is_said (Journal entry) e = absurd (cc)
 is_said other e = absurd (cc)
 
-clean_of : (text : List ℕ) (line : Line) → reading_of text ≡ said line → is_clean text ≡ true
+clean_of : (text : List ℕ) (line : Line) → reading_of text ≡ said false line → is_clean text ≡ true
 unfolding reading_of
 clean_of text line e = by (is_clean text) e
   where
-    by : (b : Bool) → cond b (reading_from (parts 32 text)) (read_or_not None) ≡ said line → b ≡ true
+    by : (b : Bool) → cond b (reading_from (parts 32 text)) (read_or_not None) ≡ said false line → b ≡ true
     by true e = refl
     by false e = absurd (is_said line e)
 
@@ -87,8 +88,25 @@ no_cr_at (b ∷ text) (suc k) e = no_cr_at text k (both_true (printable b) (list
 pub no_return : (text : List ℕ) → list_all printable text ≡ true → strip_carriage_return text ≡ text
 no_return text e = ap (λ b. cond b (take (length text - 1) text) text) (no_cr_at text (length text - 1) e)
 
--- the entries that are read of the line
-entries_said : (line : Line) → entries_in (said line) ≡ Some (text_entries (entry_list line))
+-- the entries that are read, each of IPv4's links
+abbrev read_entry : Entry Value → FamilyEntry
+read_entry e = record { v6 = false; entry = texts_of false e }
+
+abbrev read_entries : List (Entry Value) → List FamilyEntry
+read_entries entries = map read_entry entries
+
+-- they are all of the first family,
+first_entries : (es : List (Entry Value)) → entries_in false (read_entries es) ≡ text_entries es
+first_entries [] = refl
+first_entries (e ∷ es) = ap (λ (rest : List TextEntry). texts_of false e ∷ rest) (first_entries es)
+
+-- and none of the second
+second_entries : (es : List (Entry Value)) → entries_in true (read_entries es) ≡ []
+second_entries [] = refl
+second_entries (e ∷ es) = second_entries es
+
+-- those of a line
+entries_said : (line : Line) → entries_given (said false line) ≡ Some (read_entries (entry_list line))
 entries_said (Journal entry) = refl
 entries_said other = refl
 
@@ -97,14 +115,14 @@ entries_said other = refl
 abbrev AreShort : List Line → Type 0
 AreShort lines = AllByRecursion IsShortLine lines
 
-each_printed : (lines : List Line) → AreShort lines → each_read (map printed lines) ≡ Some (text_entries (entries_of lines))
+each_printed : (lines : List Line) → AreShort lines → each_read (map printed lines) ≡ Some (read_entries (entries_of lines))
 each_printed [] h = refl
 each_printed (line ∷ lines) h =
-    ap (λ r. joined r (each_read (map printed lines))) (ap entries_in (printed_read line h.0) ∙ entries_said line)
-    ∙ (ap (joined (Some (text_entries (entry_list line)))) (each_printed lines h.1)
-    ∙ ap (λ (es : List TextEntry). Some es) (sym (map-append texts_of (entry_list line) (entries_of lines))))
+    ap (λ r. joined r (each_read (map printed lines))) (ap entries_given (printed_read line h.0) ∙ entries_said line)
+    ∙ (ap (joined (Some (read_entries (entry_list line)))) (each_printed lines h.1)
+    ∙ ap (λ (es : List FamilyEntry). Some es) (sym (map-append read_entry (entry_list line) (entries_of lines))))
 
-entries_printed : (lines : List Line) → AreShort lines → length lines < 4294967296 → entries_read (map printed lines) ≡ Some (text_entries (entries_of lines))
+entries_printed : (lines : List Line) → AreShort lines → length lines < 4294967296 → entries_read (map printed lines) ≡ Some (read_entries (entries_of lines))
 unfolding entries_read
 entries_printed lines h few =
     let size = length-map lines printed in
@@ -118,7 +136,7 @@ parts_printed : (lines : List Line) → AreShort lines → AllByRecursion IsPart
 parts_printed [] h = tt
 parts_printed (line ∷ lines) h = (part_of (printed line) (bytes_printed line h.0), parts_printed lines h.1)
 
-whole : (lines : List Line) → flat_map line_text lines ≡ flat_map ended (map printed lines)
+whole : (lines : List Line) → flat_map (line_text false) lines ≡ flat_map ended (map printed lines)
 whole [] = refl
 whole (line ∷ lines) = (λ i. line_ended line i ++ whole lines i)
 
@@ -129,7 +147,7 @@ stripped (line ∷ lines) h = (λ i. no_return (printed line) (bytes_printed lin
 no_lines : lines_of [] ≡ []
 no_lines = refl
 
-lines_printed : (lines : List Line) → AreShort lines → lines_of (flat_map line_text lines) ≡ map printed lines
+lines_printed : (lines : List Line) → AreShort lines → lines_of (flat_map (line_text false) lines) ≡ map printed lines
 lines_printed lines h =
     ap lines_of (whole lines ∙ sym (append-nil (flat_map ended (map printed lines))))
     ∙ (lines_done (map printed lines) [] (parts_printed lines h)
@@ -138,7 +156,7 @@ lines_printed lines h =
 
 -- ---- what is judged
 
-values_exact : (peers : ℕ → Option Neighbour) (entry : Entry Value) → IsEntry entry → AllByRecursion (IsTold peers) (values_of entry) → AllByRecursion (IsWellTold peers) (values_of entry)
+values_exact : (peers : ℕ → Option Neighbour) (entry : Entry Value) → IsEntry false entry → AllByRecursion (IsTold peers) (values_of entry) → AllByRecursion (IsWellTold peers) (values_of entry)
 values_exact peers (Begin link) h told = tt
 values_exact peers (Inherit link from) h told = tt
 values_exact peers (Add link p new) h told = (record { ranges = h.2; told = told.0 }, tt)
@@ -155,7 +173,7 @@ values_exact peers (End link) h told = tt
 abbrev AreExact : (ℕ → Option Neighbour) → List (Entry Value) → Type 0
 AreExact peers entries = AllByRecursion (λ e. AllByRecursion (IsWellTold peers) (values_of e)) entries
 
-line_exact : (peers : ℕ → Option Neighbour) (line : Line) → IsLine line → AllByRecursion (IsTold peers) (values_in line) → AreExact peers (entry_list line)
+line_exact : (peers : ℕ → Option Neighbour) (line : Line) → IsLine false line → AllByRecursion (IsTold peers) (values_in line) → AreExact peers (entry_list line)
 line_exact peers (Journal entry) h told = (values_exact peers entry h told, tt)
 line_exact peers other h told = tt
 
@@ -168,12 +186,19 @@ are_short : (peers : ℕ → Option Neighbour) (lines : List Line) → AllByRecu
 are_short peers [] h = tt
 are_short peers (line ∷ lines) h = (h.0.short, are_short peers lines h.1)
 
-all_judged : (peers : ℕ → Option Neighbour) (lines : List Line) → AllByRecursion (IsPrinted peers) lines → length (lines_of (flat_map line_text lines)) < 4294967296 → IsLawful no_links (entries_of lines) → IsChecked (lines_of (flat_map line_text lines)) Lawful
+all_judged : (peers : ℕ → Option Neighbour) (lines : List Line) → AllByRecursion (IsPrinted peers) lines → length (lines_of (flat_map (line_text false) lines)) < 4294967296 → IsLawful no_links (entries_of lines) → IsChecked (lines_of (flat_map (line_text false) lines)) Lawful
 all_judged peers lines h few lawful =
     let short = are_short peers lines h in
     let walked = texts_walked peers no_links (entries_of lines) (lines_exact peers lines h) lawful in
     let count : length lines < 4294967296 = omega (arith, ap length (lines_printed lines short), length-map lines printed) in
-    (text_entries (entries_of lines), ap entries_read (lines_printed lines short) ∙ entries_printed lines short count, walked.lawful)
+    let es = entries_of lines in (
+      read_entries es,
+      ap entries_read (lines_printed lines short) ∙ entries_printed lines short count,
+      (
+        subst (λ (xs : List TextEntry). IsLawful no_links xs) (sym (first_entries es)) walked.lawful,
+        subst (λ (xs : List TextEntry). IsLawful no_links xs) (sym (second_entries es)) tt,
+      ),
+    )
 
 -- ---- quiet output
 
@@ -182,13 +207,13 @@ abbrev kept : Bool → List Line → List Line
 kept quiet [] = []
 kept quiet (line ∷ lines) = cond (quiet && is_entry line) (kept quiet lines) (line ∷ kept quiet lines)
 
-text_kept : (quiet : Bool) (lines : List Line) → text_of quiet lines ≡ flat_map line_text (kept quiet lines)
+text_kept : (quiet : Bool) (lines : List Line) → text_of false quiet lines ≡ flat_map (line_text false) (kept quiet lines)
 text_kept quiet [] = refl
 text_kept quiet (line ∷ lines) = by (quiet && is_entry line) (text_kept quiet lines)
   where
-    by : (b : Bool) → text_of quiet lines ≡ flat_map line_text (kept quiet lines) → cond b [] (line_text line) ++ text_of quiet lines ≡ flat_map line_text (cond b (kept quiet lines) (line ∷ kept quiet lines))
+    by : (b : Bool) → text_of false quiet lines ≡ flat_map (line_text false) (kept quiet lines) → cond b [] (line_text false line) ++ text_of false quiet lines ≡ flat_map (line_text false) (cond b (kept quiet lines) (line ∷ kept quiet lines))
     by true later = later
-    by false later = ap (λ t. line_text line ++ t) later
+    by false later = ap (λ t. line_text false line ++ t) later
 
 all_kept : (P : Line → Type 0) (quiet : Bool) (lines : List Line) → AllByRecursion P lines → AllByRecursion P (kept quiet lines)
 all_kept P quiet [] h = tt
@@ -223,12 +248,12 @@ lawful_ends text ending lawful ends = ends.gives ∙ ap ending_of (one_answer (l
 -- ---- a refused event
 
 -- it is one more line, and no entry
-refused_text : (quiet : Bool) (lines : List Line) (number : ℕ) (code : Code) → text_of quiet lines ++ line_text (Refused number code) ≡ text_of quiet (lines ++ Refused number code ∷ [])
-refused_text quiet lines number code = sym (flat_map-append (shown quiet) lines (Refused number code ∷ []) ∙ ap (λ t. text_of quiet lines ++ t) (alone quiet))
+refused_text : (quiet : Bool) (lines : List Line) (number : ℕ) (code : Code) → text_of false quiet lines ++ line_text false (Refused number code) ≡ text_of false quiet (lines ++ Refused number code ∷ [])
+refused_text quiet lines number code = sym (flat_map-append (shown false quiet) lines (Refused number code ∷ []) ∙ ap (λ t. text_of false quiet lines ++ t) (alone quiet))
   where
-    alone : (quiet : Bool) → text_of quiet (Refused number code ∷ []) ≡ line_text (Refused number code)
-    alone true = append-nil (line_text (Refused number code))
-    alone false = append-nil (line_text (Refused number code))
+    alone : (quiet : Bool) → text_of false quiet (Refused number code ∷ []) ≡ line_text false (Refused number code)
+    alone true = append-nil (line_text false (Refused number code))
+    alone false = append-nil (line_text false (Refused number code))
 
 refused_entries : (lines : List Line) (number : ℕ) (code : Code) → entries_of (lines ++ Refused number code ∷ []) ≡ entries_of lines
 refused_entries lines number code = flat_map-append entry_list lines (Refused number code ∷ []) ∙ append-nil (entries_of lines)

@@ -131,8 +131,8 @@ dotted_told (m ∷ ms) (n ∷ ns) s t hm hn f g e = joined_told 46 decimal is_as
 id_same : (a b : ℕ) → a < 2 ^ 32 → b < 2 ^ 32 → id_text a ≡ id_text b → a ≡ b
 id_same a b ha hb e = some_same a b (sym (id_back a ha) ∙ (ap id_of e ∙ id_back b hb))
 
-pub addr_same : (a b : ℕ) → IsIpv4 a → IsIpv4 b → addr_text a ≡ addr_text b → a ≡ b
-addr_same a b ha hb e = some_same a b (sym (addr_back a ha) ∙ (ap addr_of e ∙ addr_back b hb))
+pub addr_same : (a b : ℕ) → IsIpv4 a → IsIpv4 b → addr_text false a ≡ addr_text false b → a ≡ b
+addr_same a b ha hb e = some_same a b (sym (addr_back a ha) ∙ (ap (addr_of false) e ∙ addr_back b hb))
 
 dotted_passes : (ns : List ℕ) → AreSmall ns → Pass is_dotted (dotted ns)
 dotted_passes ns small = dotted_are (λ c. is_dotted c ≡ true) (λ c low high. digit_is_dotted c (digit_passes c low high)) refl ns small
@@ -154,9 +154,9 @@ id_told a b s t ha hb f g e =
     (id_same a b ha hb parted.0, parted.1)
 
 -- such an address
-pub addr_told : (a b : ℕ) (s t : List ℕ) → IsIpv4 a → IsIpv4 b → begins is_dotted s ≡ false → begins is_dotted t ≡ false → addr_text a ++ s ≡ addr_text b ++ t → (a ≡ b) × (s ≡ t)
+pub addr_told : (a b : ℕ) (s t : List ℕ) → IsIpv4 a → IsIpv4 b → begins is_dotted s ≡ false → begins is_dotted t ≡ false → addr_text false a ++ s ≡ addr_text false b ++ t → (a ≡ b) × (s ≡ t)
 addr_told a b s t ha hb f g e =
-    let parted = spans is_dotted (addr_text a) (addr_text b) s t (id_passes (a / 2 ^ 96)) (id_passes (b / 2 ^ 96)) f g e in
+    let parted = spans is_dotted (addr_text false a) (addr_text false b) s t (id_passes (a / 2 ^ 96)) (id_passes (b / 2 ^ 96)) f g e in
     (addr_same a b ha hb parted.0, parted.1)
 
 abbrev pub is_listed : ℕ → Bool
@@ -182,7 +182,7 @@ id_colonless : (a : ℕ) → AllByRecursion (λ c. nat_eq c 58 ≡ false) (id_te
 unfolding id_text
 id_colonless a = dotted_are (λ c. nat_eq c 58 ≡ false) not_colon refl (to_be_bytes w32 a) (octets_small a)
 
-pub addr_colonless : (a : ℕ) → AllByRecursion (λ c. nat_eq c 58 ≡ false) (addr_text a)
+pub addr_colonless : (a : ℕ) → AllByRecursion (λ c. nat_eq c 58 ≡ false) (addr_text false a)
 addr_colonless a = id_colonless (a / 2 ^ 96)
 
 -- ---- octets in hex

@@ -2,6 +2,7 @@
 use Rattle.std.proofs.Common.{◌≡◌, ℕ, Bool, true, false, cond, List, [], ◌∷◌, Option, Some, None, IfSome, option_map, refl, sym, ap, subst, ◌∙◌, inl, inr, arith}
 use Rattle.std.specs.Ordering.{eq_by_cmp}
 use Rattle.std.specs.List.{AllByRecursion}
+use Rattle.addr4.specs.Families.{IsIpv4Prefix}
 use Rattle.addr4.specs.Prefixes.{AddressPrefix, prefix_cmp}
 use Rattle.addr4.proofs.PrefixOrder.{itself}
 use Rattle.bgp_attr.specs.declared.speaker.Neighbour.{Neighbour}
@@ -16,19 +17,18 @@ use Rattle.journal_text.specs.declared.line.Line.TheVariants.{Journal}
 use Rattle.journal_text.specs.declared.link.Link.{Link}
 use Rattle.journal_text.specs.Lines.{Value}
 use Rattle.journal_text.proofs.LinkLemmas.{same_link-refl}
-use Rattle.journal_check.specs.Laws.{IsPrefix}
 use Rattle.journal_laws.specs.Printed.{IsPrinted, IsPrintable}
 use Rattle.journal_laws.specs.Laws.{AreEachOnce, HasPrintable, FallsArePrinted, ChangesArePrinted}
 
 -- ---- single entries
 
-add_printed : (peers : ℕ → Option Neighbour) (link : Link) (p : AddressPrefix) (new : Value) → IsNamed link → IsPrefix p → IsPrintable peers new → IsPrinted peers (Journal (Add link p new))
+add_printed : (peers : ℕ → Option Neighbour) (link : Link) (p : AddressPrefix) (new : Value) → IsNamed link → IsIpv4Prefix p → IsPrintable peers new → IsPrinted peers (Journal (Add link p new))
 add_printed peers link p new named prefix is = record { short = record { ranges = (named, prefix, is.well_told.ranges); values = (is.short, tt); octets = omega arith }; told = (is.well_told.told, tt) }
 
-delete_printed : (peers : ℕ → Option Neighbour) (link : Link) (p : AddressPrefix) (old : Value) → IsNamed link → IsPrefix p → IsPrintable peers old → IsPrinted peers (Journal (Delete link p old))
+delete_printed : (peers : ℕ → Option Neighbour) (link : Link) (p : AddressPrefix) (old : Value) → IsNamed link → IsIpv4Prefix p → IsPrintable peers old → IsPrinted peers (Journal (Delete link p old))
 delete_printed peers link p old named prefix was = record { short = record { ranges = (named, prefix, was.well_told.ranges); values = (was.short, tt); octets = omega arith }; told = (was.well_told.told, tt) }
 
-replace_printed : (peers : ℕ → Option Neighbour) (link : Link) (p : AddressPrefix) (old new : Value) → IsNamed link → IsPrefix p → IsPrintable peers old → IsPrintable peers new → IsPrinted peers (Journal (Replace link p old new))
+replace_printed : (peers : ℕ → Option Neighbour) (link : Link) (p : AddressPrefix) (old new : Value) → IsNamed link → IsIpv4Prefix p → IsPrintable peers old → IsPrintable peers new → IsPrinted peers (Journal (Replace link p old new))
 replace_printed peers link p old new named prefix was is = record {
   short = record { ranges = (named, prefix, was.well_told.ranges, is.well_told.ranges); values = (was.short, (is.short, tt)); octets = omega arith };
   told = (was.well_told.told, (is.well_told.told, tt));
@@ -104,25 +104,25 @@ module _ (peers : ℕ → Option Neighbour) (p : AddressPrefix) where
   old_stood : (links : Links Value) (j : Link) (q : AddressPrefix) (old : Value) → HasRow links j q (Some old) → q ≡ p → HasPrintable peers p links → IsPrintable peers old
   old_stood links j q old has at before = before j has.0 old has.1 (ap has.0 (sym at) ∙ has.2)
 
-  each_printed : (way : List Link) (es : List (Entry Value)) (links : Links Value) → IsPrefix p → AreEachOnce way → IsDown p way es → IsLawful links es → HasPrintable peers p links → HasPrintable peers p (fold_links links es)
+  each_printed : (way : List Link) (es : List (Entry Value)) (links : Links Value) → IsIpv4Prefix p → AreEachOnce way → IsDown p way es → IsLawful links es → HasPrintable peers p links → HasPrintable peers p (fold_links links es)
       → AllByRecursion (λ e. IsPrinted peers (Journal e)) es
   each_printed way [] links prefix once down lawful before then = tt
   each_printed [] (e ∷ es) links prefix once down lawful before then = absurd down
   each_printed (k ∷ way) (Add j q new ∷ es) links prefix once down lawful before then =
       let on = down.0 in
       let is = new_stands links j k q new None way es lawful.0 on.0 on.1 down.1 once.1 then in (
-        add_printed peers j q new (subst IsNamed (sym on.0) once.0) (subst IsPrefix (sym on.1) prefix) is,
+        add_printed peers j q new (subst IsNamed (sym on.0) once.0) (subst IsIpv4Prefix (sym on.1) prefix) is,
         each_printed way es (with_row_on links j q (Some new)) prefix once.2 down.1 lawful.1 (set_printable links j q (Some new) before is) then,
       )
   each_printed (k ∷ way) (Delete j q old ∷ es) links prefix once down lawful before then =
       let on = down.0 in (
-        delete_printed peers j q old (subst IsNamed (sym on.0) once.0) (subst IsPrefix (sym on.1) prefix) (old_stood links j q old lawful.0 on.1 before),
+        delete_printed peers j q old (subst IsNamed (sym on.0) once.0) (subst IsIpv4Prefix (sym on.1) prefix) (old_stood links j q old lawful.0 on.1 before),
         each_printed way es (with_row_on links j q None) prefix once.2 down.1 lawful.1 (set_printable links j q None before tt) then,
       )
   each_printed (k ∷ way) (Replace j q old new ∷ es) links prefix once down lawful before then =
       let on = down.0 in
       let is = new_stands links j k q new (Some old) way es lawful.0.0 on.0 on.1 down.1 once.1 then in (
-        replace_printed peers j q old new (subst IsNamed (sym on.0) once.0) (subst IsPrefix (sym on.1) prefix) (old_stood links j q old lawful.0.0 on.1 before) is,
+        replace_printed peers j q old new (subst IsNamed (sym on.0) once.0) (subst IsIpv4Prefix (sym on.1) prefix) (old_stood links j q old lawful.0.0 on.1 before) is,
         each_printed way es (with_row_on links j q (Some new)) prefix once.2 down.1 lawful.1 (set_printable links j q (Some new) before is) then,
       )
   each_printed (k ∷ way) (e ∷ es) links prefix once down lawful before then = absurd down.0

@@ -5,6 +5,7 @@ use Rattle.std.specs.Ordering.{nat_cmp, eq_by_cmp}
 use Rattle.std.specs.Cmp.{nat_cmp_total}
 use Rattle.std.specs.FinMap as tables
 use Rattle.std.specs.FinMap.{get-insert}
+use Rattle.addr4.specs.Families.{IsIpv4Prefix}
 use Rattle.addr4.specs.Prefixes.{AddressPrefix}
 use Rattle.bgp_attr.specs.Routes.{Route}
 use Rattle.bgp_attr.specs.declared.speaker.Neighbour.{Neighbour}
@@ -26,7 +27,7 @@ use Rattle.nexthop_resolver.specs.Registered.{answer_of, told_of}
 use Rattle.nexthop_resolver.specs.Takes.{Keeps}
 use Rattle.nexthop_resolver.specs.Turns.{KnownAfter, Turned}
 use Rattle.journal_text.specs.Values.{route_value, interior_value}
-use Rattle.journal_check.specs.Laws.{IsPrefix, IsNumberIfAny}
+use Rattle.journal_check.specs.Laws.{IsNumberIfAny}
 use Rattle.journal_laws.specs.Printed.{IsPrintable}
 use Rattle.journal_laws.proofs.PrintedRows.{Prints}
 use Rattle.link_region.proofs.RegionLemmas.{by_bool}
@@ -102,12 +103,12 @@ module _ (peers : ℕ → Option Neighbour) where
         short = h.short;
       })
 
-  goes_prints : (p : AddressPrefix) (answers : ℕ → Option Metric) → ((a : ℕ) (x : Metric) → answers a ≡ Some x → IsNumberIfAny x.igp) → (o : Option Route) (row : Route) → ((r : Route) → o ≡ Some r → IsPrefix p × IsPrintable peers (route_value r))
-      → goes_on route_hop with_metric answers o ≡ Some row → IsPrefix p × IsPrintable peers (route_value row)
+  goes_prints : (p : AddressPrefix) (answers : ℕ → Option Metric) → ((a : ℕ) (x : Metric) → answers a ≡ Some x → IsNumberIfAny x.igp) → (o : Option Route) (row : Route) → ((r : Route) → o ≡ Some r → IsIpv4Prefix p × IsPrintable peers (route_value r))
+      → goes_on route_hop with_metric answers o ≡ Some row → IsIpv4Prefix p × IsPrintable peers (route_value row)
   goes_prints p answers fit None row each is = absurd (cc)
   goes_prints p answers fit (Some r) row each is = by_answer (answers (route_hop r)) refl is
     where
-      by_answer : (x : Option Metric) → answers (route_hop r) ≡ x → made_by route_hop with_metric r x ≡ Some row → IsPrefix p × IsPrintable peers (route_value row)
+      by_answer : (x : Option Metric) → answers (route_hop r) ≡ x → made_by route_hop with_metric r x ≡ Some row → IsIpv4Prefix p × IsPrintable peers (route_value row)
       by_answer None at is = absurd (cc)
       by_answer (Some x) at is = let own = each r refl in (own.0, with_prints r row x.igp (fit (route_hop r) x at) is own.1)
 

@@ -1,6 +1,7 @@
 -- Lines that can be printed, beside those of falls.
-use Rattle.std.proofs.Common.{◌≡◌, ℕ, ◌≤◌, List, [], ◌∷◌, map, length, Option, Some, None, refl, sym, subst, arith}
+use Rattle.std.proofs.Common.{◌≡◌, ℕ, ◌≤◌, List, [], ◌∷◌, map, length, Option, Some, None, refl, sym, subst, arith, false}
 use Rattle.std.specs.List.{AllByRecursion}
+use Rattle.addr4.specs.Families.{IsIpv4Prefix}
 use Rattle.addr4.specs.Prefixes.{AddressPrefix}
 use Rattle.bgp_attr.specs.declared.speaker.Neighbour.{Neighbour}
 use Rattle.link_change.specs.Rows.{Rows}
@@ -10,12 +11,12 @@ use Rattle.journal_text.specs.Lines.{Line}
 use Rattle.journal_text.specs.declared.line.Line.TheVariants as lines
 use Rattle.journal_text.specs.declared.link.Link.{Link}
 use Rattle.journal_text.specs.Lines.{Value}
-use Rattle.journal_check.specs.Laws.{AreOctets, IsPrefix, IsLine}
+use Rattle.journal_check.specs.Laws.{AreOctets, IsLine}
 use Rattle.journal_laws.specs.Printed.{HasShortText, IsTold, IsPrintable, IsPrinted, values_in, octets_in}
 
 module _ (peers : ℕ → Option Neighbour) where
   -- one without values and octets
-  pub plain_printed : (line : Line) → values_in line ≡ [] → octets_in line ≡ [] → IsLine line → IsPrinted peers line
+  pub plain_printed : (line : Line) → values_in line ≡ [] → octets_in line ≡ [] → IsLine false line → IsPrinted peers line
   plain_printed line none empty ranges = record {
     short = record {
       ranges = ranges;
@@ -29,8 +30,8 @@ module _ (peers : ℕ → Option Neighbour) where
   note_printed k octets named each few = record { short = record { ranges = (named.1, each); values = tt; octets = few }; told = tt }
 
   -- rows, and answers of lookups
-  module _ (link : Link) (rows : Rows Value) (named : IsNamed link) (prints : (p : AddressPrefix) (v : Value) → rows p ≡ Some v → IsPrefix p × IsPrintable peers v) where
-    pub answer_printed : (p : AddressPrefix) → IsPrefix p → IsPrinted peers (lines.Journal (entries.Asked link p (rows p)))
+  module _ (link : Link) (rows : Rows Value) (named : IsNamed link) (prints : (p : AddressPrefix) (v : Value) → rows p ≡ Some v → IsIpv4Prefix p × IsPrintable peers v) where
+    pub answer_printed : (p : AddressPrefix) → IsIpv4Prefix p → IsPrinted peers (lines.Journal (entries.Asked link p (rows p)))
     answer_printed p prefix = by_row (rows p) refl
       where
         by_row : (o : Option Value) → rows p ≡ o → IsPrinted peers (lines.Journal (entries.Asked link p o))

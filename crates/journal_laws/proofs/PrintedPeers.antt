@@ -1,7 +1,7 @@
 -- The declared peers after each event.
 use Rattle.std.proofs.Common.{◌≡◌, ℕ, suc, ◌^◌, get_or, Fits, w8, ◌<◌, Bool, true, false, cond, List, [], ◌∷◌, Option, Some, None, ◌&&◌, not, arith}
 use Rattle.std.specs.List.{AllByRecursion}
-use Rattle.event_text.specs.declared.event.Event.{Event}
+use Rattle.event_text.specs.Event.{Event}
 use Rattle.event_text.specs.declared.event.Event.TheVariants.{As4, Revised, Reflect, Local, Peer, Up, Down, Bgp}
 use Rattle.event_text.specs.declared.declared.DeclaredPeer.{DeclaredPeer}
 use Rattle.event_text.specs.Declarations.{Declaration, peer_at, refusal, with_session, without_session, IsDeclaration}
@@ -33,7 +33,7 @@ module _ (d : Declaration) (k : ℕ) (declared : IsDeclaration d) where
   heard_by octets None = leaves_all d declared
   heard_by octets (Some p) = ended_if (p.up && ends_session d.profile (not p.words.internal) octets)
 
-pub event_leaves : (d : Declaration) (event : Event) → IsDeclaration d → refusal d event ≡ None → IsWellFormed d.profile event → Leaves d (declared_after d event)
+pub event_leaves : (d : Declaration) (event : Event) → IsDeclaration d → refusal d event ≡ None → IsWellFormed d.v6 d.profile event → Leaves d (declared_after d event)
 event_leaves d As4 declared admitted formed = as4_leaves d declared admitted
 event_leaves d Revised declared admitted formed = revised_leaves d declared admitted
 event_leaves d Reflect declared admitted formed = reflect_leaves d declared admitted

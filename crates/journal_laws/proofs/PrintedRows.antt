@@ -3,6 +3,7 @@ use Rattle.std.proofs.Common.{◌≡◌, ℕ, ◌^◌, ◌<◌, ◌==◌, Bool, 
 use Rattle.std.specs.Prelude.{filter}
 use Rattle.std.specs.List.{AllByRecursion}
 use Rattle.std.specs.FinMap.{FinMap}
+use Rattle.addr4.specs.Families.{IsIpv4Prefix}
 use Rattle.addr4.specs.Prefixes.{AddressPrefix, prefix_cmp}
 use Rattle.bgp_attr.specs.Attributes.{Attrs}
 use Rattle.bgp_attr.specs.declared.speaker.Neighbour.{Neighbour}
@@ -26,7 +27,6 @@ use Rattle.journal_text.specs.Lines.{Value}
 use Rattle.journal_text.specs.Names.{IsNameNumber}
 use Rattle.journal_text.specs.Values.{valued, attrs_value, route_value, interior_value, fib_value}
 use Rattle.journal_text.specs.Walk.{no_links}
-use Rattle.journal_check.specs.Laws.{IsPrefix}
 use Rattle.journal_laws.specs.Printed.{IsPrintable}
 use Rattle.journal_laws.proofs.FilteredRoutes.{filtered_printable}
 use Rattle.loss_chain.specs.Lost.{Lost}
@@ -109,13 +109,13 @@ module _ (as4 : Bool) where
   rules_waiting None are = tt
   rules_waiting (Some rules) are = (are, tt)
 
-  rules_edited : (walk : Option (Walked (List Rule))) (rules : List Rule) → AreRulesOfWalk as4 walk → AreRules as4 rules → AreRulesOfWalk as4 (Some (walk_edited walk rules))
+  rules_edited : (walk : Option (Walked (List Rule))) (rules : List Rule) → AreRulesOfWalk as4 walk → AreRules false as4 rules → AreRulesOfWalk as4 (Some (walk_edited walk rules))
   rules_edited None rules are new = (new, tt)
   rules_edited (Some w) rules are new = (are.0, new)
 
-  rules_at : (in_force : List Rule) (walk : Option (Walked (List Rule))) (p : AddressPrefix) → AreRules as4 in_force → AreRulesOfWalk as4 walk → AreRules as4 (function_of in_force walk p)
+  rules_at : (in_force : List Rule) (walk : Option (Walked (List Rule))) (p : AddressPrefix) → AreRules false as4 in_force → AreRulesOfWalk as4 walk → AreRules false as4 (function_of in_force walk p)
   rules_at in_force None p are on = are
-  rules_at in_force (Some w) p are on = elim (is_beyond w.place p) as (λ (b : Bool). AreRules as4 (cond b in_force w.next)) [ true ↦ are | false ↦ on.0 ]
+  rules_at in_force (Some w) p are on = elim (is_beyond w.place p) as (λ (b : Bool). AreRules false as4 (cond b in_force w.next)) [ true ↦ are | false ↦ on.0 ]
 
 finished_printable : (profile : Profile) (c : Chained) (walk : Option (Walked (List Rule))) → IsPrintableChain profile c → AreRulesOfWalk profile.as4 walk → IsPrintableChain profile (record c { filter = after_walk c.filter.in_force walk })
 finished_printable profile c None h are = record { tables = h.tables; in_force = h.in_force; walk = tt }
@@ -125,17 +125,17 @@ pub walked_printable : (profile : Profile) (c : Chained) (next : Option AddressP
 walked_printable profile c None h = finished_printable profile c c.filter.walk h h.walk
 walked_printable profile c (Some p) h = record { tables = h.tables; in_force = h.in_force; walk = rules_stepped profile.as4 c.filter.walk p h.walk }
 
-pub edited_printable : (profile : Profile) (c : Chained) (rules : List Rule) → IsPrintableChain profile c → AreRules profile.as4 rules → IsPrintableChain profile (record c { filter = edited c.filter rules })
+pub edited_printable : (profile : Profile) (c : Chained) (rules : List Rule) → IsPrintableChain profile c → AreRules false profile.as4 rules → IsPrintableChain profile (record c { filter = edited c.filter rules })
 edited_printable profile c rules h new = record { tables = h.tables; in_force = h.in_force; walk = rules_edited profile.as4 c.filter.walk rules h.walk new }
 
 -- ---- links
 -- each of these rows can be printed at its prefix
 abbrev pub Prints : (ℕ → Option Neighbour) → {R : Type 0} → (R → Value) → Rows R → Type 0
-Prints peers {R} value rows = (p : AddressPrefix) (row : R) → rows p ≡ Some row → IsPrefix p × IsPrintable peers (value row)
+Prints peers {R} value rows = (p : AddressPrefix) (row : R) → rows p ≡ Some row → IsIpv4Prefix p × IsPrintable peers (value row)
 
 -- and each row of a link, if it is live
 abbrev pub PrintsIfAny : (ℕ → Option Neighbour) → Option (Rows Value) → Type 0
-PrintsIfAny peers of = (rows : Rows Value) (p : AddressPrefix) (v : Value) → of ≡ Some rows → rows p ≡ Some v → IsPrefix p × IsPrintable peers v
+PrintsIfAny peers of = (rows : Rows Value) (p : AddressPrefix) (v : Value) → of ≡ Some rows → rows p ≡ Some v → IsIpv4Prefix p × IsPrintable peers v
 
 module _ (peers : ℕ → Option Neighbour) where
   none_prints : PrintsIfAny peers None
@@ -145,12 +145,12 @@ module _ (peers : ℕ → Option Neighbour) where
     pub live_prints : (own : Rows R) → Prints peers value own → PrintsIfAny peers (Some (valued value own))
     live_prints own prints rows p v at is = let same : valued value own ≡ rows = cc in by_row (own p) refl (ap (λ (f : Rows Value). f p) same ∙ is)
       where
-        by_row : (o : Option R) → own p ≡ o → option_map value o ≡ Some v → IsPrefix p × IsPrintable peers v
+        by_row : (o : Option R) → own p ≡ o → option_map value o ≡ Some v → IsIpv4Prefix p × IsPrintable peers v
         by_row None at is = absurd (cc)
-        by_row (Some row) at is = let same : value row ≡ v = cc in subst (λ (x : Value). IsPrefix p × IsPrintable peers x) same (prints p row at)
+        by_row (Some row) at is = let same : value row ≡ v = cc in subst (λ (x : Value). IsIpv4Prefix p × IsPrintable peers x) same (prints p row at)
 
     -- rows of which each can be printed
-    module _ (Is : AddressPrefix → R → Type 0) (shown : (p : AddressPrefix) (row : R) → Is p row → IsPrefix p × IsPrintable peers (value row)) where
+    module _ (Is : AddressPrefix → R → Type 0) (shown : (p : AddressPrefix) (row : R) → Is p row → IsIpv4Prefix p × IsPrintable peers (value row)) where
       tables_print : (t : Tables R) → AreTablesOf Is t → Prints peers value (lowest_rows t)
       tables_print t h p row is = shown p row (h.rows p row (lowest_rows_are_rows t p row is))
 
@@ -171,7 +171,7 @@ module _ (peers : ℕ → Option Neighbour) where
 
   -- ---- a chain
   module _ (profile : Profile) where
-    heard_prints : (external : Bool) (p : AddressPrefix) (a : Attrs) → IsHeardRow profile external p a → IsPrefix p × IsPrintable peers (attrs_value a)
+    heard_prints : (external : Bool) (p : AddressPrefix) (a : Attrs) → IsHeardRow profile external p a → IsIpv4Prefix p × IsPrintable peers (attrs_value a)
     heard_prints external p a h = (h.0, read_printable peers profile external h.1.0 h.1.1 a h.1.2 h.1.3 h.1.4)
 
     -- whose peer is known, and which can be printed
@@ -191,7 +191,7 @@ module _ (peers : ℕ → Option Neighbour) where
         rules : List Rule
         rules = function_at c.filter p
 
-        by_attrs : (o : Option Attrs) → in_rows c.incoming p ≡ o → filtered c.me c.peer rules p o ≡ Some route → IsPrefix p × IsPrintable peers (route_value route)
+        by_attrs : (o : Option Attrs) → in_rows c.incoming p ≡ o → filtered c.me c.peer rules p o ≡ Some route → IsIpv4Prefix p × IsPrintable peers (route_value route)
         by_attrs None at is = absurd (cc)
         by_attrs (Some a) at is =
             let own = in_prints c fit p a at in
@@ -212,12 +212,12 @@ module _ (peers : ℕ → Option Neighbour) where
     pub merged_print : (left right : Rows R) → Prints peers value left → Prints peers value right → Prints peers value (merged distance left right)
     merged_print left right one other p row is = by_rows (left p) (right p) refl refl is
       where
-        by_rows : (a b : Option R) → left p ≡ a → right p ≡ b → row_of_both distance a b ≡ Some row → IsPrefix p × IsPrintable peers (value row)
+        by_rows : (a b : Option R) → left p ≡ a → right p ≡ b → row_of_both distance a b ≡ Some row → IsIpv4Prefix p × IsPrintable peers (value row)
         by_rows None b l r is = other p row (r ∙ is)
         by_rows (Some a) None l r is = one p row (l ∙ is)
         by_rows (Some a) (Some b) l r is = by_test _ is
           where
-            by_test : (t : Bool) → cond t (Some b) (Some a) ≡ Some row → IsPrefix p × IsPrintable peers (value row)
+            by_test : (t : Bool) → cond t (Some b) (Some a) ≡ Some row → IsIpv4Prefix p × IsPrintable peers (value row)
             by_test true is = other p row (r ∙ is)
             by_test false is = one p row (l ∙ is)
 
@@ -225,17 +225,17 @@ module _ (peers : ℕ → Option Neighbour) where
   pub forwarded_print : (int : Rows Interior) → Prints peers interior_value int → Prints peers fib_value (forwarded int)
   forwarded_print int prints p row is = by_row (int p) refl is
     where
-      by_row : (o : Option Interior) → int p ≡ o → option_map fib_row o ≡ Some row → IsPrefix p × IsPrintable peers (fib_value row)
+      by_row : (o : Option Interior) → int p ≡ o → option_map fib_row o ≡ Some row → IsIpv4Prefix p × IsPrintable peers (fib_value row)
       by_row None at is = absurd (cc)
       by_row (Some route) at is =
           let own = prints p route at in
           let same : fib_row route ≡ row = cc in
-          subst (λ (x : FibRow). IsPrefix p × IsPrintable peers (fib_value x)) same
+          subst (λ (x : FibRow). IsIpv4Prefix p × IsPrintable peers (fib_value x)) same
           (own.0, record { well_told = record { ranges = own.1.well_told.ranges.0; told = own.1.well_told.told }; short = tt })
 
   -- ---- the tree
   module _ (t : Treed) (each : (proto : Proto) → AreTablesOf IsInteriorRow (branch_of proto t).tables) where
-    interior_prints : (p : AddressPrefix) (row : Interior) → IsInteriorRow p row → IsPrefix p × IsPrintable peers (interior_value row)
+    interior_prints : (p : AddressPrefix) (row : Interior) → IsInteriorRow p row → IsIpv4Prefix p × IsPrintable peers (interior_value row)
     interior_prints p row h = (h.prefix, h.printed peers)
 
     org_prints : (proto : Proto) → Prints peers interior_value (org_rows (branch_of proto t))

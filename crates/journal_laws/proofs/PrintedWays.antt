@@ -3,6 +3,7 @@ use Rattle.std.proofs.Common.{◌≡◌, ◌⊎◌, ℕ, ◌+◌, ◌<◌, ◌�
 use Rattle.std.specs.List.{AllByRecursion}
 use Rattle.std.specs.FinMap as tables
 use Rattle.std.specs.FinMap.{FinMap}
+use Rattle.addr4.specs.Families.{IsIpv4Prefix}
 use Rattle.addr4.specs.Prefixes.{AddressPrefix, prefix_cmp}
 use Rattle.addr4.proofs.PrefixOrder.{itself}
 use Rattle.bgp_attr.specs.Attributes.{Attrs}
@@ -31,7 +32,6 @@ use Rattle.journal_text.specs.declared.link.Task.{Task}
 use Rattle.journal_text.specs.declared.link.Task.TheVariants.{Del, Fin}
 use Rattle.journal_text.specs.Lines.{Value}
 use Rattle.journal_text.proofs.LinkLemmas.{same_link-yes}
-use Rattle.journal_check.specs.Laws.{IsPrefix}
 use Rattle.journal_laws.specs.Printed.{IsPrinted, IsPrintable}
 use Rattle.journal_laws.specs.Standing.{IsHeardRow}
 use Rattle.journal_laws.specs.Laws.{AreEachOnce}
@@ -174,7 +174,7 @@ module _ (peers : ℕ → Option Neighbour) where
   -- what a stage sends
   module _ {R : Type 0} (value : R → Value) where
     abbrev PrintsAt : AddressPrefix → R → Type 0
-    PrintsAt p row = IsPrefix p × IsPrintable peers (value row)
+    PrintsAt p row = IsIpv4Prefix p × IsPrintable peers (value row)
 
     row_prints : (rows : Rows R) (p : AddressPrefix) (o : Option R) → Prints peers value rows → rows p ≡ o → IfSome o (PrintsAt p)
     row_prints rows p None prints at = tt
@@ -223,7 +223,7 @@ module _ (peers : ℕ → Option Neighbour) where
       sweep_once s = peer_once c.incoming.number (way_from (owners.Peer c.incoming.number) s (In c.incoming.number) c.incoming.tables.deletions) fit.named
           (from_way (owners.Peer c.incoming.number) (λ n named. (fit.named, named)) s (In c.incoming.number) c.incoming.tables.deletions fit.named (above_in c.incoming.tables.deletions fit.printable.tables.losses) fit.rising fit.printable.tables.losses)
 
-      pub chain_fall : (c' : Chained) (p : AddressPrefix) (way : List Link) (sent : Option (Change Route)) (fall : List (Entry Value)) → IsFit peers profile c' → IsPrefix p → AreEachOnce way → Falls c c' p way sent fall → ArePrintedEntries fall
+      pub chain_fall : (c' : Chained) (p : AddressPrefix) (way : List Link) (sent : Option (Change Route)) (fall : List (Entry Value)) → IsFit peers profile c' → IsIpv4Prefix p → AreEachOnce way → Falls c c' p way sent fall → ArePrintedEntries fall
       chain_fall c' p way sent fall fit' prefix once falls =
           falls_printed peers p way fall (beside no_links c) (beside no_links c') prefix once (down_of p way sent fall falls.down) (falls.leads no_links)
           (λ link rows v at is. (beside_prints peers profile c fit link rows p v at is).1) (λ link rows v at is. (beside_prints peers profile c' fit' link rows p v at is).1)

@@ -10,14 +10,15 @@ use Rattle.bgp_attr.specs.declared.unrecognized.Unrecognized.{Unrecognized}
 use Rattle.bgp_wire.specs.declared.message.Update.{Update}
 use Rattle.bgp_wire.specs.Paths.{width_of}
 use Rattle.bgp_wire.specs.Attributes.{Attribute, AreAttributes, IsAttribute, kept_by}
-use Rattle.bgp_wire.specs.Routes.{AreAttrs}
+use Rattle.bgp_wire.specs.Routes.{hop_of, AreAttrs}
+use Rattle.bgp_wire.specs.Lengths.{attributes_length}
 use Rattle.bgp_wire.specs.Updates.{Reading}
 use Rattle.bgp_wire.specs.Grammar.{IsReading, AreAttrsFor, IsUpdateBy}
 use Rattle.bgp_wire.specs.Readable.{IsReadable, IsReadableSegment, reads_reflection}
 use Rattle.bgp_wire.proofs.JudgedTypes.{Verdict}
-use Rattle.bgp_wire.proofs.ReadableLaws.{Every, all_every, Octets, held, each_type, unrecognized_held, attrs_read}
+use Rattle.bgp_wire.proofs.ReadableLaws.{Every, all_every, Octets, held, each_type, unrecognized_held, attrs_read, first_hop_read}
 use Rattle.bgp_wire.proofs.ReadableMessages.{field_octets}
-use Rattle.wire_laws.proofs.LengthLaws.{attributes_no_longer}
+use Rattle.wire_laws.proofs.LengthLaws.{first_hop_no_longer, attributes_no_longer}
 use Rattle.journal_check.specs.Laws.{IsNumberIfAny, HasNumbers, HasNumber, HasOctets, HasRanges}
 use Rattle.journal_laws.proofs.Spans.{some_same, not_some}
 use Rattle.journal_laws.specs.Printed.{IsAddressIfAny, HasAddress, HasAddresses, HasRoom, IsIdIfAny}
@@ -66,9 +67,9 @@ attribute_small a is octets = elim is [
 unrecognized_small : (u : Unrecognized) (a : Attribute) → a.kind ≡ u.kind → a.value ≡ u.value → (a.kind < 2 ^ 8) × AllByRecursion (λ b. b < 2 ^ 8) a.value → HasOctets u
 unrecognized_small u a kind value h = (subst (λ k. k < 2 ^ 8) kind h.0, subst (λ v. AllByRecursion (λ b. b < 2 ^ 8) v) value h.1)
 
-unrecognized_ranges : (p : Profile) (external : Bool) (bytes : List ℕ) (steps : List (Attribute × Verdict)) (runs : Bool) (attrs : Attrs) → AreAttributes p external [] bytes steps runs → Octets bytes → AreAttrs p external (kept_by steps runs).0 attrs
+unrecognized_ranges : (p : Profile) (external : Bool) (bytes : List ℕ) (steps : List (Attribute × Verdict)) (runs : Bool) (hop : Option ℕ) (attrs : Attrs) → AreAttributes p external [] bytes steps runs → Octets bytes → AreAttrs p external (kept_by steps runs).0 hop attrs
     → AllByRecursion HasOctets attrs.unrecognized
-unrecognized_ranges p external bytes steps runs attrs are octets is =
+unrecognized_ranges p external bytes steps runs hop attrs are octets is =
     every_more HasOctets HasOctets attrs.unrecognized (λ u h. h) (each_type HasOctets 0 attrs.unrecognized is.unrecognized.order (λ u e.
     let k = unrecognized_held p external bytes steps runs are octets attrs.unrecognized is.unrecognized u.kind u.value e in
     let h = held p external bytes steps runs are octets u.kind k.1.0 k.1.1 in
@@ -82,7 +83,7 @@ record ArePrintable (a : Attrs) : Type 0 where
   addresses : HasAddresses a
   room : HasRoom a
 
-printable_by : (p : Profile) (external : Bool) (a : Attrs) → IsReadable p external a → AllByRecursion HasOctets a.unrecognized → HasRoom a → ArePrintable a
+printable_by : (p : Profile) (external : Bool) (a : Attrs) → IsReadable false p external a → AllByRecursion HasOctets a.unrecognized → HasRoom a → ArePrintable a
 printable_by p external a h octets room = record {
   ranges = record {
     path = every_more (IsReadableSegment p.as4) HasNumbers a.path (segment_ranges p.as4) (all_every (IsReadableSegment p.as4) a.path h.path);
@@ -92,7 +93,7 @@ printable_by p external a h octets room = record {
     unrecognized = octets;
   };
   addresses = record {
-    next_hop = h.next_hop.ipv4;
+    next_hop = h.next_hop.of;
     aggregator = aggregator_address p.as4 a.aggregator h.aggregator;
     originator = originator_address (reads_reflection p external ≡ true) a.reflection.originator h.originator;
     clusters = every_more (λ n. (reads_reflection p external ≡ true) × (n < 2 ^ 32)) (λ n. n < 2 ^ 32) a.reflection.clusters (λ n both. both.1) (all_every (λ n. (reads_reflection p external ≡ true) × (n < 2 ^ 32)) a.reflection.clusters h.clusters);
@@ -100,24 +101,28 @@ printable_by p external a h octets room = record {
   room = room;
 }
 
-attrs_printable : (p : Profile) (external : Bool) (bytes : List ℕ) (r : Reading) (is : IsReading p external bytes r) → Octets bytes → (a : Attrs) → AreAttrs p external r.kept a → ArePrintable a
+attrs_printable : (p : Profile) (external : Bool) (bytes : List ℕ) (r : Reading) (is : IsReading p external bytes r) → Octets bytes → (a : Attrs) → AreAttrs p external r.kept (hop_of r.kept) a → ArePrintable a
+unfolding attributes_length
 attrs_printable p external bytes r is octets a are =
     let f = field_octets p external bytes r is octets in
-    let kept = subst (λ kept. AreAttrs p external kept a) is.kept are in
-    let readable = attrs_read p external is.attributes is.steps is.runs a is.are f.attributes kept in
+    let hop = hop_of (kept_by is.steps is.runs).0 in
+    let kept = subst (λ kept. AreAttrs p external kept (hop_of kept) a) is.kept are in
+    let readable = attrs_read false p external is.attributes is.steps is.runs hop a is.are f.attributes (first_hop_read p external is.attributes is.steps is.runs is.are f.attributes) kept in
     let whole = f.whole in
     let top = is.frame.top in
-    let shorter = attributes_no_longer p external is.attributes is.steps is.runs a is.are f.attributes kept readable (omega (arith, whole, top)) in
-    printable_by p external a readable (unrecognized_ranges p external is.attributes is.steps is.runs a is.are f.attributes kept) (p.as4, omega (arith, shorter, whole, top))
+    let shorter =
+    attributes_no_longer false p external is.attributes is.steps is.runs hop a [] is.are f.attributes kept readable (omega (arith, whole, top))
+    (first_hop_no_longer p external is.attributes is.steps is.runs is.are f.attributes a.next_hop [] kept.next_hop) (record { speaks = λ e. absurd (cc); are = refl; few = omega arith }) in
+    printable_by p external a readable (unrecognized_ranges p external is.attributes is.steps is.runs hop a is.are f.attributes kept) (p.as4, omega (arith, shorter, whole, top))
 
-by_prefixes : (p : Profile) (external : Bool) (bytes : List ℕ) (r : Reading) (is : IsReading p external bytes r) → Octets bytes → (ns : List AddressPrefix) (attrs : Option Attrs) (a : Attrs) → AreAttrsFor p external r.kept ns attrs → attrs ≡ Some a → ArePrintable a
+by_prefixes : (p : Profile) (external : Bool) (bytes : List ℕ) (r : Reading) (is : IsReading p external bytes r) → Octets bytes → (ns : List AddressPrefix) (attrs : Option Attrs) (a : Attrs) → AreAttrsFor p external r.kept (hop_of r.kept) ns attrs → attrs ≡ Some a → ArePrintable a
 by_prefixes p external bytes r is octets [] attrs a are e = absurd (not_some a (sym are ∙ e))
 by_prefixes p external bytes r is octets (n ∷ ns) None a are e = absurd are
 by_prefixes p external bytes r is octets (n ∷ ns) (Some b) a are e = subst ArePrintable (some_same b a e) (attrs_printable p external bytes r is octets b are)
 
-by_withdraw : (p : Profile) (external : Bool) (bytes : List ℕ) (r : Reading) (is : IsReading p external bytes r) → Octets bytes → (withdraw : Bool) (u : Update) (a : Attrs) → IsUpdateBy p external r withdraw u → u.attrs ≡ Some a → ArePrintable a
-by_withdraw p external bytes r is octets true u a by e = absurd (not_some a (sym by.attrs ∙ e))
-by_withdraw p external bytes r is octets false u a by e = by_prefixes p external bytes r is octets r.announced u.attrs a by.attrs e
+by_withdraw : (p : Profile) (external : Bool) (bytes : List ℕ) (r : Reading) (is : IsReading p external bytes r) → Octets bytes → (withdraw : Bool) (u : Update) (a : Attrs) → IsUpdateBy p external r withdraw u → u.first.attrs ≡ Some a → ArePrintable a
+by_withdraw p external bytes r is octets true u a by e = absurd (not_some a (sym by.first.attrs ∙ e))
+by_withdraw p external bytes r is octets false u a by e = by_prefixes p external bytes r is octets r.announced u.first.attrs a by.first.attrs e
 
 pub read_printable : ReadIsPrintable
 read_printable peers p external bytes u a octets reads e =

@@ -45,7 +45,7 @@ proto_colonless Rip = (refl, (refl, (refl, tt)))
 proto_colonless Ebgp = (refl, (refl, (refl, (refl, tt))))
 proto_colonless Ibgp = (refl, (refl, (refl, (refl, tt))))
 
-gateway_colonless : (g : Option ℕ) → Colonless (gateway_text g)
+gateway_colonless : (g : Option ℕ) → Colonless (gateway_text false g)
 gateway_colonless None = (refl, (refl, (refl, (refl, (refl, (refl, tt))))))
 gateway_colonless (Some a) = addr_colonless a
 
@@ -96,13 +96,13 @@ internal_back : (b : Bool) → is_internal (cond b Ibgp Ebgp) ≡ b
 internal_back true = refl
 internal_back false = refl
 
-gateway_back : (g : Option ℕ) → IsAddressIfAny g → addr_of (gateway_text g) ≡ g
+gateway_back : (g : Option ℕ) → IsAddressIfAny g → addr_of false (gateway_text false g) ≡ g
 unfolding id_of
 gateway_back None h = refl
 gateway_back (Some a) h = addr_back a h
 
-gateway_told : (g h : Option ℕ) → IsAddressIfAny g → IsAddressIfAny h → gateway_text g ≡ gateway_text h → g ≡ h
-gateway_told g h hg hh e = sym (gateway_back g hg) ∙ (ap addr_of e ∙ gateway_back h hh)
+gateway_told : (g h : Option ℕ) → IsAddressIfAny g → IsAddressIfAny h → gateway_text false g ≡ gateway_text false h → g ≡ h
+gateway_told g h hg hh e = sym (gateway_back g hg) ∙ (ap (addr_of false) e ∙ gateway_back h hh)
 
 -- ---- rows
 
@@ -115,23 +115,23 @@ record SameFour (a b c d e f g h : List ℕ) : Type 0 where
 four_same : (a b c d e f g h : List ℕ) → a ∷ b ∷ c ∷ d ∷ [] ≡ e ∷ f ∷ g ∷ h ∷ [] → SameFour a b c d e f g h
 four_same a b c d e f g h is = record { first = cc; second = cc; third = cc; fourth = cc }
 
-pub interior_parts : (r : Interior) → is_iface_name r.iface ≡ true → r.metric < 2 ^ 32 → parts 58 (interior_text r) ≡ proto_text r.proto ∷ gateway_text r.gateway ∷ r.iface ∷ decimal r.metric ∷ []
+pub interior_parts : (r : Interior) → is_iface_name r.iface ≡ true → r.metric < 2 ^ 32 → parts 58 (interior_text false r) ≡ proto_text r.proto ∷ gateway_text false r.gateway ∷ r.iface ∷ decimal r.metric ∷ []
 unfolding interior_text
 interior_parts r name small =
-    words_parted (proto_text r.proto) (gateway_text r.gateway ∷ r.iface ∷ decimal r.metric ∷ [])
+    words_parted (proto_text r.proto) (gateway_text false r.gateway ∷ r.iface ∷ decimal r.metric ∷ [])
     (proto_colonless (fib_proto r.proto), (gateway_colonless r.gateway, (name_colonless r.iface name, (decimal_colonless r.metric (omega arith), tt))))
 
-pub external_parts : (r : External) → parts 58 (external_text r) ≡ fib_proto_text (external_proto r) ∷ addr_text r.next_hop ∷ []
+pub external_parts : (r : External) → parts 58 (external_text false r) ≡ fib_proto_text (external_proto r) ∷ addr_text false r.next_hop ∷ []
 unfolding external_text
-external_parts r = words_parted (fib_proto_text (external_proto r)) (addr_text r.next_hop ∷ []) (proto_colonless (external_proto r), (addr_colonless r.next_hop, tt))
+external_parts r = words_parted (fib_proto_text (external_proto r)) (addr_text false r.next_hop ∷ []) (proto_colonless (external_proto r), (addr_colonless r.next_hop, tt))
 
-pub fib_parts : (r : FibRow) → is_iface_name r.iface ≡ true → parts 58 (fib_text r) ≡ fib_proto_text r.proto ∷ gateway_text r.gateway ∷ r.iface ∷ []
+pub fib_parts : (r : FibRow) → is_iface_name r.iface ≡ true → parts 58 (fib_text false r) ≡ fib_proto_text r.proto ∷ gateway_text false r.gateway ∷ r.iface ∷ []
 unfolding fib_text
-fib_parts r name = words_parted (fib_proto_text r.proto) (gateway_text r.gateway ∷ r.iface ∷ []) (proto_colonless r.proto, (gateway_colonless r.gateway, (name_colonless r.iface name, tt)))
+fib_parts r name = words_parted (fib_proto_text r.proto) (gateway_text false r.gateway ∷ r.iface ∷ []) (proto_colonless r.proto, (gateway_colonless r.gateway, (name_colonless r.iface name, tt)))
 
-pub interior_told : (a b : Interior) → is_iface_name a.iface ≡ true → is_iface_name b.iface ≡ true → a.metric < 2 ^ 32 → b.metric < 2 ^ 32 → IsAddressIfAny a.gateway → IsAddressIfAny b.gateway → interior_text a ≡ interior_text b → a ≡ b
+pub interior_told : (a b : Interior) → is_iface_name a.iface ≡ true → is_iface_name b.iface ≡ true → a.metric < 2 ^ 32 → b.metric < 2 ^ 32 → IsAddressIfAny a.gateway → IsAddressIfAny b.gateway → interior_text false a ≡ interior_text false b → a ≡ b
 interior_told a b na nb ma mb ga gb e =
-    let same = four_same (proto_text a.proto) (gateway_text a.gateway) a.iface (decimal a.metric) (proto_text b.proto) (gateway_text b.gateway) b.iface (decimal b.metric)
+    let same = four_same (proto_text a.proto) (gateway_text false a.gateway) a.iface (decimal a.metric) (proto_text b.proto) (gateway_text false b.gateway) b.iface (decimal b.metric)
     (sym (interior_parts a na ma) ∙ (ap (parts 58) e ∙ interior_parts b nb mb)) in
     let proto = proto_told a.proto b.proto same.first in
     let gateway = gateway_told a.gateway b.gateway ga gb same.second in
@@ -141,9 +141,9 @@ interior_told a b na nb ma mb ga gb e =
 two_same : (a b c d : List ℕ) → a ∷ b ∷ [] ≡ c ∷ d ∷ [] → (a ≡ c) × (b ≡ d)
 two_same a b c d e = (cc, cc)
 
-pub external_told : (a b : External) → IsIpv4 a.next_hop → IsIpv4 b.next_hop → external_text a ≡ external_text b → a ≡ b
+pub external_told : (a b : External) → IsIpv4 a.next_hop → IsIpv4 b.next_hop → external_text false a ≡ external_text false b → a ≡ b
 external_told a b ha hb e =
-    let same = two_same (fib_proto_text (external_proto a)) (addr_text a.next_hop) (fib_proto_text (external_proto b)) (addr_text b.next_hop) (sym (external_parts a) ∙ (ap (parts 58) e ∙ external_parts b)) in
+    let same = two_same (fib_proto_text (external_proto a)) (addr_text false a.next_hop) (fib_proto_text (external_proto b)) (addr_text false b.next_hop) (sym (external_parts a) ∙ (ap (parts 58) e ∙ external_parts b)) in
     let protos = fib_proto_told (external_proto a) (external_proto b) same.0 in
     let internal : a.internal ≡ b.internal = sym (internal_back a.internal) ∙ (ap is_internal protos ∙ internal_back b.internal) in
     let next_hop = addr_same a.next_hop b.next_hop ha hb same.1 in
@@ -157,9 +157,9 @@ record SameThree (a b c d e f : List ℕ) : Type 0 where
 three_same : (a b c d e f : List ℕ) → a ∷ b ∷ c ∷ [] ≡ d ∷ e ∷ f ∷ [] → SameThree a b c d e f
 three_same a b c d e f is = record { first = cc; second = cc; third = cc }
 
-pub fib_told : (a b : FibRow) → is_iface_name a.iface ≡ true → is_iface_name b.iface ≡ true → IsAddressIfAny a.gateway → IsAddressIfAny b.gateway → fib_text a ≡ fib_text b → a ≡ b
+pub fib_told : (a b : FibRow) → is_iface_name a.iface ≡ true → is_iface_name b.iface ≡ true → IsAddressIfAny a.gateway → IsAddressIfAny b.gateway → fib_text false a ≡ fib_text false b → a ≡ b
 fib_told a b na nb ga gb e =
-    let same = three_same (fib_proto_text a.proto) (gateway_text a.gateway) a.iface (fib_proto_text b.proto) (gateway_text b.gateway) b.iface (sym (fib_parts a na) ∙ (ap (parts 58) e ∙ fib_parts b nb)) in
+    let same = three_same (fib_proto_text a.proto) (gateway_text false a.gateway) a.iface (fib_proto_text b.proto) (gateway_text false b.gateway) b.iface (sym (fib_parts a na) ∙ (ap (parts 58) e ∙ fib_parts b nb)) in
     let proto = fib_proto_told a.proto b.proto same.first in
     let gateway = gateway_told a.gateway b.gateway ga gb same.second in
     λ i. record { proto = proto i; gateway = gateway i; iface = same.third i }

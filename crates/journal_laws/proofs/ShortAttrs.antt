@@ -160,7 +160,7 @@ short_origin Egp = short_octet 1 (omega arith)
 short_origin Incomplete = short_octet 2 (omega arith)
 
 -- ORIGIN, AS_PATH and NEXT_HOP
-mandatory_octets : (as4 : Bool) (a : Attrs) → 14 + length (path_octets (width_of as4) a.path) ≤ length (octets_of (mandatory_attributes as4 a))
+mandatory_octets : (as4 : Bool) (a : Attrs) → 14 + length (path_octets (width_of as4) a.path) ≤ length (octets_of (mandatory_attributes false as4 a))
 mandatory_octets as4 a =
     let o = spelled 64 1 (code_of_origin a.origin ∷ []) in
     let s = spelled 64 2 (path_octets (width_of as4) a.path) in
@@ -175,12 +175,12 @@ mandatory_octets as4 a =
       head_at_least 64 3 (big_bytes 4 (a.next_hop / 2 ^ 96)),
     )
 
-required_length : (a : Attrs) → length (required_text a) ≤ 23 + length (path_text a.path)
+required_length : (a : Attrs) → length (required_text false a) ≤ 23 + length (path_text a.path)
 unfolding required_text
 required_length a =
     let o = codes "o" ++ decimal (origin_number a.origin) in
     let p = path_text a.path in
-    let h = addr_text a.next_hop in
+    let h = addr_text false a.next_hop in
     omega (
       arith,
       short_origin a.origin,
@@ -191,7 +191,7 @@ required_length a =
       length-append (o ++ codes ",p" ++ p ++ codes ",n") h,
     )
 
-short_required : (as4 : Bool) (a : Attrs) → HasRanges a → length (required_text a) ≤ 6 * length (octets_of (mandatory_attributes as4 a))
+short_required : (as4 : Bool) (a : Attrs) → HasRanges a → length (required_text false a) ≤ 6 * length (octets_of (mandatory_attributes false as4 a))
 short_required as4 a h = omega (arith, required_length a, short_path as4 a.path h.path, mandatory_octets as4 a)
 
 short_optional : (as4 : Bool) (a : Attrs) → HasRanges a → length (optional_text a) ≤ 6 * length (octets_of (further_attributes as4 a))
@@ -212,7 +212,7 @@ short_optional as4 a h =
       length-four (optional (λ n. spelled 128 4 (big_bytes 4 n)) a.med) (optional (λ n. spelled 64 5 (big_bytes 4 n)) a.local_pref) (cond a.atomic (spelled 64 6 [] ∷ []) []) (optional (λ g. spelled (aggregator_flags g.partial) 7 (aggregator_value as4 g)) a.aggregator),
     )
 
-pub short_attrs : (as4 : Bool) (a : Attrs) → HasRanges a → length (attrs_text a) ≤ 6 * attributes_length as4 a
+pub short_attrs : (as4 : Bool) (a : Attrs) → HasRanges a → length (attrs_text false a) ≤ 6 * attributes_length false as4 a
 unfolding attrs_text attributes_length
 short_attrs as4 a h =
     omega (
@@ -221,8 +221,8 @@ short_attrs as4 a h =
       short_optional as4 a h,
       short_reflection a.reflection,
       short_all a.unrecognized h.unrecognized,
-      length-append (required_text a) (optional_text a),
-      length-append (required_text a ++ optional_text a) (reflection_text a.reflection),
-      length-append (required_text a ++ optional_text a ++ reflection_text a.reflection) (flat_map unrecognized_text a.unrecognized),
-      length-sent as4 a,
+      length-append (required_text false a) (optional_text a),
+      length-append (required_text false a ++ optional_text a) (reflection_text a.reflection),
+      length-append (required_text false a ++ optional_text a ++ reflection_text a.reflection) (flat_map unrecognized_text a.unrecognized),
+      length-sent false as4 a [],
     )

@@ -1,10 +1,11 @@
 -- How long the texts of numbers, addresses, prefixes and links are at most.
-use Rattle.std.proofs.Common.{◌≡◌, ℕ, ◌+◌, ◌*◌, ◌/◌, ◌%◌, ◌^◌, ◌<◌, ◌≤◌, ◌&&◌, true, nat_le, List, [], ◌∷◌, ◌++◌, length, arith, codes}
+use Rattle.std.proofs.Common.{◌≡◌, ℕ, ◌+◌, ◌*◌, ◌/◌, ◌%◌, ◌^◌, ◌<◌, ◌≤◌, ◌&&◌, true, nat_le, List, [], ◌∷◌, ◌++◌, length, arith, codes, false}
 use Rattle.std.proofs.lemmas.Bool.Decides.{nat_tests}
 use Rattle.std.proofs.lemmas.List.{length-append}
 use Rattle.std.proofs.lemmas.Fmt.{length-decimal-le, length-decimal-le_wide}
 use Rattle.std.specs.Fmt.{decimal}
 use Rattle.std.specs.List.{AllByRecursion, list_all}
+use Rattle.addr4.specs.Families.{IsIpv4Prefix}
 use Rattle.addr4.specs.Prefixes.{AddressPrefix}
 use Rattle.addr4.specs.Texts.{dotted, addr_text, prefix_text, id_text}
 use Rattle.rib_route.specs.declared.Proto.{Proto}
@@ -13,12 +14,11 @@ use Rattle.rib_route.specs.declared.protocol.FibProto.TheVariants.{Connected}
 use Rattle.rib_route.specs.Distances.{fib_proto}
 use Rattle.rib_route.specs.Ifaces.{is_name_byte, is_iface_name}
 use Rattle.journal_text.specs.Names.{IsNameNumber, IsNamed, IsNamedTask}
-use Rattle.journal_text.specs.Texts.{addresses_text, fib_proto_text, proto_text, dot_number, link_text, task_text}
+use Rattle.journal_text.specs.Texts.{addresses_text, fib_proto_text, proto_text, dot_number, link_text, link_name, task_text, task_name}
 use Rattle.journal_text.specs.declared.link.Link.{Link}
 use Rattle.journal_text.specs.declared.link.Task.{Task}
 use Rattle.journal_text.specs.declared.link.Task.TheVariants as tasks
 use Rattle.journal_text.specs.declared.link.Link.TheVariants.{In, Peer, Filt, Res, Org, Lost, Read, Outf, Adv}
-use Rattle.journal_check.specs.Laws.{IsPrefix}
 use Rattle.journal_check.proofs.InkLemmas.{both_true}
 
 -- ---- numbers
@@ -63,7 +63,7 @@ pub short_id : (a : ℕ) → length (id_text a) ≤ 15
 unfolding id_text
 short_id a = four_dotted (a / 16777216 % 256) (a / 65536 % 256) (a / 256 % 256) (a % 256) (low_octet (a / 16777216)) (low_octet (a / 65536)) (low_octet (a / 256)) (low_octet a)
 
-pub short_addr : (a : ℕ) → length (addr_text a) ≤ 15
+pub short_addr : (a : ℕ) → length (addr_text false a) ≤ 15
 short_addr a = short_id (a / 2 ^ 96)
 
 -- each has a semicolon at most beside it
@@ -72,11 +72,11 @@ short_addresses [] = omega arith
 short_addresses (a ∷ []) = omega (arith, short_id a)
 short_addresses (a ∷ b ∷ addresses) = omega (arith, short_id a, short_addresses (b ∷ addresses), length-append (id_text a) (59 ∷ addresses_text (b ∷ addresses)))
 
-pub short_prefix : (p : AddressPrefix) → IsPrefix p → length (prefix_text p) ≤ 19
+pub short_prefix : (p : AddressPrefix) → IsIpv4Prefix p → length (prefix_text false p) ≤ 19
 unfolding prefix_text
 short_prefix p h =
     let short = h.short in
-    omega (arith, short_addr p.address, short_octet p.length (omega arith), length-append (addr_text p.address) (47 ∷ decimal p.length))
+    omega (arith, short_addr p.address, short_octet p.length (omega arith), length-append (addr_text false p.address) (47 ∷ decimal p.length))
 
 -- ---- links
 
@@ -96,8 +96,8 @@ short_org p = omega (arith, short_fib_proto (fib_proto p))
 short_rdel : (p : Proto) → length (codes "rdel." ++ proto_text p) ≤ 14
 short_rdel p = omega (arith, short_fib_proto (fib_proto p))
 
-pub short_task : (task : Task) → IsNamedTask task → length (task_text task) ≤ 26
-unfolding task_text
+pub short_task : (task : Task) → IsNamedTask task → length (task_text false task) ≤ 26
+unfolding task_text task_name
 short_task (tasks.Del k s) h = two_numbers (codes "del") k s (omega arith) h
 short_task (tasks.Fin k) h = omega (arith, one_number (codes "fin") k (omega arith) h)
 short_task (tasks.Nh k) h = omega (arith, one_number (codes "nh") k (omega arith) h)
@@ -106,8 +106,8 @@ short_task (tasks.Ref j) h = omega (arith, one_number (codes "ref") j (omega ari
 short_task (tasks.Rdel proto n) h = omega (arith, short_rdel proto, one_number (codes "rdel." ++ proto_text proto) n (short_rdel proto) h)
 short_task other h = omega arith
 
-pub short_link : (link : Link) → IsNamed link → length (link_text link) ≤ 26
-unfolding link_text
+pub short_link : (link : Link) → IsNamed link → length (link_text false link) ≤ 26
+unfolding link_text link_name
 short_link (In k) h = omega (arith, one_number (codes "in") k (omega arith) h)
 short_link (Peer k s) h = two_numbers (codes "peer") k s (omega arith) h
 short_link (Filt k) h = omega (arith, one_number (codes "filt") k (omega arith) h)

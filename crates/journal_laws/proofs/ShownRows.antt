@@ -111,15 +111,15 @@ place_rises place p is further = let le = rank_beyond place p (short_place place
 
 -- ---- lines that are pushed, and flushed
 abbrev text_with : Journaled → List ℕ → Journaled
-text_with j text = record { text = text; pending = []; quiet = j.quiet }
+text_with j text = record { text = text; pending = []; quiet = j.quiet; v6 = j.v6 }
 
 pub flushed_join : (j : Journaled) (a b : List Line) → flushed (with_lines (flushed (with_lines j a)) b) ≡ flushed (with_lines j (a ++ b))
 flushed_join j a b = ap (text_with j)
-    (append_assoc j.text (j.pending ++ text_of j.quiet a) (text_of j.quiet b)
-    ∙ ap (λ (t : List ℕ). j.text ++ t) (append_assoc j.pending (text_of j.quiet a) (text_of j.quiet b) ∙ ap (λ (t : List ℕ). j.pending ++ t) (sym (text_of_append j.quiet a b))))
+    (append_assoc j.text (j.pending ++ text_of j.v6 j.quiet a) (text_of j.v6 j.quiet b)
+    ∙ ap (λ (t : List ℕ). j.text ++ t) (append_assoc j.pending (text_of j.v6 j.quiet a) (text_of j.v6 j.quiet b) ∙ ap (λ (t : List ℕ). j.pending ++ t) (sym (text_of_append j.v6 j.quiet a b))))
 
 pub flushed_none : (j : Journaled) → flushed j ≡ flushed (with_lines j [])
 flushed_none j = ap (λ (t : List ℕ). text_with j (j.text ++ t)) (sym (append-nil j.pending))
 
 pub with_none : (j : Journaled) → j ≡ with_lines j []
-with_none j = ap (λ pending. record { text = j.text; pending = pending; quiet = j.quiet }) (sym (append-nil j.pending))
+with_none j = ap (λ pending. record { text = j.text; pending = pending; quiet = j.quiet; v6 = j.v6 }) (sym (append-nil j.pending))

@@ -26,20 +26,20 @@ chosen f false x y = refl
 
 -- ---- what an entry makes of the links
 
-rows_set : (rows : Rows Value) (p : AddressPrefix) (row : Option Value) → text_rows (with_row rows p row) ≡ with_row (text_rows rows) p (option_map value_text row)
-rows_set rows p row = same_function _ _ (λ q. chosen value_text (eq_by_cmp prefix_cmp q p) row (rows q))
+rows_set : (rows : Rows Value) (p : AddressPrefix) (row : Option Value) → text_rows (with_row rows p row) ≡ with_row (text_rows rows) p (option_map (value_text false) row)
+rows_set rows p row = same_function _ _ (λ q. chosen (value_text false) (eq_by_cmp prefix_cmp q p) row (rows q))
 
 link_set : (links : Links Value) (link : Link) (rows : Option (Rows Value)) → text_links (with_link links link rows) ≡ with_link (text_links links) link (option_map text_rows rows)
 link_set links link rows = same_function _ _ (λ q. chosen text_rows (same_link q link) rows (links q))
 
-row_set : (links : Links Value) (link : Link) (p : AddressPrefix) (row : Option Value) → text_links (with_row_on links link p row) ≡ with_row_on (text_links links) link p (option_map value_text row)
+row_set : (links : Links Value) (link : Link) (p : AddressPrefix) (row : Option Value) → text_links (with_row_on links link p row) ≡ with_row_on (text_links links) link p (option_map (value_text false) row)
 row_set links link p row = link_set links link (option_map (λ rows. with_row rows p row) (links link)) ∙ ap (with_link (text_links links) link) (by (links link))
   where
-    by : (o : Option (Rows Value)) → option_map text_rows (option_map (λ rows. with_row rows p row) o) ≡ option_map (λ rows. with_row rows p (option_map value_text row)) (option_map text_rows o)
+    by : (o : Option (Rows Value)) → option_map text_rows (option_map (λ rows. with_row rows p row) o) ≡ option_map (λ rows. with_row rows p (option_map (value_text false) row)) (option_map text_rows o)
     by None = refl
     by (Some rows) = ap (λ (r : Rows (List ℕ)). Some r) (rows_set rows p row)
 
-pub after_texts : (links : Links Value) (entry : Entry Value) → after (text_links links) (texts_of entry) ≡ text_links (after links entry)
+pub after_texts : (links : Links Value) (entry : Entry Value) → after (text_links links) (texts_of false entry) ≡ text_links (after links entry)
 after_texts links (Begin link) = sym (link_set links link (Some no_rows))
 after_texts links (Inherit link from) = sym (link_set links link (links from))
 after_texts links (Add link p new) = sym (row_set links link p (Some new))
@@ -55,10 +55,10 @@ some_mapped : {A B : Type 0} (f : A → B) (o : Option A) → IsSome o → IsSom
 some_mapped f (Some x) is = is
 some_mapped f None is = is
 
-row_texts : (links : Links Value) (link : Link) (p : AddressPrefix) (row : Option Value) → HasRow links link p row → HasRow (text_links links) link p (option_map value_text row)
-row_texts links link p row has = (text_rows has.0, ap (option_map text_rows) has.1, ap (option_map value_text) has.2)
+row_texts : (links : Links Value) (link : Link) (p : AddressPrefix) (row : Option Value) → HasRow links link p row → HasRow (text_links links) link p (option_map (value_text false) row)
+row_texts links link p row has = (text_rows has.0, ap (option_map text_rows) has.1, ap (option_map (value_text false)) has.2)
 
-demand_texts : (peers : ℕ → Option Neighbour) (links : Links Value) (entry : Entry Value) → AllByRecursion (IsWellTold peers) (values_of entry) → Demands links entry → Demands (text_links links) (texts_of entry)
+demand_texts : (peers : ℕ → Option Neighbour) (links : Links Value) (entry : Entry Value) → AllByRecursion (IsWellTold peers) (values_of entry) → Demands links entry → Demands (text_links links) (texts_of false entry)
 demand_texts peers links (Begin link) exact h = ap (option_map text_rows) h
 demand_texts peers links (Inherit link from) exact h = (ap (option_map text_rows) h.0, some_mapped text_rows (links from) h.1)
 demand_texts peers links (Add link p new) exact h = row_texts links link p None h

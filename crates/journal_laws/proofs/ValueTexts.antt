@@ -39,7 +39,7 @@ known_told (Some m) None s t hm hn e = absurd (clash (begins is_ascii_digit (kno
 known_told (Some m) (Some n) s t hm hn e = let told = field_told m n s t hm hn e in (ap Some told.0, told.1)
 
 abbrev behind_prepend : Route → List ℕ
-behind_prepend r = known_text r.igp ++ attrs_text r.attrs
+behind_prepend r = known_text r.igp ++ attrs_text false r.attrs
 
 abbrev behind_med : Route → List ℕ
 behind_med r = field_text r.prepend ++ behind_prepend r
@@ -50,19 +50,19 @@ behind_pref r = known_text r.med ++ behind_med r
 abbrev behind_sender : Route → List ℕ
 behind_sender r = field_text r.pref ++ behind_pref r
 
-route_parted : (r : Route) → route_text r ≡ field_text (sender_number r.from) ++ behind_sender r
+route_parted : (r : Route) → route_text false r ≡ field_text (sender_number r.from) ++ behind_sender r
 unfolding route_text
 route_parted r =
     let n = field_text (sender_number r.from) in
     let p = field_text r.pref in
     let m = known_text r.med in
     let t = field_text r.prepend in
-    append_assoc (n ++ p ++ m ++ t) (known_text r.igp) (attrs_text r.attrs)
+    append_assoc (n ++ p ++ m ++ t) (known_text r.igp) (attrs_text false r.attrs)
     ∙ (append_assoc (n ++ p ++ m) t (behind_prepend r)
     ∙ (append_assoc (n ++ p) m (behind_med r)
     ∙ append_assoc n p (behind_pref r)))
 
-route_told : (peers : ℕ → Option Neighbour) (a b : Route) → HasRouteRanges a → HasRouteRanges b → HasAddresses a.attrs → HasAddresses b.attrs → IsFromOneOf peers a → IsFromOneOf peers b → route_text a ≡ route_text b → a ≡ b
+route_told : (peers : ℕ → Option Neighbour) (a b : Route) → HasRouteRanges a → HasRouteRanges b → HasAddresses a.attrs → HasAddresses b.attrs → IsFromOneOf peers a → IsFromOneOf peers b → route_text false a ≡ route_text false b → a ≡ b
 route_told peers a b ha hb aa ab fa fb e =
     let number_a = ha.from in
     let number_b = hb.from in
@@ -72,7 +72,7 @@ route_told peers a b ha hb aa ab fa fb e =
     let pref = field_told a.pref b.pref (behind_pref a) (behind_pref b) ha.pref hb.pref sender.1 in
     let med = known_told a.med b.med (behind_med a) (behind_med b) ha.med hb.med pref.1 in
     let prepend = field_told a.prepend b.prepend (behind_prepend a) (behind_prepend b) (omega (arith, times_a)) (omega (arith, times_b)) med.1 in
-    let igp = known_told a.igp b.igp (attrs_text a.attrs) (attrs_text b.attrs) ha.igp hb.igp prepend.1 in
+    let igp = known_told a.igp b.igp (attrs_text false a.attrs) (attrs_text false b.attrs) ha.igp hb.igp prepend.1 in
     let attrs = attrs_told a.attrs b.attrs ha.attrs hb.attrs aa ab igp.1 in
     let from : a.from ≡ b.from = fa ∙ (ap peers sender.0 ∙ sym fb) in
     λ i. record { attrs = attrs i; pref = pref.0 i; med = med.0 i; prepend = prepend.0 i; igp = igp.0 i; from = from i }
@@ -98,13 +98,13 @@ origin_digit Igp s = decimal_begins 0 s (omega arith)
 origin_digit Egp s = decimal_begins 1 s (omega arith)
 origin_digit Incomplete s = decimal_begins 2 s (omega arith)
 
-attrs_kind : (a : Attrs) → kind_by (attrs_text a) ≡ 0
+attrs_kind : (a : Attrs) → kind_by (attrs_text false a) ≡ 0
 attrs_kind a = ap kind_by (attrs_parted a) ∙ by_tests (111 ∷ (decimal (origin_number a.origin) ++ behind_origin a)) false true refl (origin_digit a.origin (behind_origin a))
 
-route_kind : (r : Route) → HasRouteRanges r → kind_by (route_text r) ≡ 1
+route_kind : (r : Route) → HasRouteRanges r → kind_by (route_text false r) ≡ 1
 route_kind r h =
     let number = h.from in
-    ap (λ b. cond b 1 (cond (begins is_ascii_digit (drop 1 (route_text r))) 0 (length (parts 58 (route_text r)))))
+    ap (λ b. cond b 1 (cond (begins is_ascii_digit (drop 1 (route_text false r))) 0 (length (parts 58 (route_text false r)))))
     (ap (begins is_ascii_digit) (route_parted r) ∙ field_begins (sender_number r.from) (behind_sender r) (omega (arith, number)))
 
 -- a protocol and more: neither of its first bytes is a digit
@@ -112,17 +112,17 @@ proto_kind : (p : FibProto) (next : List ℕ) (words : List (List ℕ)) → kind
 proto_kind Connected next words = refl
 proto_kind other next words = refl
 
-kind_told : (peers : ℕ → Option Neighbour) (value : Value) → IsWellTold peers value → kind_by (value_text value) ≡ kind_of value
+kind_told : (peers : ℕ → Option Neighbour) (value : Value) → IsWellTold peers value → kind_by (value_text false value) ≡ kind_of value
 unfolding interior_text external_text fib_text
 kind_told peers (values.Attrs a) h = attrs_kind a
 kind_told peers (values.Route r) h = route_kind r h.ranges
-kind_told peers (values.Interior r) h = proto_kind (fib_proto r.proto) (gateway_text r.gateway) (r.iface ∷ decimal r.metric ∷ []) ∙ ap length (interior_parts r h.ranges.0 h.ranges.1)
-kind_told peers (values.External r) h = proto_kind (external_proto r) (addr_text r.next_hop) [] ∙ ap length (external_parts r)
-kind_told peers (values.FibRow r) h = proto_kind r.proto (gateway_text r.gateway) (r.iface ∷ []) ∙ ap length (fib_parts r h.ranges)
+kind_told peers (values.Interior r) h = proto_kind (fib_proto r.proto) (gateway_text false r.gateway) (r.iface ∷ decimal r.metric ∷ []) ∙ ap length (interior_parts r h.ranges.0 h.ranges.1)
+kind_told peers (values.External r) h = proto_kind (external_proto r) (addr_text false r.next_hop) [] ∙ ap length (external_parts r)
+kind_told peers (values.FibRow r) h = proto_kind r.proto (gateway_text false r.gateway) (r.iface ∷ []) ∙ ap length (fib_parts r h.ranges)
 
 -- ---- all values
 
-by_kinds : (peers : ℕ → Option Neighbour) (a b : Value) → IsWellTold peers a → IsWellTold peers b → kind_of a ≡ kind_of b → value_text a ≡ value_text b → a ≡ b
+by_kinds : (peers : ℕ → Option Neighbour) (a b : Value) → IsWellTold peers a → IsWellTold peers b → kind_of a ≡ kind_of b → value_text false a ≡ value_text false b → a ≡ b
 by_kinds peers (values.Attrs a) (values.Attrs b) ha hb same e = ap (λ x. values.Attrs x) (attrs_told a b ha.ranges hb.ranges ha.told hb.told e)
 by_kinds peers (values.Attrs a) other ha hb same e = absurd (omega arith)
 by_kinds peers (values.Route a) (values.Route b) ha hb same e = ap (λ x. values.Route x) (route_told peers a b ha.ranges hb.ranges ha.told.0 hb.told.0 ha.told.1 hb.told.1 e)

@@ -44,11 +44,11 @@ answer_value : (peers : ℕ → Option Neighbour) (row : Option Value) → AllBy
 answer_value peers None h = no_values peers
 answer_value peers (Some x) h = one_value peers x h.0
 
-row_told : (peers : ℕ → Option Neighbour) (a b : Option Value) → IsExactIfAny peers a → IsExactIfAny peers b → option_map value_text a ≡ option_map value_text b → a ≡ b
+row_told : (peers : ℕ → Option Neighbour) (a b : Option Value) → IsExactIfAny peers a → IsExactIfAny peers b → option_map (value_text false) a ≡ option_map (value_text false) b → a ≡ b
 row_told peers None None ha hb e = refl
-row_told peers None (Some y) ha hb e = absurd (not_some (value_text y) e)
-row_told peers (Some x) None ha hb e = absurd (not_some (value_text x) (sym e))
-row_told peers (Some x) (Some y) ha hb e = ap (λ (v : Value). Some v) (values_told peers x y (ha x refl) (hb y refl) (some_same (value_text x) (value_text y) e))
+row_told peers None (Some y) ha hb e = absurd (not_some (value_text false y) e)
+row_told peers (Some x) None ha hb e = absurd (not_some (value_text false x) (sym e))
+row_told peers (Some x) (Some y) ha hb e = ap (λ (v : Value). Some v) (values_told peers x y (ha x refl) (hb y refl) (some_same (value_text false x) (value_text false y) e))
 
 rows_told : (peers : ℕ → Option Neighbour) (a b : Rows Value) → AreExactRows peers a → AreExactRows peers b → text_rows a ≡ text_rows b → a ≡ b
 rows_told peers a b ha hb e = same_function a b (λ q. row_told peers (a q) (b q) (ha q) (hb q) (ap (λ (r : Rows (List ℕ)). r q) e))
@@ -67,7 +67,7 @@ mapped_is_some : {A B : Type 0} (f : A → B) (o : Option A) → IsSome (option_
 mapped_is_some f (Some x) is = is
 mapped_is_some f None is = is
 
-row_back : (peers : ℕ → Option Neighbour) (links : Links Value) (link : Link) (p : AddressPrefix) (row : Option Value) → AreExactLinks peers links → IsExactIfAny peers row → HasRow (text_links links) link p (option_map value_text row) → HasRow links link p row
+row_back : (peers : ℕ → Option Neighbour) (links : Links Value) (link : Link) (p : AddressPrefix) (row : Option Value) → AreExactLinks peers links → IsExactIfAny peers row → HasRow (text_links links) link p (option_map (value_text false) row) → HasRow links link p row
 row_back peers links link p row exact h has =
     let s = mapped_some text_rows (links link) has.0 has.1 in
     (s.0, s.1, row_told peers (s.0 p) row (exact link s.0 s.1 p) h (ap (λ (r : Rows (List ℕ)). r p) s.2 ∙ has.2))
@@ -78,12 +78,12 @@ same_back peers links upper lower exact has =
     let l = mapped_some text_rows (links lower) has.0 has.2 in
     (u.0, u.1, l.1 ∙ ap (λ (r : Rows Value). Some r) (rows_told peers l.0 u.0 (exact lower l.0 l.1) (exact upper u.0 u.1) (l.2 ∙ sym u.2)))
 
-demand_back : (peers : ℕ → Option Neighbour) (links : Links Value) (entry : Entry Value) → AreExactLinks peers links → AllByRecursion (IsWellTold peers) (values_of entry) → Demands (text_links links) (texts_of entry) → Demands links entry
+demand_back : (peers : ℕ → Option Neighbour) (links : Links Value) (entry : Entry Value) → AreExactLinks peers links → AllByRecursion (IsWellTold peers) (values_of entry) → Demands (text_links links) (texts_of false entry) → Demands links entry
 demand_back peers links (Begin link) exact values h = mapped_none text_rows (links link) h
 demand_back peers links (Inherit link from) exact values h = (mapped_none text_rows (links link) h.0, mapped_is_some text_rows (links from) h.1)
 demand_back peers links (Add link p new) exact values h = row_back peers links link p None exact (no_values peers) h
 demand_back peers links (Delete link p old) exact values h = row_back peers links link p (Some old) exact (one_value peers old values.0) h
-demand_back peers links (Replace link p old new) exact values h = (row_back peers links link p (Some old) exact (one_value peers old values.0) h.0, λ same. h.1 (ap value_text same))
+demand_back peers links (Replace link p old new) exact values h = (row_back peers links link p (Some old) exact (one_value peers old values.0) h.0, λ same. h.1 (ap (value_text false) same))
 demand_back peers links (Asked link p row) exact values h = row_back peers links link p row exact (answer_value peers row values) h
 demand_back peers links (Weld upper lower) exact values h = (h.0, same_back peers links upper lower exact h.1)
 demand_back peers links (End link) exact values h = mapped_is_some text_rows (links link) h

@@ -1,5 +1,5 @@
 -- Lines that the program can print, beside the ranges of their numbers: what is asked of the values in them.
-use Rattle.std.specs.Prelude.{◌≡◌, ℕ, ◌^◌, ◌<◌, ◌≤◌, Bool, List, [], ◌∷◌, length, Option, Some, None}
+use Rattle.std.specs.Prelude.{◌≡◌, ℕ, ◌^◌, ◌<◌, ◌≤◌, Bool, false, List, [], ◌∷◌, length, Option, Some, None}
 use Rattle.std.specs.List.{AllByRecursion}
 use Rattle.addr4.specs.Families.{IsIpv4}
 use Rattle.bgp_attr.specs.declared.attrs.Aggregator.{Aggregator}
@@ -20,7 +20,7 @@ use Rattle.journal_check.specs.Laws.{IsValue, IsLine}
 
 -- A message of at most 4,096 octets has room for the attributes, with AS numbers of two octets or of four (RFC 4271, section 4.1).
 abbrev pub HasRoom : Attrs → Type 0
-HasRoom a = (as4 : Bool) × (attributes_length as4 a ≤ 4096)
+HasRoom a = (as4 : Bool) × (attributes_length false as4 a ≤ 4096)
 
 abbrev pub HasShortText : Value → Type 0
 HasShortText (values.Attrs a) = HasRoom a
@@ -102,7 +102,7 @@ octets_in other = []
 
 -- its links have numbers from 1, its numbers are in their ranges, and messages have room for what they hold
 pub record IsShortLine (line : Line) : Type 0 where
-  pub ranges : IsLine line
+  pub ranges : IsLine false line
   pub values : AllByRecursion HasShortText (values_in line)
   pub octets : length (octets_in line) ≤ 4096
 

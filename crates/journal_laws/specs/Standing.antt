@@ -1,6 +1,6 @@
 -- What stands in tables and chains and can be printed: each row, live or lost, the numbers of the losses, the rules of filters, and what
 -- is known of next hops.
-use Rattle.std.specs.Prelude.{◌≡◌, ℕ, Bool, true, not, List, Option, Some, None}
+use Rattle.std.specs.Prelude.{◌≡◌, ℕ, Bool, true, false, not, List, Option, Some, None}
 use Rattle.std.specs.List.{AllByRecursion}
 use Rattle.std.specs.FinMap as tables
 use Rattle.nexthop_known.specs.Hops.{Hop}
@@ -8,6 +8,7 @@ use Rattle.nexthop_known.specs.Hops.{Hops}
 use Rattle.nexthop_resolver.specs.declared.rows.Metric.{Metric}
 use Rattle.nexthop_resolver.specs.Ways.{Outlet, Way}
 use Rattle.nexthop_resolver.specs.Resolving.{Resolving}
+use Rattle.addr4.specs.Families.{IsIpv4Prefix}
 use Rattle.addr4.specs.Prefixes.{AddressPrefix}
 use Rattle.bgp_attr.specs.Attributes.{Attrs}
 use Rattle.bgp_attr.specs.declared.speaker.Neighbour.{Neighbour}
@@ -24,7 +25,7 @@ use Rattle.journal_text.specs.Values.{interior_value}
 use Rattle.journal_text.specs.Lines.{Value}
 use Rattle.rib_route.specs.Ifaces.{is_iface_name}
 use Rattle.rib_route.specs.Rows.{Interior}
-use Rattle.journal_check.specs.Laws.{IsPrefix, IsNumberIfAny}
+use Rattle.journal_check.specs.Laws.{IsNumberIfAny}
 use Rattle.loss_chain.specs.Tables.{Tables}
 use Rattle.loss_chain.specs.Rows.{IsRow}
 use Rattle.in_chain.specs.Chains.{Chained}
@@ -32,19 +33,19 @@ use Rattle.journal_laws.specs.Printed.{IsPrintable, IsAddressIfAny}
 
 -- a row that can be printed at its prefix, whoever the peers are
 pub record IsPrintableRow (p : AddressPrefix) (value : Value) : Type 0 where
-  pub prefix : IsPrefix p
+  pub prefix : IsIpv4Prefix p
   pub printed : (peers : ℕ → Option Neighbour) → IsPrintable peers value
 
 abbrev pub IsInteriorRow : AddressPrefix → Interior → Type 0
 IsInteriorRow p row = IsPrintableRow p (interior_value row)
 
--- some octets of a peer, external or internal, said these attributes (RFC 4271, section 4.3)
+-- some octets of a peer, external or internal, said these attributes of prefixes of IPv4 (RFC 4271, section 4.3)
 abbrev pub WasHeard : Profile → Bool → Attrs → Type 0
-WasHeard profile external a = (octets : List ℕ) × (u : Update) × AreOctets octets × Reads profile external octets (messages.Update u) × (u.attrs ≡ Some a)
+WasHeard profile external a = (octets : List ℕ) × (u : Update) × AreOctets octets × Reads profile external octets (messages.Update u) × (u.first.attrs ≡ Some a)
 
 -- such attributes, at a prefix
 abbrev pub IsHeardRow : Profile → Bool → AddressPrefix → Attrs → Type 0
-IsHeardRow profile external p a = IsPrefix p × WasHeard profile external a
+IsHeardRow profile external p a = IsIpv4Prefix p × WasHeard profile external a
 
 -- each row, live or lost, is such, and the numbers of the losses are in their range
 pub record AreTablesOf {R : Type 0} (Is : AddressPrefix → R → Type 0) (t : Tables R) : Type 0 where
@@ -54,17 +55,17 @@ pub record AreTablesOf {R : Type 0} (Is : AddressPrefix → R → Type 0) (t : T
 -- rules of a file with such AS numbers
 abbrev pub AreRulesIfAny : Bool → Option (List Rule) → Type 0
 AreRulesIfAny as4 None = Unit {0}
-AreRulesIfAny as4 (Some rules) = AreRules as4 rules
+AreRulesIfAny as4 (Some rules) = AreRules false as4 rules
 
 abbrev pub AreRulesOfWalk : Bool → Option (Walked (List Rule)) → Type 0
 AreRulesOfWalk as4 None = Unit {0}
-AreRulesOfWalk as4 (Some w) = AreRules as4 w.next × AreRulesIfAny as4 w.waiting
+AreRulesOfWalk as4 (Some w) = AreRules false as4 w.next × AreRulesIfAny as4 w.waiting
 
 -- Each row of a chain was heard of its peer, read by this profile, and the rules of its filter are in their ranges: those in force, those
 -- of a walk, and those that wait.
 pub record IsPrintableChain (profile : Profile) (c : Chained) : Type 0 where
   pub tables : AreTablesOf (IsHeardRow profile (not c.peer.internal)) c.incoming.tables
-  pub in_force : AreRules profile.as4 c.filter.in_force
+  pub in_force : AreRules false profile.as4 c.filter.in_force
   pub walk : AreRulesOfWalk profile.as4 c.filter.walk
 
 -- the answers about each next hop, that in force and the fresh one, are such

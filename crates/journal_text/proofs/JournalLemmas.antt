@@ -15,19 +15,19 @@ pub as_lines_append : (a b : List (Entry Value)) → as_lines (a ++ b) ≡ as_li
 as_lines_append [] b = refl
 as_lines_append (e ∷ a) b = ap (λ (t : List Line). lines.Journal e ∷ t) (as_lines_append a b)
 
-pub text_of_append : (quiet : Bool) (a b : List Line) → text_of quiet (a ++ b) ≡ text_of quiet a ++ text_of quiet b
-text_of_append quiet [] b = refl
-text_of_append quiet (line ∷ a) b = ap (λ (t : List ℕ). shown quiet line ++ t) (text_of_append quiet a b) ∙ sym (append_assoc (shown quiet line) (text_of quiet a) (text_of quiet b))
+pub text_of_append : (v6 quiet : Bool) (a b : List Line) → text_of v6 quiet (a ++ b) ≡ text_of v6 quiet a ++ text_of v6 quiet b
+text_of_append v6 quiet [] b = refl
+text_of_append v6 quiet (line ∷ a) b = ap (λ (t : List ℕ). shown v6 quiet line ++ t) (text_of_append v6 quiet a b) ∙ sym (append_assoc (shown v6 quiet line) (text_of v6 quiet a) (text_of v6 quiet b))
 
 abbrev with_pending : Journaled → List ℕ → Journaled
-with_pending j pending = record { text = j.text; pending = pending; quiet = j.quiet }
+with_pending j pending = record { text = j.text; pending = pending; quiet = j.quiet; v6 = j.v6 }
 
 pub with_lines_append : (j : Journaled) (a b : List Line) → with_lines (with_lines j a) b ≡ with_lines j (a ++ b)
 with_lines_append j a b =
-    ap (with_pending j) (append_assoc j.pending (text_of j.quiet a) (text_of j.quiet b) ∙ ap (λ (t : List ℕ). j.pending ++ t) (sym (text_of_append j.quiet a b)))
+    ap (with_pending j) (append_assoc j.pending (text_of j.v6 j.quiet a) (text_of j.v6 j.quiet b) ∙ ap (λ (t : List ℕ). j.pending ++ t) (sym (text_of_append j.v6 j.quiet a b)))
 
 -- lines of which nothing is printed leave the journal as it is
-pub with_unprinted : (j : Journaled) (a : List Line) → text_of j.quiet a ≡ [] → with_lines j a ≡ j
+pub with_unprinted : (j : Journaled) (a : List Line) → text_of j.v6 j.quiet a ≡ [] → with_lines j a ≡ j
 with_unprinted j a none = ap (λ (t : List ℕ). with_pending j (j.pending ++ t)) none ∙ ap (with_pending j) (append-nil j.pending)
 
 pub with_entries_append : (j : Journaled) (a b : List (Entry Value)) → with_entries (with_entries j a) b ≡ with_entries j (a ++ b)
@@ -46,12 +46,12 @@ entries_of_entries [] = refl
 entries_of_entries (e ∷ entries) = ap (λ (t : List (Entry Value)). e ∷ t) (entries_of_entries entries)
 
 -- a quiet journal prints no entry
-pub none_printed : (quiet : Bool) (entries : List (Entry Value)) → quiet ≡ true → text_of quiet (as_lines entries) ≡ []
-none_printed quiet entries is = ap (λ q. text_of q (as_lines entries)) is ∙ each entries
+pub none_printed : (v6 quiet : Bool) (entries : List (Entry Value)) → quiet ≡ true → text_of v6 quiet (as_lines entries) ≡ []
+none_printed v6 quiet entries is = ap (λ q. text_of v6 q (as_lines entries)) is ∙ each entries
   where
-    each : (es : List (Entry Value)) → text_of true (as_lines es) ≡ []
+    each : (es : List (Entry Value)) → text_of v6 true (as_lines es) ≡ []
     each [] = refl
     each (e ∷ es) = each es
 
 pub quiet_entries : (j : Journaled) (entries : List (Entry Value)) → j.quiet ≡ true → j ≡ with_entries j entries
-quiet_entries j entries is = sym (with_unprinted j (as_lines entries) (none_printed j.quiet entries is))
+quiet_entries j entries is = sym (with_unprinted j (as_lines entries) (none_printed j.v6 j.quiet entries is))

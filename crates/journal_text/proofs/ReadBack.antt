@@ -1,60 +1,31 @@
 -- Names are read back from their texts.
-use Rattle.std.proofs.Common.{◌≡◌, ℕ, ◌^◌, ◌<◌, ◌≤◌, ◌&&◌, ◌||◌, not, Bool, true, false, cond, List, [], ◌∷◌, ◌++◌, length, get_or, Option, Some, None, nat_eq, refl, sym, ap, ◌∙◌, arith, codes}
+use Rattle.std.proofs.Common.{◌≡◌, ℕ, ◌^◌, ◌<◌, ◌≤◌, Bool, true, false, cond, List, [], ◌∷◌, ◌++◌, drop, Option, Some, nat_eq, refl, ap, ◌∙◌, arith, codes}
 use Rattle.std.proofs.lemmas.Bool.Decides.{nat_tests}
-use Rattle.std.specs.Char.{is_ascii_digit}
-use Rattle.std.specs.List.{list_all, onto_first}
+use Rattle.std.specs.List.{onto_first}
 use Rattle.std.specs.Option.{option_and_then}
-use Rattle.std.specs.Str.Parse.{AllDigits, digits_value}
+use Rattle.std.specs.Str.Parse.{AllDigits}
 use Rattle.std.proofs.lemmas.Str.Parse.{digit_at}
 use Rattle.std.specs.Fmt.{decimal}
-use Rattle.std.proofs.lemmas.Fmt.{decimal_is_IsNumeral, first_decimal}
+use Rattle.std.proofs.lemmas.Fmt.{decimal_is_IsNumeral}
 use Rattle.std.proofs.lemmas.List.Splits.{slice_split-cons_no}
-use Rattle.addr4.specs.Texts.{is_numeral, value_below, number_below, number_of, parts}
-use Rattle.addr4.proofs.NumberLemmas.{value_small}
+use Rattle.addr4.specs.Texts.{number_of, parts}
+use Rattle.addr4.proofs.NumberBack.{number_back as decimal_back}
 use Rattle.rib_route.specs.declared.Proto.{Proto}
 use Rattle.rib_route.specs.declared.Proto.TheVariants.{Connected, Static, Ospf, Rip}
 use Rattle.journal_text.specs.declared.link.Link.{Link}
 use Rattle.journal_text.specs.declared.link.Link.TheVariants.{In, Peer, Filt, Res, Org, Lost, Low, Dyn, Int, Red, Best, ReadRib, Ebgp, Ibgp, Ext, Fib, Read, Outf, Adv}
 use Rattle.journal_text.specs.declared.link.Task.{Task}
 use Rattle.journal_text.specs.declared.link.Task.TheVariants as tasks
-use Rattle.journal_text.specs.Texts.{proto_text, link_text, task_text}
-use Rattle.journal_text.specs.Names.{from_one, name_number, with_both, proto_of, inner_link, plain_link, peer_link, link_of_two, session_link, link_of_three, link_from_parts, link_of, plain_task, peer_task, task_of_two, task_of_three, task_from_parts, task_of, IsNameNumber, IsNamed, IsNamedTask}
+use Rattle.journal_text.specs.Texts.{proto_text, link_name, link_text, task_name, task_text}
+use Rattle.journal_text.specs.Names.{from_one, name_number, with_both, proto_of, inner_link, plain_link, peer_link, link_of_two, session_link, link_of_three, link_from_parts, link_of, plain_task, peer_task, task_of_two, task_of_three, task_from_parts, task_of, is_marked, with_family, link_in, task_in, IsNameNumber, IsNamed, IsNamedTask}
 
 -- ---- numbers
 
 digit_range : (c : ℕ) (cs : List ℕ) → AllDigits 10 (c ∷ cs) → (48 ≤ c) × (c ≤ 57)
 digit_range c cs all = let range = digit_at (c ∷ cs) 0 all (omega arith) in (omega (arith, range), omega (arith, range))
 
-digit_passes : (c : ℕ) → (48 ≤ c) × (c ≤ 57) → is_ascii_digit c ≡ true
-digit_passes c range = grind (arith, nat_tests)
-
-and_yes : (a b : Bool) → a ≡ true → b ≡ true → (a && b) ≡ true
-and_yes a b ha hb = cc
-
-all_ascii : (cs : List ℕ) → AllDigits 10 cs → list_all is_ascii_digit cs ≡ true
-all_ascii [] all = refl
-all_ascii (c ∷ cs) all = and_yes _ _ (digit_passes c (digit_range c cs all)) (all_ascii cs all.1)
-
-numeral_by : (a b c d : Bool) → a ≡ false → c ≡ false → d ≡ true → (not a && (b || not c) && d) ≡ true
-numeral_by true b c d ha hc hd = absurd (cc)
-numeral_by false b true d ha hc hd = absurd (cc)
-numeral_by false true false d ha hc hd = hd
-numeral_by false false false d ha hc hd = hd
-
-numeral_test : (text : List ℕ) → 0 < length text → 48 < get_or text 0 0 → list_all is_ascii_digit text ≡ true → is_numeral text ≡ true
-numeral_test text some first all =
-    let not_empty : nat_eq (length text) 0 ≡ false = grind (arith, nat_tests) in
-    let not_zero : nat_eq (get_or text 0 0) 48 ≡ false = grind (arith, nat_tests) in
-    numeral_by (nat_eq (length text) 0) (nat_eq (length text) 1) (nat_eq (get_or text 0 0) 48) (list_all is_ascii_digit text) not_empty not_zero all
-
 number_back : (n : ℕ) → IsNameNumber n → number_of (decimal n) ≡ Some n
-unfolding number_below
-number_back n named =
-    let wide : n < 2 ^ 64 = omega (arith, named) in
-    let numeral = decimal_is_IsNumeral n wide in
-    let small : digits_value 10 (decimal n) < 2 ^ 32 = omega (arith, numeral.1, named) in
-    let passes = numeral_test (decimal n) numeral.0.0 (first_decimal n named.0 wide) (all_ascii (decimal n) numeral.0.1) in
-    ap (λ b. cond b (value_below (2 ^ 32) (decimal n)) None) passes ∙ (sym (value_small (2 ^ 32) (decimal n) small) ∙ ap Some numeral.1)
+number_back n named = decimal_back (2 ^ 32) n named.1 (omega (arith, named))
 
 from_one_back : (n : ℕ) → 0 < n → from_one n ≡ Some n
 from_one_back n some = grind (arith, nat_tests)
@@ -98,8 +69,8 @@ lost_back make proto n x hn of is = (λ i. with_both make (of i) (name_number_ba
 
 -- ---- links
 
-pub link_back : (link : Link) → IsNamed link → link_of (link_text link) ≡ Some link
-unfolding link_text link_from_parts link_of_two link_of_three plain_link inner_link peer_link session_link proto_of
+pub link_back : (link : Link) → IsNamed link → link_of (link_text false link) ≡ Some link
+unfolding link_text link_name link_from_parts link_of_two link_of_three plain_link inner_link peer_link session_link proto_of
 link_back (In k) h = ap (λ ps. link_from_parts (codes "in" ∷ ps)) (decimal_alone k h) ∙ one_back (peer_link (codes "in")) k (In k) h refl
 link_back (Peer k s) h = ap (λ ps. link_from_parts (codes "peer" ∷ ps)) (two_numbers k s h.0 h.1) ∙ both_back (session_link (codes "peer")) k s (Peer k s) h.0 h.1 refl
 link_back (Filt k) h = ap (λ ps. link_from_parts (codes "filt" ∷ ps)) (decimal_alone k h) ∙ one_back (peer_link (codes "filt")) k (Filt k) h refl
@@ -128,8 +99,8 @@ link_back (Adv j s) h = ap (λ ps. link_from_parts (codes "adv" ∷ ps)) (two_nu
 
 -- ---- tasks
 
-pub task_back : (task : Task) → IsNamedTask task → task_of (task_text task) ≡ Some task
-unfolding task_text task_from_parts task_of_two task_of_three plain_task peer_task proto_of
+pub task_back : (task : Task) → IsNamedTask task → task_of (task_text false task) ≡ Some task
+unfolding task_text task_name task_from_parts task_of_two task_of_three plain_task peer_task proto_of
 task_back (tasks.Del k s) h = ap (λ ps. task_from_parts (codes "del" ∷ ps)) (two_numbers k s h.0 h.1) ∙ both_back (λ j t. Some (tasks.Del j t)) k s (tasks.Del k s) h.0 h.1 refl
 task_back (tasks.Fin k) h = ap (λ ps. task_from_parts (codes "fin" ∷ ps)) (decimal_alone k h) ∙ one_back (peer_task (codes "fin")) k (tasks.Fin k) h refl
 task_back (tasks.Nh k) h = ap (λ ps. task_from_parts (codes "nh" ∷ ps)) (decimal_alone k h) ∙ one_back (peer_task (codes "nh")) k (tasks.Nh k) h refl
@@ -142,3 +113,61 @@ task_back (tasks.Rdel Rip n) h = ap (λ ps. task_from_parts (codes "rdel" ∷ co
 task_back tasks.Red h = refl
 task_back tasks.Ext h = refl
 task_back (tasks.Ref j) h = ap (λ ps. task_from_parts (codes "ref" ∷ ps)) (decimal_alone j h) ∙ one_back (peer_task (codes "ref")) j (tasks.Ref j) h refl
+
+-- ---- names of either network
+
+-- no name within a network begins with the mark of the second one
+link_unmarked : (link : Link) → is_marked (link_name link) ≡ false
+unfolding link_name
+link_unmarked (In k) = refl
+link_unmarked (Peer k s) = refl
+link_unmarked (Filt k) = refl
+link_unmarked (Res k) = refl
+link_unmarked (Org Connected) = refl
+link_unmarked (Org Static) = refl
+link_unmarked (Org Ospf) = refl
+link_unmarked (Org Rip) = refl
+link_unmarked (Lost Connected n) = refl
+link_unmarked (Lost Static n) = refl
+link_unmarked (Lost Ospf n) = refl
+link_unmarked (Lost Rip n) = refl
+link_unmarked Low = refl
+link_unmarked Dyn = refl
+link_unmarked Int = refl
+link_unmarked Red = refl
+link_unmarked Best = refl
+link_unmarked ReadRib = refl
+link_unmarked Ebgp = refl
+link_unmarked Ibgp = refl
+link_unmarked Ext = refl
+link_unmarked Fib = refl
+link_unmarked (Read j s) = refl
+link_unmarked (Outf j s) = refl
+link_unmarked (Adv j s) = refl
+
+task_unmarked : (task : Task) → is_marked (task_name task) ≡ false
+unfolding task_name
+task_unmarked (tasks.Del k s) = refl
+task_unmarked (tasks.Fin k) = refl
+task_unmarked (tasks.Nh k) = refl
+task_unmarked tasks.ReadRib = refl
+task_unmarked (tasks.Out j) = refl
+task_unmarked (tasks.Rdel Connected n) = refl
+task_unmarked (tasks.Rdel Static n) = refl
+task_unmarked (tasks.Rdel Ospf n) = refl
+task_unmarked (tasks.Rdel Rip n) = refl
+task_unmarked tasks.Red = refl
+task_unmarked tasks.Ext = refl
+task_unmarked (tasks.Ref j) = refl
+
+pub link_back_in : (v6 : Bool) (link : Link) → IsNamed link → link_in (link_text v6 link) ≡ Some (v6, link)
+unfolding link_in link_text
+link_back_in true link h = ap (with_family true) (link_back link h)
+link_back_in false link h =
+    ap (λ b. cond b (with_family true (link_of (drop 2 (link_name link)))) (with_family false (link_of (link_name link)))) (link_unmarked link) ∙ ap (with_family false) (link_back link h)
+
+pub task_back_in : (v6 : Bool) (task : Task) → IsNamedTask task → task_in (task_text v6 task) ≡ Some (v6, task)
+unfolding task_in task_text
+task_back_in true task h = ap (with_family true) (task_back task h)
+task_back_in false task h =
+    ap (λ b. cond b (with_family true (task_of (drop 2 (task_name task)))) (with_family false (task_of (task_name task)))) (task_unmarked task) ∙ ap (with_family false) (task_back task h)

@@ -1,5 +1,5 @@
 -- The numbers of names that are read.
-use Rattle.std.proofs.Common.{◌≡◌, ℕ, ◌^◌, ◌<◌, Bool, true, false, cond, List, [], ◌∷◌, Option, Some, None, nat_eq, nat_lt, refl, subst, arith, codes}
+use Rattle.std.proofs.Common.{◌≡◌, ℕ, ◌^◌, ◌<◌, Bool, true, false, cond, List, [], ◌∷◌, drop, Option, Some, None, nat_eq, nat_lt, refl, subst, ap, arith, codes}
 use Rattle.std.proofs.lemmas.Bool.Decides.{nat_tests}
 use Rattle.std.specs.Option.{option_and_then, option_map}
 use Rattle.std.specs.Str.{bytes_eq}
@@ -8,7 +8,7 @@ use Rattle.addr4.specs.Texts.{is_numeral, value_below, number_below, number_of, 
 use Rattle.rib_route.specs.declared.Proto.{Proto}
 use Rattle.journal_text.specs.declared.link.Link.{Link}
 use Rattle.journal_text.specs.declared.link.Link.TheVariants.{In, Peer, Filt, Res, Org, Lost, Low, Dyn, Int, Red, Best, ReadRib, Ebgp, Ibgp, Ext, Fib, Read, Outf, Adv}
-use Rattle.journal_text.specs.Names.{from_one, name_number, with_both, proto_of, inner_link, plain_link, peer_link, link_of_two, session_link, link_of_three, link_from_parts, link_of, IsNameNumber, IsNamed}
+use Rattle.journal_text.specs.Names.{from_one, name_number, with_both, proto_of, inner_link, plain_link, peer_link, link_of_two, session_link, link_of_three, link_from_parts, link_of, with_family, is_marked, link_in, IsNameNumber, IsNamed}
 
 -- ---- numbers
 
@@ -120,3 +120,16 @@ parts_named (w ∷ a ∷ b ∷ c ∷ ps) = none_named
 
 pub read_link_named : (text : List ℕ) (link : Link) → link_of text ≡ Some link → IsNamed link
 read_link_named text link e = (parts_named (parts 46 text)).named link e
+
+family_named : (v6 u6 : Bool) (o : Option Link) (link : Link) → Named o → with_family v6 o ≡ Some (u6, link) → IsNamed link
+family_named v6 u6 None link named e = absurd (cc)
+family_named v6 u6 (Some x) link named e =
+    let pair : (v6, x) ≡ (u6, link) = cc in
+    named.named link (ap (λ (p : Bool × Link). Some p.1) pair)
+
+pub read_link_named_in : (text : List ℕ) (v6 : Bool) (link : Link) → link_in text ≡ Some (v6, link) → IsNamed link
+unfolding link_in
+read_link_named_in text v6 link e = elim (is_marked text) as (λ b. cond b (with_family true (link_of (drop 2 text))) (with_family false (link_of text)) ≡ Some (v6, link) → IsNamed link) [
+  | true ↦ λ is. family_named true v6 (link_of (drop 2 text)) link (parts_named (parts 46 (drop 2 text))) is
+  | false ↦ λ is. family_named false v6 (link_of text) link (parts_named (parts 46 text)) is
+] e

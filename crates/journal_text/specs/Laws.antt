@@ -1,18 +1,19 @@
 -- Laws of links and walks, for the crates above.
-use Rattle.std.specs.Prelude.{◌≡◌, ℕ, true, false, List, ◌++◌, Option, Some}
+use Rattle.std.specs.Prelude.{◌≡◌, ℕ, Bool, true, false, List, ◌++◌, Option, Some}
 use Rattle.addr4.specs.Prefixes.{AddressPrefix}
 use Rattle.link_change.specs.Rows.{Rows}
 use Rattle.link_change.specs.Changes.{IsSent}
 use Rattle.link_change.specs.Changes.{Change}
 use Rattle.journal_text.specs.Links.{same_link}
-use Rattle.journal_text.specs.Names.{IsNamed, IsNamedTask, link_of, task_of}
-use Rattle.journal_text.specs.Texts.{link_text, task_text}
+use Rattle.journal_text.specs.Names.{IsNamed, IsNamedTask, link_in, link_of, task_in, task_of}
+use Rattle.journal_text.specs.Texts.{line_text, link_text, is_of_family, task_text}
 use Rattle.journal_text.specs.Walk.{Links, with_link, Leads}
 use Rattle.journal_text.specs.Journals.{Journaled, with_entries}
 use Rattle.journal_text.specs.Values.{valued, valued_change}
 use Rattle.journal_text.specs.declared.link.Link.{Link}
 use Rattle.journal_text.specs.declared.link.Task.{Task}
 use Rattle.journal_text.specs.Lines.{Entry}
+use Rattle.journal_text.specs.Lines.{Line}
 use Rattle.journal_text.specs.Lines.{Value}
 
 -- A link is itself.
@@ -36,13 +37,19 @@ ChangesLead {R} value =
     → links link ≡ Some (valued value old) → IsSent old new p (Some change)
     → Leads links (valued_change value link change) (with_link links link (Some (valued value new)))
 
--- The name of a link is read back, where its numbers can stand in a name.
+-- The name of a link is read back, where its numbers can stand in a name: within its network, and among the names of both.
 abbrev pub LinksReadBack : Type 0
-LinksReadBack = (link : Link) → IsNamed link → link_of (link_text link) ≡ Some link
+LinksReadBack = (link : Link) → IsNamed link → link_of (link_text false link) ≡ Some link
 
--- The name of a task is read back, where its numbers can stand in a name.
+abbrev pub LinksReadBackIn : Type 0
+LinksReadBackIn = (v6 : Bool) (link : Link) → IsNamed link → link_in (link_text v6 link) ≡ Some (v6, link)
+
+-- The name of a task likewise.
 abbrev pub TasksReadBack : Type 0
-TasksReadBack = (task : Task) → IsNamedTask task → task_of (task_text task) ≡ Some task
+TasksReadBack = (task : Task) → IsNamedTask task → task_of (task_text false task) ≡ Some task
+
+abbrev pub TasksReadBackIn : Type 0
+TasksReadBackIn = (v6 : Bool) (task : Task) → IsNamedTask task → task_in (task_text v6 task) ≡ Some (v6, task)
 
 -- Entries that are appended one after another are appended as one.
 abbrev pub EntriesJoin : Type 0
@@ -51,3 +58,10 @@ EntriesJoin = (j : Journaled) (a b : List (Entry Value)) → with_entries (with_
 -- A name that is read has numbers that can stand in a name.
 abbrev pub ReadLinksAreNamed : Type 0
 ReadLinksAreNamed = (text : List ℕ) (link : Link) → link_of text ≡ Some link → IsNamed link
+
+abbrev pub ReadLinksAreNamedIn : Type 0
+ReadLinksAreNamedIn = (text : List ℕ) (v6 : Bool) (link : Link) → link_in text ≡ Some (v6, link) → IsNamed link
+
+-- A line that is of no family has one text, of whichever family the journal is.
+abbrev pub LinesOfNoFamily : Type 0
+LinesOfNoFamily = (line : Line) → is_of_family line ≡ false → (v6 : Bool) → line_text v6 line ≡ line_text false line

@@ -1,5 +1,6 @@
--- Reading the names of links and tasks: words with dots between them.
-use Rattle.std.specs.Prelude.{ℕ, ◌^◌, ◌<◌, ◌==◌, if◌then◌else◌, List, [], ◌∷◌, Option, Some, None, option_map, codes}
+-- Reading the names of links and tasks: words with dots between them, in front of which the second network's have a mark.
+use Rattle.std.specs.Prelude.{ℕ, ◌^◌, ◌<◌, ◌==◌, nat_eq, Bool, true, false, if◌then◌else◌, List, [], ◌∷◌, drop, Option, Some, None, option_map, codes}
+use Rattle.std.specs.List.{starts_with}
 use Rattle.std.specs.Option.{option_and_then}
 use Rattle.std.specs.Str.{bytes_eq}
 use Rattle.addr4.specs.Texts.{number_of, parts}
@@ -130,6 +131,26 @@ task_from_parts other = None
 -- the task of a name, and none where it is no task's
 abbrev pub task_of : List ℕ → Option Task
 task_of text = task_from_parts (parts 46 text)
+
+-- what stands in front of the names of the second network: nothing in front of those of the first
+abbrev pub mark : Bool → List ℕ
+mark true = codes "6."
+mark false = []
+
+abbrev pub is_marked : List ℕ → Bool
+is_marked word = starts_with nat_eq word (mark true)
+
+-- the family that is asked for, and what was found
+abbrev pub with_family : {A : Type 0} → Bool → Option A → Option (Bool × A)
+with_family v6 found = option_map (λ a. (v6, a)) found
+
+-- the link of a name of either network, and whether its network is the second, IPv6's
+unfoldable pub link_in : List ℕ → Option (Bool × Link)
+link_in word = if is_marked word then with_family true (link_of (drop 2 word)) else with_family false (link_of word)
+
+-- the task, likewise
+unfoldable pub task_in : List ℕ → Option (Bool × Task)
+task_in word = if is_marked word then with_family true (task_of (drop 2 word)) else with_family false (task_of word)
 
 -- from 1 and below 2^32
 abbrev pub IsNameNumber : ℕ → Type 0

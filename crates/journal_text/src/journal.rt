@@ -4,7 +4,7 @@ ghost use Rattle.std.specs.Prelude.{◌≡◌, ◌++◌, ◌∷◌, [], OnOk, On
 ghost use Rattle.journal_text.specs.Lines.{Line};
 ghost use Rattle.journal_text.specs.declared.line.Line.TheVariants as lines;
 ghost use Rattle.journal_text.specs.Walk.{change_entries};
-ghost use Rattle.journal_text.specs.Journals.{with_lines, with_entries, flushed};
+ghost use Rattle.journal_text.specs.Journals.{with_lines, with_entries, with_text, flushed};
 ghost use Rattle.journal_text.specs.Values.{valued_change, sent_entries};
 
 use crate::entry::Entry;
@@ -41,7 +41,7 @@ impl<F: Texts> Model for Journal<F> {
 
     ghost coded = { journaled_code };
 
-    ghost view = { λ j. record { text = chars j.text; pending = text_of j.quiet j.pending.items; quiet = j.quiet } };
+    ghost view = { λ j. record { text = chars j.text; pending = text_of F.V6 j.quiet j.pending.items; quiet = j.quiet; v6 = F.V6 } };
 
     ghost invariant = { λ j. IsWhole j.text };
 }
@@ -49,7 +49,7 @@ impl<F: Texts> Model for Journal<F> {
 impl<F: Texts> Journal<F> {
     /// No line yet; takes no memory.
     pub fn new(alloc: Global, quiet: bool) -> Journal<F>
-        ensures { result ≡ record { text = []; pending = []; quiet = quiet } }
+        ensures { result ≡ record { text = []; pending = []; quiet = quiet; v6 = F.V6 } }
     {
         Journal {
             alloc,
@@ -151,7 +151,7 @@ impl<F: Texts> Journal<F> {
     /// more, and all of these lines stay.
     pub fn flush(&mut self) -> Result<(), Memory>
         ensures ok { OnOk result (self.new ≡ flushed self.old) }
-        ensures memory { OnErr result ((self.new.pending ≡ self.old.pending) × (self.new.quiet ≡ self.old.quiet)) }
+        ensures memory { OnErr result ((self.new.pending ≡ self.old.pending) × (self.new.quiet ≡ self.old.quiet) × (self.new.v6 ≡ self.old.v6)) }
     {
         let made = self.text.push_lines(self.alloc, self.quiet, &self.pending);
         match made {
@@ -175,8 +175,24 @@ impl<F: Texts> Journal<F> {
 
     /// Drops the text, and keeps its memory for the next one. Lines that weren't flushed stay.
     pub fn clear(&mut self)
-        ensures { self.new ≡ record { text = []; pending = self.old.pending; quiet = self.old.quiet } }
+        ensures { self.new ≡ with_text self.old [] }
     {
         self.text.clear();
+    }
+
+    /// Exchanges the texts that are ready, and their memory, with the journal of the other network; lines that weren't flushed stay
+    /// where they are. So the lines of both stand in one text, in the order in which they were flushed.
+    pub fn exchange_texts<G: Texts>(&mut self, other: &mut Journal<G>)
+        ensures own { self.new ≡ with_text self.old other.old.text }
+        ensures other { other.new ≡ with_text other.old self.old.text }
+    {
+        std::mem::swap(&mut self.text, &mut other.text);
+    }
+
+    /// A journal's lines are those of its family.
+    pub fn known(&self)
+        ensures { self.now.v6 ≡ F.V6 }
+    {
+        let _quiet = self.quiet;
     }
 }

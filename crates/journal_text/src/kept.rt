@@ -105,7 +105,7 @@ impl Text {
         line: &Line<SharedAttrs<F>, Addr<F>, Prefix<F>>,
     ) -> Result<(), Memory>
         requires { IsWhole self.old }
-        ensures { OnOk result (IsAppended (line_text line.now) self.old self.new) }
+        ensures { OnOk result (IsAppended (line_text F.V6 line.now) self.old self.new) }
     {
         match line {
             Line::Out(peer, octets) => self.push_message(b"out", *peer, octets.as_slice()),
@@ -122,7 +122,7 @@ impl Text {
         lines: &[Line<SharedAttrs<F>, Addr<F>, Prefix<F>>],
     ) -> Result<(), Memory>
         requires { IsWhole self.old }
-        ensures { OnOk result (IsAppended (text_of quiet lines.now) self.old self.new) }
+        ensures { OnOk result (IsAppended (text_of F.V6 quiet lines.now) self.old self.new) }
     {
         for line in lines {
             if !(quiet && is_entry(line)) {

@@ -2,7 +2,7 @@
 //! the law.
 
 ghost use Rattle.journal_text.specs.Walk.{LeadsOn};
-ghost use Rattle.journal_text.specs.Laws.{ChangesLead, EachLinkIsItself, LinksAreSetInEitherOrder, EntriesJoin, LinksReadBack, ReadLinksAreNamed, SameLinksAreEqual, TasksReadBack};
+ghost use Rattle.journal_text.specs.Laws.{ChangesLead, EachLinkIsItself, LinesOfNoFamily, LinksAreSetInEitherOrder, EntriesJoin, LinksReadBack, LinksReadBackIn, ReadLinksAreNamed, ReadLinksAreNamedIn, SameLinksAreEqual, TasksReadBack, TasksReadBackIn};
 
 use crate::valued::Valued;
 use addr4::Family;
@@ -28,22 +28,32 @@ pub fn changes_lead<F: Family, R: Valued<F>>()
     ensures { ChangesLead R.value }
 {}
 
-/// The name of a link whose numbers are from 1 and below 2^32 is read back, so no two of them have one name.
+/// The name of a link whose numbers are from 1 and below 2^32 is read back, with its network, so no two of
+/// them have one name.
 pub fn link_names_are_read_back()
-    ensures { LinksReadBack }
+    ensures within { LinksReadBack }
+    ensures either { LinksReadBackIn }
 {}
 
-/// The name of a task whose numbers are from 1 and below 2^32 is read back, so no two of them have one name.
+/// The name of a task whose numbers are from 1 and below 2^32 is read back, with its network, so no two of
+/// them have one name.
 pub fn task_names_are_read_back()
-    ensures { TasksReadBack }
+    ensures within { TasksReadBack }
+    ensures either { TasksReadBackIn }
 {}
 
 /// The numbers in a name that is read are from 1 and below 2^32.
 pub fn read_links_are_named()
-    ensures { ReadLinksAreNamed }
+    ensures within { ReadLinksAreNamed }
+    ensures either { ReadLinksAreNamedIn }
 {}
 
 /// A journal has the entries that were appended to it, in their order.
 pub fn entries_are_appended()
     ensures { EntriesJoin }
+{}
+
+/// A line that tells of no link, prefix or address has one text in both networks.
+pub fn some_lines_are_of_no_family()
+    ensures { LinesOfNoFamily }
 {}

@@ -26,7 +26,8 @@ pub use entry::Entry;
 pub use journal::Journal;
 pub use laws::{
     changes_lead, entries_are_appended, journals_join, link_names_are_read_back,
-    links_are_set_in_either_order, read_links_are_named, same_links, task_names_are_read_back,
+    links_are_set_in_either_order, read_links_are_named, same_links, some_lines_are_of_no_family,
+    task_names_are_read_back,
 };
 pub use line::{Code, Line};
 pub use lines::push_line;

@@ -25,6 +25,8 @@ pub enum Code {
     E7,
     /// A client of a route reflector is a peer of another AS.
     E8,
+    /// A word is of IPv6, and no line has said `local6`.
+    E9,
 }
 
 /// A line of the output.

@@ -17,30 +17,35 @@ use bgp_attr::SharedAttrs;
 use std::alloc::Global;
 
 /// A word, a space, and a link.
-fn push_named(out: &mut Vec<u8>, word: &[u8], link: Link) -> Result<(), Memory>
-    ensures { OnOk result (out.new.items ≡ out.old.items ++ (word.now ++ 32 ∷ link_text link)) }
+fn push_named<F: Texts>(out: &mut Vec<u8>, word: &[u8], link: Link) -> Result<(), Memory>
+    ensures { OnOk result (out.new.items ≡ out.old.items ++ (word.now ++ 32 ∷ link_text F.V6 link)) }
 {
     push_text(out, word)?;
     out.push(b' ')?;
-    push_link(out, link)
+    push_link::<F>(out, link)
 }
 
 /// A word and a link: `b LINK`, `e LINK`.
-fn push_one(out: &mut Vec<u8>, word: &[u8], link: Link) -> Result<(), Memory>
-    ensures { OnOk result (out.new.items ≡ out.old.items ++ words_line (word.now ∷ link_text link ∷ [])) }
+fn push_one<F: Texts>(out: &mut Vec<u8>, word: &[u8], link: Link) -> Result<(), Memory>
+    ensures { OnOk result (out.new.items ≡ out.old.items ++ words_line (word.now ∷ link_text F.V6 link ∷ [])) }
 {
-    push_named(out, word, link)?;
+    push_named::<F>(out, word, link)?;
     out.push(b'\n')?;
     Ok(())
 }
 
 /// A word and two links: `i LINK FROM`, `w UPPER LOWER`.
-fn push_both(out: &mut Vec<u8>, word: &[u8], link: Link, other: Link) -> Result<(), Memory>
-    ensures { OnOk result (out.new.items ≡ out.old.items ++ words_line (word.now ∷ link_text link ∷ link_text other ∷ [])) }
+fn push_both<F: Texts>(
+    out: &mut Vec<u8>,
+    word: &[u8],
+    link: Link,
+    other: Link,
+) -> Result<(), Memory>
+    ensures { OnOk result (out.new.items ≡ out.old.items ++ words_line (word.now ∷ link_text F.V6 link ∷ link_text F.V6 other ∷ [])) }
 {
-    push_named(out, word, link)?;
+    push_named::<F>(out, word, link)?;
     out.push(b' ')?;
-    push_link(out, other)?;
+    push_link::<F>(out, other)?;
     out.push(b'\n')?;
     Ok(())
 }
@@ -52,9 +57,9 @@ fn push_head<F: Texts>(
     link: Link,
     prefix: Prefix<F>,
 ) -> Result<(), Memory>
-    ensures { OnOk result (out.new.items ≡ out.old.items ++ (word.now ++ 32 ∷ link_text link ++ 32 ∷ prefix_text prefix ++ 32 ∷ [])) }
+    ensures { OnOk result (out.new.items ≡ out.old.items ++ (word.now ++ 32 ∷ link_text F.V6 link ++ 32 ∷ prefix_text F.V6 prefix ++ 32 ∷ [])) }
 {
-    push_named(out, word, link)?;
+    push_named::<F>(out, word, link)?;
     out.push(b' ')?;
     push_prefix(out, prefix)?;
     out.push(b' ')?;
@@ -69,7 +74,7 @@ fn push_row<F: Texts>(
     prefix: Prefix<F>,
     value: &Value<SharedAttrs<F>, Addr<F>>,
 ) -> Result<(), Memory>
-    ensures { OnOk result (out.new.items ≡ out.old.items ++ words_line (word.now ∷ link_text link ∷ prefix_text prefix ∷ value_text value.now ∷ [])) }
+    ensures { OnOk result (out.new.items ≡ out.old.items ++ words_line (word.now ∷ link_text F.V6 link ∷ prefix_text F.V6 prefix ∷ value_text F.V6 value.now ∷ [])) }
 {
     push_head(out, word, link, prefix)?;
     push_value(out, value)?;
@@ -85,7 +90,7 @@ fn push_replace<F: Texts>(
     old: &Value<SharedAttrs<F>, Addr<F>>,
     new: &Value<SharedAttrs<F>, Addr<F>>,
 ) -> Result<(), Memory>
-    ensures { OnOk result (out.new.items ≡ out.old.items ++ words_line (codes "=" ∷ link_text link ∷ prefix_text prefix ∷ value_text old.now ∷ value_text new.now ∷ [])) }
+    ensures { OnOk result (out.new.items ≡ out.old.items ++ words_line (codes "=" ∷ link_text F.V6 link ∷ prefix_text F.V6 prefix ∷ value_text F.V6 old.now ∷ value_text F.V6 new.now ∷ [])) }
 {
     push_head(out, b"=", link, prefix)?;
     push_value(out, old)?;
@@ -102,7 +107,7 @@ fn push_asked<F: Texts>(
     prefix: Prefix<F>,
     row: &Option<Value<SharedAttrs<F>, Addr<F>>>,
 ) -> Result<(), Memory>
-    ensures { OnOk result (out.new.items ≡ out.old.items ++ words_line (codes "?" ∷ link_text link ∷ prefix_text prefix ∷ answer_text row.now ∷ [])) }
+    ensures { OnOk result (out.new.items ≡ out.old.items ++ words_line (codes "?" ∷ link_text F.V6 link ∷ prefix_text F.V6 prefix ∷ answer_text F.V6 row.now ∷ [])) }
 {
     push_head(out, b"?", link, prefix)?;
     push_answer(out, row)?;
@@ -115,17 +120,17 @@ fn push_entry<F: Texts>(
     out: &mut Vec<u8>,
     entry: &Entry<Value<SharedAttrs<F>, Addr<F>>, Prefix<F>>,
 ) -> Result<(), Memory>
-    ensures { OnOk result (out.new.items ≡ out.old.items ++ words_line (entry_words entry.now)) }
+    ensures { OnOk result (out.new.items ≡ out.old.items ++ words_line (entry_words F.V6 entry.now)) }
 {
     match entry {
-        Entry::Begin(link) => push_one(out, b"b", *link),
-        Entry::Inherit(link, from) => push_both(out, b"i", *link, *from),
+        Entry::Begin(link) => push_one::<F>(out, b"b", *link),
+        Entry::Inherit(link, from) => push_both::<F>(out, b"i", *link, *from),
         Entry::Add(link, prefix, new) => push_row(out, b"+", *link, *prefix, new),
         Entry::Delete(link, prefix, old) => push_row(out, b"-", *link, *prefix, old),
         Entry::Replace(link, prefix, old, new) => { push_replace(out, *link, *prefix, old, new) }
         Entry::Asked(link, prefix, row) => push_asked(out, *link, *prefix, row),
-        Entry::Weld(upper, lower) => push_both(out, b"w", *upper, *lower),
-        Entry::End(link) => push_one(out, b"e", *link),
+        Entry::Weld(upper, lower) => push_both::<F>(out, b"w", *upper, *lower),
+        Entry::End(link) => push_one::<F>(out, b"e", *link),
     }
 }
 
@@ -162,10 +167,15 @@ fn push_message(out: &mut Vec<u8>, word: &[u8], peer: u32, octets: &[u8]) -> Res
 }
 
 /// `rows LINK COUNT`
-fn push_rows(alloc: Global, out: &mut Vec<u8>, link: Link, count: u128) -> Result<(), Memory>
-    ensures { OnOk result (out.new.items ≡ out.old.items ++ words_line (codes "rows" ∷ link_text link ∷ decimal count ∷ [])) }
+fn push_rows<F: Texts>(
+    alloc: Global,
+    out: &mut Vec<u8>,
+    link: Link,
+    count: u128,
+) -> Result<(), Memory>
+    ensures { OnOk result (out.new.items ≡ out.old.items ++ words_line (codes "rows" ∷ link_text F.V6 link ∷ decimal count ∷ [])) }
 {
-    push_named(out, b"rows", link)?;
+    push_named::<F>(out, b"rows", link)?;
     out.push(b' ')?;
     push_wide(alloc, out, count)?;
     out.push(b'\n')?;
@@ -174,7 +184,7 @@ fn push_rows(alloc: Global, out: &mut Vec<u8>, link: Link, count: u128) -> Resul
 
 /// A prefix, or `-` for none.
 fn push_match<F: Texts>(out: &mut Vec<u8>, found: Option<Prefix<F>>) -> Result<(), Memory>
-    ensures { OnOk result (out.new.items ≡ out.old.items ++ match_text found) }
+    ensures { OnOk result (out.new.items ≡ out.old.items ++ match_text F.V6 found) }
 {
     match found {
         Some(prefix) => push_prefix(out, prefix),
@@ -189,7 +199,7 @@ fn push_cover<F: Texts>(
     found: Option<Prefix<F>>,
     subnet: Prefix<F>,
 ) -> Result<(), Memory>
-    ensures { OnOk result (out.new.items ≡ out.old.items ++ words_line (codes "cover" ∷ addr_text addr ∷ match_text found ∷ prefix_text subnet ∷ [])) }
+    ensures { OnOk result (out.new.items ≡ out.old.items ++ words_line (codes "cover" ∷ addr_text F.V6 addr ∷ match_text F.V6 found ∷ prefix_text F.V6 subnet ∷ [])) }
 {
     push_text(out, b"cover ")?;
     push_addr(out, addr)?;
@@ -202,11 +212,11 @@ fn push_cover<F: Texts>(
 }
 
 /// ` no TASK`, and LF.
-fn push_held(out: &mut Vec<u8>, task: Task) -> Result<(), Memory>
-    ensures { OnOk result (out.new.items ≡ out.old.items ++ (codes " no " ++ task_text task ++ 10 ∷ [])) }
+fn push_held<F: Texts>(out: &mut Vec<u8>, task: Task) -> Result<(), Memory>
+    ensures { OnOk result (out.new.items ≡ out.old.items ++ (codes " no " ++ task_text F.V6 task ++ 10 ∷ [])) }
 {
     push_text(out, b" no ")?;
-    push_task(out, task)?;
+    push_task::<F>(out, task)?;
     out.push(b'\n')?;
     Ok(())
 }
@@ -217,13 +227,13 @@ fn push_settled<F: Texts>(
     prefix: Prefix<F>,
     held: Option<Task>,
 ) -> Result<(), Memory>
-    ensures { OnOk result (out.new.items ≡ out.old.items ++ words_line (codes "settled" ∷ prefix_text prefix ∷ held_words held)) }
+    ensures { OnOk result (out.new.items ≡ out.old.items ++ words_line (codes "settled" ∷ prefix_text F.V6 prefix ∷ held_words F.V6 held)) }
 {
     push_text(out, b"settled ")?;
     push_prefix(out, prefix)?;
     match held {
         None => push_text(out, b" yes\n"),
-        Some(task) => push_held(out, task),
+        Some(task) => push_held::<F>(out, task),
     }
 }
 
@@ -240,6 +250,7 @@ fn code_word(code: Code) -> &'static [u8]
         Code::E6 => b"E6",
         Code::E7 => b"E7",
         Code::E8 => b"E8",
+        Code::E9 => b"E9",
     }
 }
 
@@ -255,21 +266,21 @@ fn push_refused(out: &mut Vec<u8>, number: u64, code: Code) -> Result<(), Memory
     Ok(())
 }
 
-/// Appends the words of a line, and LF.
+/// Appends the words of a line of the family's network, and LF.
 #[tactic(auto, unfolding(crate::specs::Texts::line_text))]
 pub fn push_line<F: Texts>(
     alloc: Global,
     out: &mut Vec<u8>,
     line: &Line<SharedAttrs<F>, Addr<F>, Prefix<F>>,
 ) -> Result<(), Memory>
-    ensures { OnOk result (out.new.items ≡ out.old.items ++ line_text line.now) }
+    ensures { OnOk result (out.new.items ≡ out.old.items ++ line_text F.V6 line.now) }
 {
     match line {
         Line::Journal(entry) => push_entry(out, entry),
         Line::Out(peer, octets) => push_message(out, b"out", *peer, octets.as_slice()),
         Line::Note(peer, octets) => push_message(out, b"note", *peer, octets.as_slice()),
         Line::Row(link, prefix, value) => push_row(out, b"row", *link, *prefix, value),
-        Line::Rows(link, count) => push_rows(alloc, out, *link, *count),
+        Line::Rows(link, count) => push_rows::<F>(alloc, out, *link, *count),
         Line::Cover(addr, found, subnet) => push_cover(out, *addr, *found, *subnet),
         Line::Settled(prefix, held) => push_settled(out, *prefix, *held),
         Line::Work(turns) => push_count(alloc, out, b"work", *turns),

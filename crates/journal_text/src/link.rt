@@ -2,9 +2,9 @@
 
 ghost use Rattle.std.specs.Prelude.{◌≡◌};
 ghost use Rattle.journal_text.specs.Links.{same_link};
-ghost use Rattle.journal_text.specs.Names.{link_of, task_of};
+ghost use Rattle.journal_text.specs.Names.{link_in, link_of, task_in, task_of};
 
-use crate::reading::{read_link, read_task};
+use crate::reading::{read_link, read_link_in, read_task, read_task_in};
 use rib_route::Proto;
 
 /// A link between two stages. K and J are peers' numbers, S is the number of a session, N of a protocol's loss; all count
@@ -66,6 +66,13 @@ impl Link {
     {
         read_link(text)
     }
+
+    /// The link of a name of either network, and whether that is the second, IPv6's, whose names have `6.` in front.
+    pub fn read_in(text: &[u8]) -> Option<(bool, Link)>
+        ensures { result ≡ link_in text.now }
+    {
+        read_link_in(text)
+    }
 }
 
 /// Work that a stage has, done in turns.
@@ -97,5 +104,12 @@ impl Task {
         ensures { result ≡ task_of text.now }
     {
         read_task(text)
+    }
+
+    /// The task of a name of either network, and whether that is the second.
+    pub fn read_in(text: &[u8]) -> Option<(bool, Task)>
+        ensures { result ≡ task_in text.now }
+    {
+        read_task_in(text)
     }
 }

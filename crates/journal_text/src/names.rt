@@ -1,11 +1,12 @@
 //! The texts of the names of links and tasks.
 
 ghost use Rattle.std.specs.Prelude.{◌≡◌, ◌++◌, ◌∷◌, [], OnOk, codes};
-ghost use Rattle.journal_text.specs.Texts.{dot_number, fib_proto_text, link_text, proto_text, task_text};
+ghost use Rattle.journal_text.specs.Names.{mark};
+ghost use Rattle.journal_text.specs.Texts.{dot_number, fib_proto_text, link_name, link_text, proto_text, task_name, task_text};
 
 use crate::link::{Link, Task};
 use crate::texts::push_text;
-use addr4::{Memory, push_number};
+use addr4::{Memory, Texts, push_number};
 use rib_route::{FibProto, Proto};
 
 /// A dot and a number.
@@ -70,10 +71,20 @@ fn push_lost(out: &mut Vec<u8>, word: &[u8], proto: Proto, loss: u32) -> Result<
     push_dot_number(out, loss)
 }
 
-/// The name of a link.
-#[tactic(auto, unfolding(crate::specs::Texts::link_text))]
-pub(crate) fn push_link(out: &mut Vec<u8>, link: Link) -> Result<(), Memory>
-    ensures { OnOk result (out.new.items ≡ out.old.items ++ link_text link) }
+/// What stands in front of the names of the family's network.
+fn push_mark<F: Texts>(out: &mut Vec<u8>) -> Result<(), Memory>
+    ensures { OnOk result (out.new.items ≡ out.old.items ++ mark F.V6) }
+{
+    if F::V6 {
+        push_text(out, b"6.")?;
+    }
+    Ok(())
+}
+
+/// The name of a link within its network.
+#[tactic(auto, unfolding(crate::specs::Texts::link_name))]
+fn push_link_name(out: &mut Vec<u8>, link: Link) -> Result<(), Memory>
+    ensures { OnOk result (out.new.items ≡ out.old.items ++ link_name link) }
 {
     match link {
         Link::In(peer) => push_numbered(out, b"in", peer),
@@ -98,10 +109,19 @@ pub(crate) fn push_link(out: &mut Vec<u8>, link: Link) -> Result<(), Memory>
     }
 }
 
-/// The name of a task.
-#[tactic(auto, unfolding(crate::specs::Texts::task_text))]
-pub(crate) fn push_task(out: &mut Vec<u8>, task: Task) -> Result<(), Memory>
-    ensures { OnOk result (out.new.items ≡ out.old.items ++ task_text task) }
+/// The name of a link of the family's network.
+#[tactic(auto, unfolding(crate::specs::Texts::link_text))]
+pub(crate) fn push_link<F: Texts>(out: &mut Vec<u8>, link: Link) -> Result<(), Memory>
+    ensures { OnOk result (out.new.items ≡ out.old.items ++ link_text F.V6 link) }
+{
+    push_mark::<F>(out)?;
+    push_link_name(out, link)
+}
+
+/// The name of a task within its network.
+#[tactic(auto, unfolding(crate::specs::Texts::task_name))]
+fn push_task_name(out: &mut Vec<u8>, task: Task) -> Result<(), Memory>
+    ensures { OnOk result (out.new.items ≡ out.old.items ++ task_name task) }
 {
     match task {
         Task::Del(peer, session) => push_session(out, b"del", peer, session),
@@ -114,4 +134,13 @@ pub(crate) fn push_task(out: &mut Vec<u8>, task: Task) -> Result<(), Memory>
         Task::Ext => push_text(out, b"ext"),
         Task::Ref(peer) => push_numbered(out, b"ref", peer),
     }
+}
+
+/// The name of a task of the family's network.
+#[tactic(auto, unfolding(crate::specs::Texts::task_text))]
+pub(crate) fn push_task<F: Texts>(out: &mut Vec<u8>, task: Task) -> Result<(), Memory>
+    ensures { OnOk result (out.new.items ≡ out.old.items ++ task_text F.V6 task) }
+{
+    push_mark::<F>(out)?;
+    push_task_name(out, task)
 }

@@ -1,7 +1,7 @@
 //! Reading the names of links and tasks.
 
-ghost use Rattle.std.specs.Prelude.{◌≡◌};
-ghost use Rattle.journal_text.specs.Names.{inner_link, link_of, link_of_three, link_of_two, name_number, peer_link, peer_task, plain_link, plain_task, proto_of, session_link, task_of, task_of_three, task_of_two};
+ghost use Rattle.std.specs.Prelude.{◌≡◌, cond, drop};
+ghost use Rattle.journal_text.specs.Names.{inner_link, is_marked, link_in, link_of, link_of_three, link_of_two, name_number, peer_link, peer_task, plain_link, plain_task, proto_of, session_link, task_in, task_of, task_of_three, task_of_two};
 
 use crate::link::{Link, Task};
 use addr4::{first_part, read_number};
@@ -245,4 +245,36 @@ pub(crate) fn read_task(text: &[u8]) -> Option<Task>
         return None;
     }
     task_of_three(word, part, last)
+}
+
+/// Whether a name is one of the second network, and the name without the mark.
+fn parted(text: &[u8]) -> (bool, &[u8])
+    ensures marked { result.0 ≡ is_marked text.now }
+    ensures rest { result.1.now ≡ cond (is_marked text.now) (drop 2 text.now) text.now }
+{
+    if text.starts_with(b"6.") {
+        (true, &text[2..])
+    } else {
+        (false, text)
+    }
+}
+
+/// The link of a name of either network, and whether it is the second.
+#[tactic(auto, unfolding(crate::specs::Names::link_in))]
+pub(crate) fn read_link_in(text: &[u8]) -> Option<(bool, Link)>
+    ensures { result ≡ link_in text.now }
+{
+    let (v6, name) = parted(text);
+    let link = read_link(name)?;
+    Some((v6, link))
+}
+
+/// The task likewise.
+#[tactic(auto, unfolding(crate::specs::Names::task_in))]
+pub(crate) fn read_task_in(text: &[u8]) -> Option<(bool, Task)>
+    ensures { result ≡ task_in text.now }
+{
+    let (v6, name) = parted(text);
+    let task = read_task(name)?;
+    Some((v6, task))
 }

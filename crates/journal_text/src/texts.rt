@@ -181,7 +181,7 @@ fn push_unrecognized_all(out: &mut Vec<u8>, attributes: &[Unrecognized]) -> Resu
 /// Origin, path and next hop.
 #[tactic(auto, unfolding(crate::specs::Texts::required_text))]
 fn push_required<F: Texts>(out: &mut Vec<u8>, attrs: &Attrs<Addr<F>>) -> Result<(), Memory>
-    ensures { OnOk result (out.new.items ≡ out.old.items ++ required_text attrs.now) }
+    ensures { OnOk result (out.new.items ≡ out.old.items ++ required_text F.V6 attrs.now) }
 {
     push_text(out, b"o")?;
     push_number(out, origin_number(attrs.origin))?;
@@ -216,7 +216,7 @@ fn push_optional<F: Texts>(out: &mut Vec<u8>, attrs: &Attrs<Addr<F>>) -> Result<
 /// The attributes, parted by commas.
 #[tactic(auto, unfolding(crate::specs::Texts::attrs_text))]
 fn push_attrs<F: Texts>(out: &mut Vec<u8>, attrs: &Attrs<Addr<F>>) -> Result<(), Memory>
-    ensures { OnOk result (out.new.items ≡ out.old.items ++ attrs_text attrs.now) }
+    ensures { OnOk result (out.new.items ≡ out.old.items ++ attrs_text F.V6 attrs.now) }
 {
     push_required(out, attrs)?;
     push_optional(out, attrs)?;
@@ -256,7 +256,7 @@ fn push_known(out: &mut Vec<u8>, number: Option<u32>) -> Result<(), Memory>
 /// What the decision compares, each with a colon, and the attributes.
 #[tactic(auto, unfolding(crate::specs::Texts::route_text))]
 fn push_route<F: Texts>(out: &mut Vec<u8>, route: &Route<SharedAttrs<F>>) -> Result<(), Memory>
-    ensures { OnOk result (out.new.items ≡ out.old.items ++ route_text route.now) }
+    ensures { OnOk result (out.new.items ≡ out.old.items ++ route_text F.V6 route.now) }
 {
     push_field(out, sender_number(route.from))?;
     push_field(out, route.pref)?;
@@ -268,7 +268,7 @@ fn push_route<F: Texts>(out: &mut Vec<u8>, route: &Route<SharedAttrs<F>>) -> Res
 
 /// An address, or `direct` for none.
 fn push_gateway<F: Texts>(out: &mut Vec<u8>, gateway: Option<Addr<F>>) -> Result<(), Memory>
-    ensures { OnOk result (out.new.items ≡ out.old.items ++ gateway_text gateway) }
+    ensures { OnOk result (out.new.items ≡ out.old.items ++ gateway_text F.V6 gateway) }
 {
     match gateway {
         Some(addr) => push_addr(out, addr),
@@ -283,7 +283,7 @@ fn push_hop<F: Texts>(
     gateway: Option<Addr<F>>,
     iface: &Iface,
 ) -> Result<(), Memory>
-    ensures { OnOk result (out.new.items ≡ out.old.items ++ with_colons (fib_proto_text proto ∷ gateway_text gateway ∷ iface.now ∷ [])) }
+    ensures { OnOk result (out.new.items ≡ out.old.items ++ with_colons (fib_proto_text proto ∷ gateway_text F.V6 gateway ∷ iface.now ∷ [])) }
 {
     push_text(out, fib_proto_word(proto))?;
     out.push(b':')?;
@@ -294,7 +294,7 @@ fn push_hop<F: Texts>(
 
 #[tactic(auto, unfolding(crate::specs::Texts::interior_text))]
 fn push_interior<F: Texts>(out: &mut Vec<u8>, row: &Interior<Addr<F>>) -> Result<(), Memory>
-    ensures { OnOk result (out.new.items ≡ out.old.items ++ interior_text row.now) }
+    ensures { OnOk result (out.new.items ≡ out.old.items ++ interior_text F.V6 row.now) }
 {
     push_hop(out, row.proto.fib_proto(), row.gateway, &row.iface)?;
     out.push(b':')?;
@@ -304,7 +304,7 @@ fn push_interior<F: Texts>(out: &mut Vec<u8>, row: &Interior<Addr<F>>) -> Result
 
 #[tactic(auto, unfolding(crate::specs::Texts::external_text))]
 fn push_external<F: Texts>(out: &mut Vec<u8>, row: &External<Addr<F>>) -> Result<(), Memory>
-    ensures { OnOk result (out.new.items ≡ out.old.items ++ external_text row.now) }
+    ensures { OnOk result (out.new.items ≡ out.old.items ++ external_text F.V6 row.now) }
 {
     push_text(out, fib_proto_word(row.fib_proto()))?;
     out.push(b':')?;
@@ -313,7 +313,7 @@ fn push_external<F: Texts>(out: &mut Vec<u8>, row: &External<Addr<F>>) -> Result
 
 #[tactic(auto, unfolding(crate::specs::Texts::fib_text))]
 fn push_fib_row<F: Texts>(out: &mut Vec<u8>, row: &FibRow<Addr<F>>) -> Result<(), Memory>
-    ensures { OnOk result (out.new.items ≡ out.old.items ++ fib_text row.now) }
+    ensures { OnOk result (out.new.items ≡ out.old.items ++ fib_text F.V6 row.now) }
 {
     push_hop(out, row.proto, row.gateway, &row.iface)
 }
@@ -323,7 +323,7 @@ pub(crate) fn push_value<F: Texts>(
     out: &mut Vec<u8>,
     value: &Value<SharedAttrs<F>, Addr<F>>,
 ) -> Result<(), Memory>
-    ensures { OnOk result (out.new.items ≡ out.old.items ++ value_text value.now) }
+    ensures { OnOk result (out.new.items ≡ out.old.items ++ value_text F.V6 value.now) }
 {
     match value {
         Value::Attrs(attrs) => push_attrs(out, attrs.attrs()),
@@ -339,7 +339,7 @@ pub(crate) fn push_answer<F: Texts>(
     out: &mut Vec<u8>,
     row: &Option<Value<SharedAttrs<F>, Addr<F>>>,
 ) -> Result<(), Memory>
-    ensures { OnOk result (out.new.items ≡ out.old.items ++ answer_text row.now) }
+    ensures { OnOk result (out.new.items ≡ out.old.items ++ answer_text F.V6 row.now) }
 {
     match row {
         Some(value) => push_value(out, value),

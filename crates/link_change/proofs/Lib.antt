@@ -3,3 +3,4 @@ pub mod ChangeLemmas
 pub mod TurnLemmas
 pub mod InOrderLemmas
 pub mod MapLemmas
+pub mod WalkLemmas

@@ -6,7 +6,7 @@ use Rattle.bgp_attr.specs.declared.speaker.Profile.{Profile}
 use Rattle.rib_route.specs.declared.Proto.{Proto}
 use Rattle.rib_route.specs.declared.Proto.TheVariants.{Connected, Static, Ospf, Rip}
 use Rattle.policy_rules.specs.Rules.{Rule}
-use Rattle.event_text.specs.declared.event.Event.{Event}
+use Rattle.event_text.specs.Event.{Event}
 use Rattle.event_text.specs.declared.event.Event.TheVariants.{As4, Revised, Reflect, Down, Bgp}
 use Rattle.event_text.specs.declared.declared.DeclaredPeer.{DeclaredPeer}
 use Rattle.event_text.specs.Declarations.{Declaration, peer_at, refusal, refusal_at, refusal_first, refusal_by, undeclared, ended_at}
@@ -15,30 +15,30 @@ use Rattle.live_state.specs.Lives.{LiveState, Routes, Interiors, with_routes, wi
 
 -- ---- events
 -- `local` was declared, or the event is admitted before it
-admitted_by : (profile : Profile) (s : Option Speaker) (ps : List DeclaredPeer) (event : Event) → (refusal_first profile event ≡ None → ⊥) → refusal_at profile s ps event ≡ None → (me : Speaker) × (s ≡ Some me) × (refusal_by me ps event ≡ None)
-admitted_by profile None ps event later e = absurd (later e)
-admitted_by profile (Some me) ps event later e = (me, refl, e)
+admitted_by : (v6 : Bool) (profile : Profile) (s : Option Speaker) (ps : List DeclaredPeer) (event : Event) → (refusal_first profile event ≡ None → ⊥) → refusal_at v6 profile s ps event ≡ None → (me : Speaker) × (s ≡ Some me) × (refusal_by v6 me ps event ≡ None)
+admitted_by v6 profile None ps event later e = absurd (later e)
+admitted_by v6 profile (Some me) ps event later e = (me, refl, e)
 
 pub speaker_since : (d : Declaration) (event : Event) → (refusal_first d.profile event ≡ None → ⊥) → refusal d event ≡ None → IsSome d.speaker
 unfolding refusal
-speaker_since d event later e = ap is_some (admitted_by d.profile d.speaker d.peers event later e).1
+speaker_since d event later e = ap is_some (admitted_by d.v6 d.profile d.speaker d.peers event later e).1
 
 -- `local` wasn't declared where a line that sets the profile is admitted
-admitted_first : (profile : Profile) (s : Option Speaker) (ps : List DeclaredPeer) (event : Event) → ((me : Speaker) → refusal_by me ps event ≡ None → ⊥) → refusal_at profile s ps event ≡ None → s ≡ None
-admitted_first profile None ps event first e = refl
-admitted_first profile (Some me) ps event first e = absurd (first me e)
+admitted_first : (v6 : Bool) (profile : Profile) (s : Option Speaker) (ps : List DeclaredPeer) (event : Event) → ((me : Speaker) → refusal_by v6 me ps event ≡ None → ⊥) → refusal_at v6 profile s ps event ≡ None → s ≡ None
+admitted_first v6 profile None ps event first e = refl
+admitted_first v6 profile (Some me) ps event first e = absurd (first me e)
 
 pub as4_is_first : (d : Declaration) → refusal d As4 ≡ None → d.speaker ≡ None
 unfolding refusal
-as4_is_first d e = admitted_first d.profile d.speaker d.peers As4 (λ me e. cc) e
+as4_is_first d e = admitted_first d.v6 d.profile d.speaker d.peers As4 (λ me e. cc) e
 
 pub revised_is_first : (d : Declaration) → refusal d Revised ≡ None → d.speaker ≡ None
 unfolding refusal
-revised_is_first d e = admitted_first d.profile d.speaker d.peers Revised (λ me e. cc) e
+revised_is_first d e = admitted_first d.v6 d.profile d.speaker d.peers Revised (λ me e. cc) e
 
 pub reflect_is_first : (d : Declaration) → refusal d Reflect ≡ None → d.speaker ≡ None
 unfolding refusal
-reflect_is_first d e = admitted_first d.profile d.speaker d.peers Reflect (λ me e. cc) e
+reflect_is_first d e = admitted_first d.v6 d.profile d.speaker d.peers Reflect (λ me e. cc) e
 
 -- a peer was declared
 there : (o : Option DeclaredPeer) → undeclared o ≡ None → o ≡ None → ⊥
@@ -47,11 +47,11 @@ there (Some p) e none = absurd (cc)
 
 pub down_there : (d : Declaration) (k : ℕ) → refusal d (Down k) ≡ None → peer_at k d.peers ≡ None → ⊥
 unfolding refusal
-down_there d k e = there (peer_at k d.peers) (admitted_by d.profile d.speaker d.peers (Down k) (λ e. cc) e).2
+down_there d k e = there (peer_at k d.peers) (admitted_by d.v6 d.profile d.speaker d.peers (Down k) (λ e. cc) e).2
 
 pub bgp_there : (d : Declaration) (k : ℕ) (octets : List ℕ) → refusal d (Bgp k octets) ≡ None → peer_at k d.peers ≡ None → ⊥
 unfolding refusal
-bgp_there d k octets e = there (peer_at k d.peers) (admitted_by d.profile d.speaker d.peers (Bgp k octets) (λ e. cc) e).2
+bgp_there d k octets e = there (peer_at k d.peers) (admitted_by d.v6 d.profile d.speaker d.peers (Bgp k octets) (λ e. cc) e).2
 
 -- ---- what is set to what it is
 same_at : {A : Type 0} (all : ℕ → A) (k : ℕ) (one : A) → all k ≡ one → (j : ℕ) → cond (nat_eq j k) one (all j) ≡ all j

@@ -22,13 +22,13 @@ use Rattle.filter_bank.specs.Filtered.{filtered, first_route}
 use Rattle.filter_bank.specs.Outgoing.{Form, is_reflected, outgoing}
 use Rattle.filter_bank.specs.Laws.{FilteredKeepsAttrs}
 use Rattle.filter_bank.specs.OutLaws.{OnlyWhatMayGo, OnlyFormsOfRows, MayGo}
-use Rattle.peer_out.specs.Forms.{reflected_from, sent_form, as_sent}
+use Rattle.peer_out.specs.Forms.{reflected_from, sent_form}
 use Rattle.journal_text.specs.declared.link.Link.TheVariants.{Int, Red}
 use Rattle.event_text.specs.declared.declared.DeclaredPeer.{DeclaredPeer}
-use Rattle.event_text.specs.Declarations.{peer_at, AreDeclared, IsDeclaredBy}
+use Rattle.event_text.specs.Declarations.{peer_at, to_peers, AreDeclared, IsDeclaredBy}
 use Rattle.event_text.proofs.DeclarationLemmas.{found_peer}
 use Rattle.live_state.specs.Lives.{LiveState}
-use Rattle.live_state.specs.Decided.{longest_match, with_metric_of, resolved_row, resolved_rows, own_row, own_rows, rows_if_any, routes_of_all, judged_rows, accepted_rows, least_rows, origins, candidates_of, best_of}
+use Rattle.live_state.specs.Decided.{sent_to, longest_match, with_metric_of, resolved_row, resolved_rows, own_row, own_rows, rows_if_any, routes_of_all, judged_rows, accepted_rows, least_rows, origins, candidates_of, best_of}
 use Rattle.live_state.specs.Reflected.{IsReceivedFrom, stays_inside, IsPassedTo, IsBestAsSent, ReflectionIsMarked}
 
 -- no row is a row
@@ -112,21 +112,21 @@ module _ (l : LiveState) (me : Speaker) (p : AddressPrefix) (row : Route) where
       let from_peer : IsReceivedFrom l q.words p row.attrs = record { peer = q; there = ap (λ (n : ℕ). peer_at n l.declared.peers) number ∙ at; words = refl; live = live } in
       (subst (λ (w : Neighbour). IsReceivedFrom l w p row.attrs) same from_peer, ap (λ (a : Attrs). has_been_at a.reflection me.id) attrs ∙ is.new)
 
-  peer_counts : FilteredKeepsAttrs → AreDeclared l.declared.profile me l.declared.peers → (k : ℕ) (o : Option DeclaredPeer) → peer_at k l.declared.peers ≡ o
+  peer_counts : FilteredKeepsAttrs → AreDeclared l.declared.v6 l.declared.profile me l.declared.peers → (k : ℕ) (o : Option DeclaredPeer) → peer_at k l.declared.peers ≡ o
       → rows_if_any (option_map (resolved_rows (least_rows l.interior (origins Int))) (judged_rows (Some me) o (l.rules k) (l.routes k))) p ≡ Some row → HasSource l me p row
   peer_counts keeps declared k None at e = absurd (none_is e)
   peer_counts keeps declared k (Some q) at e =
-      let found = found_peer l.declared.profile me l.declared.peers k q declared.each at in
+      let found = found_peer l.declared.profile (to_peers l.declared.v6 me) l.declared.peers k q declared.each at in
       let way = reached (least_rows l.interior (origins Int)) (accepted_rows me q.words (l.rules k) (l.routes k) p) row e in
       received k q way.made at found.1 (accepted keeps me q.words (l.rules k) p (tables.get (l.routes k) p) way.made way.is) way.attrs way.from
 
-  counts : FilteredKeepsAttrs → AreDeclared l.declared.profile me l.declared.peers → l.declared.speaker ≡ Some me → (k : ℕ) → candidates_of l k p ≡ Some row → HasSource l me p row
+  counts : FilteredKeepsAttrs → AreDeclared l.declared.v6 l.declared.profile me l.declared.peers → l.declared.speaker ≡ Some me → (k : ℕ) → candidates_of l k p ≡ Some row → HasSource l me p row
   counts keeps declared speaker zero e = own_has l me p row (own_counts l.declared.speaker l.redistributed (least_rows l.interior (origins Red)) p row e)
   counts keeps declared speaker (suc k) e =
       peer_counts keeps declared (suc k) (peer_at (suc k) l.declared.peers) refl
       (subst (λ (s : Option Speaker). rows_if_any (option_map (resolved_rows (least_rows l.interior (origins Int))) (judged_rows s (peer_at (suc k) l.declared.peers) (l.rules (suc k)) (l.routes (suc k)))) p ≡ Some row) speaker e)
 
-  best_has : PickIsOneOfThem → FilteredKeepsAttrs → AreDeclared l.declared.profile me l.declared.peers → l.declared.speaker ≡ Some me → best_of l p ≡ Some row → HasSource l me p row
+  best_has : PickIsOneOfThem → FilteredKeepsAttrs → AreDeclared l.declared.v6 l.declared.profile me l.declared.peers → l.declared.speaker ≡ Some me → best_of l p ≡ Some row → HasSource l me p row
   best_has picks keeps declared speaker e =
       let among = picks (routes_of_all (candidates_of l) p) row e in
       let one = some_number (λ k. candidates_of l k p) (range_with_len 0 65) row among.0 among.1 among.2 in
@@ -144,9 +144,9 @@ record IsFormed (profile : Profile) (me : Speaker) (to : Neighbour) (row : Route
   from : made.from ≡ row.from
   form : sent ≡ sent_form profile me (not to.internal) made
 
-formed_so : OnlyFormsOfRows → (profile : Profile) (me : Speaker) (to : Neighbour) (rules : List Rule) (p : AddressPrefix) (row : Route) (sent : Attrs) → outgoing (as_sent profile me (not to.internal)) to (Some rules) p (Some row) ≡ Some sent → IsFormed profile me to row sent
+formed_so : OnlyFormsOfRows → (profile : Profile) (me : Speaker) (to : Neighbour) (rules : List Rule) (p : AddressPrefix) (row : Route) (sent : Attrs) → outgoing (sent_to profile me (not to.internal)) to (Some rules) p (Some row) ≡ Some sent → IsFormed profile me to row sent
 formed_so forms profile me to rules p row sent e =
-    let of = forms (as_sent profile me (not to.internal)) to (Some rules) p row sent e in
+    let of = forms (sent_to profile me (not to.internal)) to (Some rules) p row sent e in
     record { made = of.0; attrs = of.2; from = of.3; form = fits _ (sent_form profile me (not to.internal) of.0) sent of.1 }
 
 -- who is named on a route that goes to a peer
@@ -197,12 +197,12 @@ either : (a b c : Bool) → (a || b) ≡ true → (a ≡ true → c ≡ true) �
 either true b c e f g = f refl
 either false b c e f g = g e
 
-client_of : (profile : Profile) (me : Speaker) (peers : List DeclaredPeer) (k : ℕ) (q : DeclaredPeer) → AreDeclared profile me peers → peer_at k peers ≡ Some q → q.words.client ≡ true → profile.reflect ≡ true
-client_of profile me peers k q declared at client = (found_peer profile me peers k q declared.each at).0.words.reflected client
+client_of : (v6 : Bool) (profile : Profile) (me : Speaker) (peers : List DeclaredPeer) (k : ℕ) (q : DeclaredPeer) → AreDeclared v6 profile me peers → peer_at k peers ≡ Some q → q.words.client ≡ true → profile.reflect ≡ true
+client_of v6 profile me peers k q declared at client = (found_peer profile (to_peers v6 me) peers k q declared.each at).0.words.reflected client
 
 -- ---- what is passed on
 module _ (l : LiveState) (j : ℕ) (me : Speaker) (to : DeclaredPeer) (p : AddressPrefix) (row : Route) (sent : Attrs) where
-  passed : AreDeclared l.declared.profile me l.declared.peers → peer_at j l.declared.peers ≡ Some to → HasSource l me p row → MayGo to.words p row
+  passed : AreDeclared l.declared.v6 l.declared.profile me l.declared.peers → peer_at j l.declared.peers ≡ Some to → HasSource l me p row → MayGo l.declared.profile.second to.words p row
       → IsFormed l.declared.profile me to.words row sent → IsPassedTo me to.words row sent
   passed declared at source may so = record {
     not_back = may.not_back;
@@ -212,8 +212,8 @@ module _ (l : LiveState) (j : ℕ) (me : Speaker) (to : DeclaredPeer) (p : Addre
         let here = source from is in
         let reflect : l.declared.profile.reflect ≡ true =
         either from.client to.words.client l.declared.profile.reflect client
-        (λ e. client_of l.declared.profile me l.declared.peers from.number here.0.peer declared here.0.there (ap (λ (w : Neighbour). w.client) here.0.words ∙ e))
-        (client_of l.declared.profile me l.declared.peers j to declared at) in
+        (λ e. client_of l.declared.v6 l.declared.profile me l.declared.peers from.number here.0.peer declared here.0.there (ap (λ (w : Neighbour). w.client) here.0.words ∙ e))
+        (client_of l.declared.v6 l.declared.profile me l.declared.peers j to declared at) in
         let marked : sent.reflection ≡ reflected_by from.id me.id row.attrs.reflection =
         named_on l.declared.profile me to.words row sent so ∙ ap (λ (o : Option Neighbour). named me to.words.internal l.declared.profile.reflect o row.attrs.reflection) is
         ∙ inside_named me from row.attrs.reflection to.words.internal l.declared.profile.reflect kinds.1 reflect kinds.0 in
@@ -231,11 +231,11 @@ module _ (l : LiveState) (j : ℕ) (me : Speaker) (to : DeclaredPeer) (p : Addre
 pub reflection_is_marked : PickIsOneOfThem → FilteredKeepsAttrs → OnlyWhatMayGo → OnlyFormsOfRows → ReflectionIsMarked
 reflection_is_marked picks keeps goes forms l j me to p sent declaration speaker at is = by_best (best_of l p) refl is
   where
-    declared : AreDeclared l.declared.profile me l.declared.peers
-    declared = subst (λ (s : Option Speaker). IsDeclaredBy l.declared.profile s l.declared.peers) speaker declaration
+    declared : AreDeclared l.declared.v6 l.declared.profile me l.declared.peers
+    declared = subst (λ (s : Option Speaker). IsDeclaredBy l.declared.v6 l.declared.profile s l.declared.peers) speaker declaration
 
     form : Form Attrs
-    form = as_sent l.declared.profile me (not to.words.internal)
+    form = sent_to l.declared.profile me (not to.words.internal)
 
     by_best : (best : Option Route) → best_of l p ≡ best → outgoing form to.words (Some (l.outgoing j)) p best ≡ Some sent → IsBestAsSent l me to.words p sent
     by_best None best e = absurd (none_is e)

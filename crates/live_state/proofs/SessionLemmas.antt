@@ -14,7 +14,7 @@ use Rattle.live_state.specs.Declared.{declared_up, declared_down, declared_heard
 use Rattle.live_state.specs.Lives.{with_losses, LiveState, HearsIfUp, HearsFrom, heard, ended, begun_if_down, ended_if_up, LiveAfter, same_protocol}
 use Rattle.live_state.specs.Laws.{SessionsEnd, DeclarationsFollow}
 use Rattle.rib_route.specs.declared.Proto.TheVariants.{Connected, Ospf, Rip, Static}
-use Rattle.event_text.specs.declared.event.Event.{Event}
+use Rattle.event_text.specs.Event.{Event}
 use Rattle.rib_route.specs.declared.Proto.{Proto}
 
 -- the type of a message stands behind the marker and the length

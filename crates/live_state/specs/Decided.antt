@@ -17,7 +17,7 @@ use Rattle.bgp_attr.specs.declared.speaker.Neighbour.{Neighbour}
 use Rattle.link_change.specs.Rows.{Rows}
 use Rattle.policy_rules.specs.Rules.{Rule}
 use Rattle.filter_bank.specs.Filtered.{filtered}
-use Rattle.filter_bank.specs.Outgoing.{outgoing}
+use Rattle.filter_bank.specs.Outgoing.{Form, outgoing}
 use Rattle.peer_out.specs.Forms.{as_sent}
 use Rattle.rib_route.specs.declared.Proto.{Proto}
 use Rattle.rib_route.specs.declared.Proto.TheVariants.{Connected, Static, Ospf, Rip}
@@ -146,9 +146,13 @@ since_local None rows = None
 since_local (Some me) rows = Some rows
 
 -- ---- what peers are sent
+-- the form in which a peer is sent a route, which is external or internal
+abbrev pub sent_to : Profile → Speaker → Bool → Form Attrs
+sent_to profile me external = record { v6 = profile.second; made = as_sent profile me external }
+
 -- by the profile, the words of this speaker and of the peer, and by the latest rules of its outgoing filter (sections 9.1.3 and 9.2)
 abbrev pub sent_rows : Profile → Speaker → Neighbour → List Rule → Rows Route → Rows Attrs
-sent_rows profile me peer rules best p = outgoing (as_sent profile me (not peer.internal)) peer (Some rules) p (best p)
+sent_rows profile me peer rules best p = outgoing (sent_to profile me (not peer.internal)) peer (Some rules) p (best p)
 
 -- the links of a session are live while it is up
 abbrev pub in_session : {V : Type 0} → Option Speaker → Option DeclaredPeer → ℕ → (Speaker → Neighbour → Rows V) → Option (Rows V)

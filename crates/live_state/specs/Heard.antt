@@ -22,12 +22,12 @@ abbrev pub no_views : Views
 no_views j = tables.empty
 
 -- The octets that peer j gets are an UPDATE, which it reads by the profile, as one that is internal or external as it is, and takes in as
--- a peer's UPDATE is taken in here (section 3.1): its routes are what that makes of them. Octets that are no UPDATE, or have a fault,
+-- a peer's UPDATE is taken in here (section 3.1): its routes of the profile's family are what that makes of them. Octets that are no UPDATE, or have a fault,
 -- nobody takes in.
 pub record HearsOctets (profile : Profile) (w : Neighbour) (j : ℕ) (octets : List ℕ) (v v' : Views) : Type 0 where
   pub update : Updated
   pub reads : Reads profile (not w.internal) octets (Update update)
-  pub after : v' ≡ with_routes v j (routes_after (v j) (changes_of update))
+  pub after : v' ≡ with_routes v j (routes_after (v j) (changes_of profile update))
 
 -- One line, where this is the profile and these are the peers. With its link `adv.J.S` a session begins, in which nothing was heard yet, and ends, and with it go
 -- the routes that were heard in it (section 8.2.2). Nobody hears of a route by any other line: a NOTIFICATION (`note J`) has none, and the

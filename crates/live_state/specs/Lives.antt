@@ -8,7 +8,7 @@ use Rattle.addr4.specs.Prefixes.{AddressPrefix, prefix_cmp}
 use Rattle.bgp_attr.specs.Attributes.{Attrs}
 use Rattle.bgp_wire.specs.declared.message.Message.{Message}
 use Rattle.bgp_wire.specs.declared.message.Message.TheVariants as messages
-use Rattle.event_text.specs.declared.event.Event.{Event}
+use Rattle.event_text.specs.Event.{Event}
 use Rattle.event_text.specs.declared.event.Event.TheVariants.{Nothing, As4, Revised, Reflect, Local, Peer, Up, Down, Bgp, FilterIn, FilterOut, RouteAdd, RouteDel, Lose, Redist, Cover, Settled, Idle, Work, Ask, Show}
 use Rattle.event_text.specs.declared.declared.DeclaredPeer.{DeclaredPeer}
 use Rattle.event_text.specs.Declarations.{Declaration, no_declaration, peer_at, with_profile, with_four_octets, with_revised, with_reflection, with_speaker, with_peer, with_session, without_session}
@@ -40,8 +40,8 @@ pub record LiveState : Type 0 where
   -- whether its routes are redistributed into BGP
   pub redistributed : Proto → Bool
 
-abbrev pub first_live : LiveState
-first_live = record { declared = no_declaration; routes = λ k. tables.empty; rules = λ k. []; outgoing = λ k. []; interior = λ proto. tables.empty; losses = λ proto. 0; redistributed = λ proto. false }
+abbrev pub first_live : Bool → LiveState
+first_live v6 = record { declared = no_declaration v6; routes = λ k. tables.empty; rules = λ k. []; outgoing = λ k. []; interior = λ proto. tables.empty; losses = λ proto. 0; redistributed = λ proto. false }
 
 -- ---- the routes of peers
 -- with this route at a prefix, in the place of the one that stood there, or with none (RFC 4271, section 3.1)
@@ -67,7 +67,7 @@ live_fed l k changes = record l { routes = with_routes l.routes k (routes_after 
 
 -- a message came from a peer that is up. A ROUTE-REFRESH changes no route (RFC 2918)
 abbrev pub heard : LiveState → ℕ → Message → LiveState
-heard l k (messages.Update u) = live_fed l k (changes_of u)
+heard l k (messages.Update u) = live_fed l k (changes_of l.declared.profile u)
 heard l k messages.Keepalive = l
 heard l k messages.Skip = l
 heard l k (messages.Refresh r) = l

@@ -2,7 +2,7 @@
 -- sections 3.1, 4 and 6; and, where the profile says so, RFC 6793 and RFC 7606).
 use Rattle.std.specs.Prelude.{ℕ, ◌==◌, ◌||◌, Bool, true, false, not, List, ◌++◌, map, filter, slice_index, Option, None, is_some}
 use Rattle.addr4.specs.Prefixes.{AddressPrefix}
-use Rattle.bgp_attr.specs.Hosts.{is_host_prefix}
+use Rattle.addr4.specs.Hosts.{is_host_prefix}
 use Rattle.bgp_attr.specs.Attributes.{Attrs}
 use Rattle.bgp_attr.specs.declared.speaker.Profile.{Profile}
 use Rattle.bgp_wire.specs.declared.message.Update.{Update}
@@ -10,6 +10,8 @@ use Rattle.bgp_wire.specs.declared.message.Message.{Message}
 use Rattle.bgp_wire.specs.declared.message.Message.TheVariants as messages
 use Rattle.bgp_wire.specs.Updates.{fault}
 use Rattle.bgp_wire.specs.Grammar.{without, Answers}
+use Rattle.bgp_wire.specs.Said.{Said}
+use Rattle.bgp_wire.specs.Readable.{said_of}
 use Rattle.event_text.specs.declared.declared.DeclaredPeer.{DeclaredPeer}
 
 -- what octets from a peer say, read by the profile: the message that they are, or the NOTIFICATION that answers their first fault
@@ -25,10 +27,14 @@ announced_with attrs p = (p, attrs)
 abbrev pub withdrawn_from : AddressPrefix → AddressPrefix × Option Attrs
 withdrawn_from p = (p, None)
 
--- What an UPDATE does, prefix by prefix (section 3.1): first it withdraws the withdrawn prefixes that it doesn't announce, then
--- it announces those of hosts (none covered by 224.0.0.0/3).
-abbrev pub changes_of : Update → List (AddressPrefix × Option Attrs)
-changes_of u = map withdrawn_from (without u.announced u.withdrawn) ++ map (announced_with u.attrs) (filter is_host_prefix u.announced)
+-- What is said of the prefixes of a family does, one after the other (section 3.1; RFC 4760, section 4): first those go that are withdrawn
+-- and not announced, then those of hosts (none covered by 224.0.0.0/3, or by ff00::/8) are announced.
+abbrev pub changes_in : Bool → Said → List (AddressPrefix × Option Attrs)
+changes_in v6 s = map withdrawn_from (without s.announced s.withdrawn) ++ map (announced_with s.attrs) (filter (is_host_prefix v6) s.announced)
+
+-- what an UPDATE does to the routes of the family that the profile is of
+abbrev pub changes_of : Profile → Update → List (AddressPrefix × Option Attrs)
+changes_of profile u = changes_in profile.second (said_of profile.second u)
 
 -- ---- the end of a session
 -- whether a message ends the session

@@ -8,7 +8,7 @@ use Rattle.std.specs.List.{AllByRecursion}
 use Rattle.byteorder.specs.Numbers.{big_from-lt}
 use Rattle.addr4.specs.Families.{IsIpv4}
 use Rattle.addr4.proofs.FrontLemmas.{front_ipv4}
-use Rattle.bgp_attr.specs.Hosts.{is_host}
+use Rattle.addr4.specs.Hosts.{is_host}
 use Rattle.mrt_reader.specs.Records.{Record, AreBytes, number_at, kind_in, subtype_in}
 use Rattle.mrt_reader.specs.Fields as told
 use Rattle.mrt_reader.specs.Fields.{Told, Said, said, said_in, said_of_ipv4, told_in, told_by_state, told_by_message, sides_in, are_speakers, width_of, start_of, interface_at, is_used, is_well_sized, state_subtype}
@@ -142,7 +142,7 @@ other_than_zero n e = by_test (eqb n 0) refl e
 wide_number : (n i : ℕ) (octets : List ℕ) → AreBytes octets → number_at n i octets < 256 ^ n
 wide_number n i octets bytes = big_from-lt 0 n (drop i octets) (bytes_behind i octets bytes)
 
-as_speaker : (as4 : Bool) (i addr : ℕ) (octets : List ℕ) → AreBytes octets → not (eqb (number_at (width_of as4) i octets) 0) ≡ true → is_host addr ≡ true → IsIpv4 addr → IsSpeaker as4 (number_at (width_of as4) i octets) addr
+as_speaker : (as4 : Bool) (i addr : ℕ) (octets : List ℕ) → AreBytes octets → not (eqb (number_at (width_of as4) i octets) 0) ≡ true → is_host false addr ≡ true → IsIpv4 addr → IsSpeaker as4 (number_at (width_of as4) i octets) addr
 as_speaker true i addr octets bytes some host ipv4 = record {
   some = other_than_zero _ some;
   narrow = λ e. absurd (cc);
@@ -166,12 +166,12 @@ fit_session : (as4 : Bool) (kind subtype : ℕ) (body : List ℕ) → AreBytes b
 fit_session as4 kind subtype body bytes false e = tt
 fit_session as4 kind subtype body bytes true e =
     let s = sides_in as4 kind body in
-    let three = both_left (not (eqb s.peer_as 0) && not (eqb s.local_as 0) && is_host s.peer) (is_host s.local) e in
-    let two = both_left (not (eqb s.peer_as 0) && not (eqb s.local_as 0)) (is_host s.peer) three in
+    let three = both_left (not (eqb s.peer_as 0) && not (eqb s.local_as 0) && is_host false s.peer) (is_host false s.local) e in
+    let two = both_left (not (eqb s.peer_as 0) && not (eqb s.local_as 0)) (is_host false s.peer) three in
     let peer_as = both_left (not (eqb s.peer_as 0)) (not (eqb s.local_as 0)) two in
     let local_as = both_right (not (eqb s.peer_as 0)) (not (eqb s.local_as 0)) two in
-    let peer = both_right (not (eqb s.peer_as 0) && not (eqb s.local_as 0)) (is_host s.peer) three in
-    let local = both_right (not (eqb s.peer_as 0) && not (eqb s.local_as 0) && is_host s.peer) (is_host s.local) e in (
+    let peer = both_right (not (eqb s.peer_as 0) && not (eqb s.local_as 0)) (is_host false s.peer) three in
+    let local = both_right (not (eqb s.peer_as 0) && not (eqb s.local_as 0) && is_host false s.peer) (is_host false s.local) e in (
       as_speaker as4 (start_of kind) s.peer body bytes peer_as peer (front_ipv4 _ (omega (arith, wide_number 4 (interface_at as4 kind + 4) body bytes))),
       as_speaker as4 (start_of kind + width_of as4) s.local body bytes local_as local (front_ipv4 _ (omega (arith, wide_number 4 (interface_at as4 kind + 8) body bytes))),
       is_told as4 kind subtype body bytes,

@@ -1,7 +1,7 @@
 -- What a record says of BGP sessions (RFC 6396, sections 4.4 and 3): types 16 and 17 are BGP4MP and the same with microseconds.
-use Rattle.std.specs.Prelude.{ℕ, ◌+◌, ◌*◌, ◌==◌, nat_lt, nat_le, Bool, not, ◌&&◌, ◌||◌, if◌then◌else◌, List, length, drop}
+use Rattle.std.specs.Prelude.{ℕ, ◌+◌, ◌*◌, ◌==◌, nat_lt, nat_le, Bool, not, ◌&&◌, ◌||◌, if◌then◌else◌, List, length, drop, false}
 use Rattle.addr4.specs.Families.{in_front}
-use Rattle.bgp_attr.specs.Hosts.{is_host}
+use Rattle.addr4.specs.Hosts.{is_host}
 use Rattle.mrt_reader.specs.Records.{Record, number_at, kind_in, subtype_in}
 use Rattle.mrt_reader.specs.declared.fields.Sides.{Sides}
 
@@ -57,7 +57,7 @@ sides_in as4 kind body = record {
 
 -- both sides have an AS number other than 0 and the address of a host
 abbrev pub are_speakers : Sides → Bool
-are_speakers s = not (s.peer_as == 0) && not (s.local_as == 0) && is_host s.peer && is_host s.local
+are_speakers s = not (s.peer_as == 0) && not (s.local_as == 0) && is_host false s.peer && is_host false s.local
 
 -- state 6 is Established
 abbrev pub told_by_state : ℕ → Told

@@ -1,5 +1,5 @@
 -- The lines of an event file that records give.
-use Rattle.std.specs.Prelude.{ℕ, List, [], ◌∷◌, ◌++◌, codes}
+use Rattle.std.specs.Prelude.{ℕ, List, [], ◌∷◌, ◌++◌, codes, false}
 use Rattle.std.specs.List.{flat_map, join_with_byte}
 use Rattle.std.specs.Fmt.{decimal}
 use Rattle.hex.specs.Hex.{encode_lower}
@@ -24,8 +24,8 @@ pub data Line : Type 0 where
 -- an address stands for the BGP identifier too
 unfoldable pub line_words : Line → List (List ℕ)
 line_words As4 = codes "as4" ∷ []
-line_words (Local asn addr) = codes "local" ∷ decimal asn ∷ addr_text addr ∷ addr_text addr ∷ []
-line_words (Peer k asn addr) = codes "peer" ∷ decimal k ∷ decimal asn ∷ addr_text addr ∷ addr_text addr ∷ []
+line_words (Local asn addr) = codes "local" ∷ decimal asn ∷ addr_text false addr ∷ addr_text false addr ∷ []
+line_words (Peer k asn addr) = codes "peer" ∷ decimal k ∷ decimal asn ∷ addr_text false addr ∷ addr_text false addr ∷ []
 line_words (Up k) = codes "up" ∷ decimal k ∷ []
 line_words (Down k) = codes "down" ∷ decimal k ∷ []
 line_words (Bgp k octets) = codes "bgp" ∷ decimal k ∷ encode_lower octets ∷ []

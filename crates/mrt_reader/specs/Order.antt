@@ -2,7 +2,7 @@
 use Rattle.std.specs.Prelude.{◌≡◌, ◌⊎◌, ℕ, ◌+◌, ◌-◌, ◌*◌, ◌<◌, ◌≤◌, ◌^◌, ◌==◌, Bool, true, false, if◌then◌else◌, List, [], ◌∷◌, ◌++◌, length, Option, Some, None, ⊤}
 use Rattle.std.specs.List.{AllByRecursion}
 use Rattle.addr4.specs.Families.{IsIpv4}
-use Rattle.bgp_attr.specs.Hosts.{is_host}
+use Rattle.addr4.specs.Hosts.{is_host}
 use Rattle.mrt_reader.specs.Records.{Record, AreBytes}
 use Rattle.mrt_reader.specs.Lines.{Line}
 use Rattle.mrt_reader.specs.Lines as lines
@@ -13,7 +13,7 @@ pub record IsSpeaker (as4 : Bool) (asn addr : ℕ) : Type 0 where
   pub some : 0 < asn
   pub narrow : as4 ≡ false → asn < 65536
   pub wide : asn < 2 ^ 32
-  pub host : is_host addr ≡ true
+  pub host : is_host false addr ≡ true
   pub ipv4 : IsIpv4 addr
 
 -- a peer with this number was declared

@@ -6,7 +6,6 @@ ghost use Rattle.mrt_reader.specs.Fields.{width_of, start_of, interface_at, is_u
 ghost use Rattle.mrt_reader.specs.Kept.{told_of, said_of, IsKeptOf, HasMessage, HasMessageIn};
 
 use addr4::Addr;
-use bgp_attr::is_host;
 use byteorder::{BigEndian, ByteOrder};
 
 /// How many octets a record's header has.
@@ -206,7 +205,7 @@ impl Sides {
     fn are_speakers(&self) -> bool
         ensures { result ≡ are_speakers self.now }
     {
-        self.peer_as != 0 && self.local_as != 0 && is_host(self.peer) && is_host(self.local)
+        self.peer_as != 0 && self.local_as != 0 && self.peer.is_host() && self.local.is_host()
     }
 }
 

@@ -1,6 +1,6 @@
 //! The lines of an event file.
 
-ghost use Rattle.std.specs.Prelude.{◌≡◌, ◌++◌, ◌∷◌, [], OnOk, codes};
+ghost use Rattle.std.specs.Prelude.{◌≡◌, ◌++◌, ◌∷◌, [], OnOk, false, codes};
 ghost use Rattle.std.specs.Fmt.{decimal};
 ghost use Rattle.addr4.specs.Texts.{addr_text};
 ghost use Rattle.mrt_reader.specs.Lines.{line_text, refused_text, code_text};
@@ -26,7 +26,7 @@ fn push_numbered(out: &mut Vec<u8>, text: &[u8], number: u32) -> Result<(), Memo
 
 /// A space and an address, which is also the BGP identifier, twice; and the end of the line.
 fn push_speaker(out: &mut Vec<u8>, addr: Addr) -> Result<(), Memory>
-    ensures { OnOk result (out.new.items ≡ out.old.items ++ (32 ∷ addr_text addr ++ 32 ∷ addr_text addr ++ 10 ∷ [])) }
+    ensures { OnOk result (out.new.items ≡ out.old.items ++ (32 ∷ addr_text false addr ++ 32 ∷ addr_text false addr ++ 10 ∷ [])) }
 {
     out.push(b' ')?;
     push_addr(out, addr)?;

@@ -9,7 +9,7 @@ use Rattle.addr4.proofs.HalfLemmas.{one_address_prefix}
 use Rattle.nibble_trie.specs.Leaves.{Node}
 use Rattle.nibble_trie.specs.declared.link.Link.{Link}
 use Rattle.nibble_trie.specs.declared.link.Target.{Target}
-use Rattle.nibble_trie.specs.declared.link.Target.TheVariants.{Leaf, Inner}
+use Rattle.nibble_trie.specs.declared.link.Target.TheVariants.{Nothing, Leaf, Inner}
 use Rattle.nibble_trie.specs.declared.branch.Branch.{Branch}
 use Rattle.nibble_trie.specs.declared.index.Index.{Index}
 use Rattle.nibble_trie.specs.declared.index.Spot.{Spot}
@@ -51,6 +51,11 @@ headless : (keys : ℕ → Option AddressPrefix) (heads : ℕ → Option ℕ) �
 headless keys heads shortest a k p none found same = let n : IsNextOf keys a 0 None = subst (λ l. IsNextOf keys a 0 l) none (shortest a) in absurd (omega (arith, n k p found same))
 
 -- ---- the first key
+-- a place that leads to nothing has no first
+pub nothing_starts : (keys : ℕ → Option AddressPrefix) (index : Index) (heads : ℕ → Option ℕ) (layout : Layout) (at : Option (ℕ × ℕ)) (target : Target) (level from least : ℕ) → Starts keys index heads layout at target level from least → target ≡ Nothing → IsFirstOf keys (FromAt layout at from least) None
+nothing_starts keys index heads layout at target level from least s is = λ k p found x.
+    headless keys heads s.shortest p.address k p (subst (Fits (is_live index) heads layout at) (s.stands.leads ∙ is) (s.holds.fits at s.stands.place) p.address x.lies) found refl
+
 -- a place's first leaf is the first of its address
 pub leaf_starts : (keys : ℕ → Option AddressPrefix) (index : Index) (heads : ℕ → Option ℕ) (layout : Layout) (at : Option (ℕ × ℕ)) (target : Target) (level from least key : ℕ) (r : Option ℕ) → Starts keys index heads layout at target level from least → target ≡ Leaf key → ((a : ℕ) → IsNextOf keys a 0 (Some key) → IsFirstOf keys (IsOfAddressFrom a from least) r) → IsFirstOf keys (FromAt layout at from least) r
 leaf_starts keys index heads layout at target level from least key r s is first =

@@ -102,7 +102,7 @@ fn first_at<V, F: Family>(
 }
 
 // The same among the addresses of a link that leads to a branch: of the first digit from there on, of the others the first
-// of all.
+// of all. Links that lead to nothing are passed by without a call.
 #[cycle(next)]
 fn first_in<V, F: Family>(
     index: &Index,
@@ -119,9 +119,12 @@ fn first_in<V, F: Family>(
     let below = level - 1;
     let links = &index.branches[branch];
     'digits: for digit in digit_of(from, below)..16 {
-        let found = first_at(index, leaves, links.link(digit), below, from, least);
-        if found.is_some() {
-            return found;
+        let link = links.link(digit);
+        if link.number() != 0 {
+            let found = first_at(index, leaves, link, below, from, least);
+            if found.is_some() {
+                return found;
+            }
         }
         from = Addr::unspecified();
         least = 0;

@@ -172,13 +172,13 @@ module _ (m v : OutChained) (same : v ≡ m) where
   of_row : (P : OutChained → Attrs → Type 0) (p : AddressPrefix) (a : Attrs) → tables.get v.sent p ≡ Some a → P v a → ForSome (tables.get m.sent p) (P m)
   of_row P p a at holds = subst (λ (c : OutChained). ForSome (tables.get c.sent p) (P c)) same (λ b is. let one : a ≡ b = cc in subst (P v) one holds)
 
-  pub again_lines : (p : AddressPrefix) (a : Attrs) (n : ℕ) (octets : List ℕ) (j now : Journaled) → tables.get v.sent p ≡ Some a → n ≡ v.peer.number → octets ≡ message_octets v.exit.profile.as4 (announcing p a)
+  pub again_lines : (p : AddressPrefix) (a : Attrs) (n : ℕ) (octets : List ℕ) (j now : Journaled) → tables.get v.sent p ≡ Some a → n ≡ v.peer.number → octets ≡ message_octets v.exit.profile (announcing p a)
       → now ≡ with_lines j (lines.Out n octets ∷ []) → ForSome (tables.get m.sent p) (λ attrs. now ≡ with_lines j (message_lines m (Some (announcing p attrs))))
   again_lines p a n octets j now at number written pushed =
       of_row (λ c attrs. now ≡ with_lines j (message_lines c (Some (announcing p attrs)))) p a at
       (pushed ∙ ap (λ (k : ℕ). with_lines j (lines.Out k octets ∷ [])) number ∙ ap (λ (o : List ℕ). with_lines j (lines.Out v.peer.number o ∷ [])) written)
 
-  pub again_told : (p : AddressPrefix) (a : Attrs) (octets : List ℕ) → tables.get v.sent p ≡ Some a → octets ≡ message_octets v.exit.profile.as4 (announcing p a)
+  pub again_told : (p : AddressPrefix) (a : Attrs) (octets : List ℕ) → tables.get v.sent p ≡ Some a → octets ≡ message_octets v.exit.profile (announcing p a)
       → IsReadAs v.exit.profile v.exit.external octets (saying p (Some a)) → ForSome (tables.get m.sent p) (λ attrs. IsTold m.exit (announcing p attrs))
   again_told p a octets at written reads =
       of_row (λ c attrs. IsTold c.exit (announcing p attrs)) p a at (subst (λ (o : List ℕ). IsReadAs v.exit.profile v.exit.external o (saying p (Some a))) written reads)

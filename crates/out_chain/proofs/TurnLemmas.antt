@@ -95,7 +95,7 @@ pub said_none : (j : Journaled) (c : OutChained) → j ≡ with_lines j (said_of
 said_none j c = ap (λ (l : List ℕ). record j { pending = l }) (sym (append-nil j.pending))
 
 -- the lines of a change that is said: its entries, and the message
-pub said_lines : (c v : OutChained) → v ≡ c → (sent : Change Attrs) (n : ℕ) (octets : List ℕ) (j mid now : Journaled) → n ≡ v.peer.number → octets ≡ message_octets v.exit.profile.as4 sent
+pub said_lines : (c v : OutChained) → v ≡ c → (sent : Change Attrs) (n : ℕ) (octets : List ℕ) (j mid now : Journaled) → n ≡ v.peer.number → octets ≡ message_octets v.exit.profile sent
     → mid ≡ with_entries j (valued_change attrs_value (Outf n v.session) sent ++ valued_change attrs_value (Adv n v.session) sent) → now ≡ with_lines mid (lines.Out n octets ∷ [])
     → now ≡ with_lines j (said_of c [] (Some sent))
 said_lines c v is sent n octets j mid now number told both out = subst (λ (x : OutChained). now ≡ with_lines j (said_of x [] (Some sent))) is (
@@ -105,7 +105,7 @@ said_lines c v is sent n octets j mid now number told both out = subst (λ (x : 
     ∙ ap (λ (o : List ℕ). with_lines j (map (λ e. lines.Journal e) (Entries v.peer.number) ++ lines.Out v.peer.number o ∷ [])) told)
 
 -- the peer reads these octets as the change
-pub said_told : (c v : OutChained) → v ≡ c → (sent : Change Attrs) (octets : List ℕ) → octets ≡ message_octets v.exit.profile.as4 sent
+pub said_told : (c v : OutChained) → v ≡ c → (sent : Change Attrs) (octets : List ℕ) → octets ≡ message_octets v.exit.profile sent
     → IsReadAs v.exit.profile v.exit.external octets (saying sent.prefix sent.after) → IsTold c.exit sent
 said_told c v is sent octets written reads = subst (λ (x : OutChained). IsTold x.exit sent) is
     (subst (λ (o : List ℕ). IsReadAs v.exit.profile v.exit.external o (saying sent.prefix sent.after)) written reads)

@@ -58,7 +58,7 @@ out_chained_code e n f a =
 
 -- the form in which the peer is sent a route at a prefix
 abbrev pub form_of : Exit → Form Attrs
-form_of exit p row = as_sent exit.profile exit.me exit.external p row
+form_of exit = record { v6 = exit.profile.second; made = as_sent exit.profile exit.me exit.external }
 
 -- what the outgoing filter makes of a row at a prefix, by rules, or by none
 abbrev pub made_by : OutChained → Option (List Rule) → AddressPrefix → Option Route → Option Attrs

@@ -104,7 +104,7 @@ sending_entries c sent = sent_entries attrs_value (Outf c.peer.number c.session)
 -- the message that tells the peer (RFC 4271, section 4.3)
 abbrev pub message_lines : OutChained → Option (Change Attrs) → List Line
 message_lines c None = []
-message_lines c (Some change) = lines.Out c.peer.number (message_octets c.exit.profile.as4 change) ∷ []
+message_lines c (Some change) = lines.Out c.peer.number (message_octets c.exit.profile change) ∷ []
 
 -- the lines of these entries and of what the filter sends: the message stands behind its change on `adv.J.S`
 abbrev pub said_of : OutChained → List (Entry Value) → Option (Change Attrs) → List Line
@@ -112,7 +112,7 @@ said_of c entries sent = map (λ e. lines.Journal e) (entries ++ sending_entries
 
 -- the peer reads the octets of a change as that change, and as nothing else
 abbrev pub IsTold : Exit → Change Attrs → Type 0
-IsTold exit change = IsReadAs exit.profile exit.external (message_octets exit.profile.as4 change) (saying change.prefix change.after)
+IsTold exit change = IsReadAs exit.profile exit.external (message_octets exit.profile change) (saying change.prefix change.after)
 
 -- What comes of these entries of the reader, and of what the filter sends: the links lead on, what was sent is again what the filter
 -- makes of the rows that the reader has, and the peer is told.

@@ -3,6 +3,7 @@
 ghost use Rattle.std.specs.Prelude.{◌≡◌, ◌≢◌, [], length, IfOk, OnOk, OnErr, IsSome, is_some, Some, None, option_map};
 ghost use Rattle.std.specs.Option.{ForSome};
 ghost use Rattle.std.specs.FinMap as map;
+ghost use Rattle.bgp_attr.specs.Speakers.{IsProfileOf};
 ghost use Rattle.addr4.specs.Places.{key_of};
 ghost use Rattle.bgp_attr.specs.Routes.{Route as Routed};
 ghost use Rattle.link_change.specs.Rows.{Rows, IsNextCandidate, CoversRows};
@@ -80,6 +81,7 @@ impl<F: Writes> OutChain<F> {
         rules: Rules<F>,
         journal: &mut Journal<F>,
     ) -> Result<OutChain<F>, Memory>
+        requires of { IsProfileOf F.V6 profile }
         requires sender { IsSender profile me.now }
         ensures fresh { IfOk result (λ chain. map.get queue.old chain.reader ≡ None) }
         ensures least { IfOk result (λ chain. AllBelowRead queue.old chain.reader) }

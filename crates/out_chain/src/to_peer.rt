@@ -18,6 +18,10 @@ impl<F: Writes> Sent<F> for ToPeer<F> {
 
     ghost form = { λ s. form_of s.out };
 
+    fn known(&self) {
+        self.out.known();
+    }
+
     fn sent(
         &self,
         p: &Prefix<F>,

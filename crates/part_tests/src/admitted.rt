@@ -12,21 +12,19 @@ fn step(event: &Event, declared: &mut Declared) -> Result<Option<Code>, Memory> 
     if let Some(code) = admit(event, declared) {
         return Ok(Some(code));
     }
+    declared.known();
     match event {
         Event::As4 => declared.set_profile(Profile {
             as4: true,
-            revised: declared.profile().revised,
-            reflect: declared.profile().reflect,
+            ..declared.profile()
         }),
         Event::Revised => declared.set_profile(Profile {
-            as4: declared.profile().as4,
             revised: true,
-            reflect: declared.profile().reflect,
+            ..declared.profile()
         }),
         Event::Reflect => declared.set_profile(Profile {
-            as4: declared.profile().as4,
-            revised: declared.profile().revised,
             reflect: true,
+            ..declared.profile()
         }),
         Event::Local(words) => declared.set_speaker(*words),
         Event::Peer(number, words, client) => declared.add_peer(*number, *words, *client)?,
@@ -50,6 +48,8 @@ const WIDE_AND_REVISED: Profile = Profile {
     as4: true,
     revised: true,
     reflect: false,
+    v6: false,
+    second: false,
 };
 
 /// That of a route reflector.
@@ -57,6 +57,8 @@ const REFLECTOR: Profile = Profile {
     as4: false,
     revised: false,
     reflect: true,
+    v6: false,
+    second: false,
 };
 
 /// That of a file that says nothing of the whole of it.
@@ -64,6 +66,8 @@ const PLAIN: Profile = Profile {
     as4: false,
     revised: false,
     reflect: false,
+    v6: false,
+    second: false,
 };
 
 /// What may stand in front of the others: of the whole file, once each.

@@ -50,6 +50,8 @@ fn told(alloc: Global, row: &Route, external: bool) -> Result<Option<Sent>, Memo
         as4: false,
         revised: false,
         reflect: false,
+        v6: false,
+        second: false,
     };
     let me = Speaker {
         asn: 65000,

@@ -12,6 +12,8 @@ const OF_TWO: Profile = Profile {
     as4: false,
     revised: false,
     reflect: false,
+    v6: false,
+    second: false,
 };
 
 /// AS numbers of four octets, and revised errors.
@@ -19,6 +21,8 @@ const OF_FOUR: Profile = Profile {
     as4: true,
     revised: true,
     reflect: false,
+    v6: false,
+    second: false,
 };
 
 /// Lines that are read. Those that are empty or begin with `#` say nothing.

@@ -1,6 +1,6 @@
 //! Rules where AS numbers have four octets.
 
-use addr4::Memory;
+use addr4::{Memory, V4};
 use bgp_attr::Profile;
 use policy_rules::read_rules;
 use std::alloc::Global;
@@ -12,8 +12,10 @@ fn is_read(alloc: Global, text: &str) -> Result<bool, Memory> {
         as4: true,
         revised: false,
         reflect: false,
+        v6: false,
+        second: false,
     };
-    Ok(read_rules(alloc, profile, text.as_bytes())?.is_ok())
+    Ok(read_rules::<V4>(alloc, profile, text.as_bytes())?.is_ok())
 }
 
 #[test]

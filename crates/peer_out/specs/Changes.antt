@@ -6,38 +6,39 @@ use Rattle.bgp_attr.specs.Attributes.{Attrs}
 use Rattle.bgp_attr.specs.Routes.{Route}
 use Rattle.bgp_attr.specs.declared.speaker.Profile.{Profile}
 use Rattle.bgp_attr.specs.Speakers.{Speaker}
-use Rattle.bgp_wire.specs.declared.message.Update.{Update}
+use Rattle.bgp_wire.specs.Said.{Said}
 use Rattle.bgp_wire.specs.declared.message.Message.{Message}
 use Rattle.bgp_wire.specs.declared.message.Message.TheVariants as messages
 use Rattle.bgp_wire.specs.Grammar.{Reads}
 use Rattle.bgp_wire.specs.Lengths.{announcement_length}
 use Rattle.bgp_wire.specs.Paths.{width_of}
-use Rattle.bgp_wire.specs.Readable.{IsHost, IsReadable, withdrawal, announcement}
+use Rattle.bgp_wire.specs.Readable.{IsHost, IsReadable, said_in, withdrawing, announcing}
 use Rattle.bgp_wire.specs.Spelling.{update_octets}
 use Rattle.link_change.specs.Changes.{Change}
 use Rattle.peer_out.specs.Forms.{as_sent}
 
 -- one prefix is announced with what is sent from now on, or withdrawn
-abbrev pub saying : AddressPrefix → Option Attrs → Update
-saying p None = withdrawal p
-saying p (Some a) = announcement p a
+abbrev pub saying : AddressPrefix → Option Attrs → Said
+saying p None = withdrawing p
+saying p (Some a) = announcing p a
 
-abbrev pub message_octets : Bool → Change Attrs → List ℕ
-message_octets as4 change = update_octets as4 (saying change.prefix change.after)
+abbrev pub message_octets : Profile → Change Attrs → List ℕ
+message_octets profile change = update_octets profile.second profile.as4 (saying change.prefix change.after)
 
--- the octets are this UPDATE, and no other message, for a peer that is external or internal to who sends them
-pub record IsReadAs (profile : Profile) (external : Bool) (octets : List ℕ) (u : Update) : Type 0 where
-  pub reads : Reads profile external octets (messages.Update u)
-  pub only : (m : Message) → Reads profile external octets m → m ≡ messages.Update u
+-- the octets are the UPDATE that says this of the profile's family and nothing of the other, and no other message, for a peer that is
+-- external or internal to who sends them
+pub record IsReadAs (profile : Profile) (external : Bool) (octets : List ℕ) (s : Said) : Type 0 where
+  pub reads : Reads profile external octets (messages.Update (said_in profile.second s))
+  pub only : (m : Message) → Reads profile external octets m → m ≡ messages.Update (said_in profile.second s)
 
 -- attributes that some neighbour's octets may hold, an external one's or an internal one's
 abbrev pub MayBeHeard : Profile → Attrs → Type 0
-MayBeHeard profile a = IsReadable profile false a
+MayBeHeard profile a = IsReadable profile.second profile false a
 
 -- the local AS has its octets, and the local address is one of a host
 pub record IsSender (profile : Profile) (me : Speaker) : Type 0 where
   pub asn : me.asn < 256 ^ width_of profile.as4
-  pub addr : IsHost me.addr
+  pub addr : IsHost profile.second me.addr
 
 -- the attributes are what is sent at the prefix of some route whose attributes may be heard
 pub record IsSentOf (profile : Profile) (external : Bool) (p : AddressPrefix) (a : Attrs) : Type 0 where
@@ -56,5 +57,5 @@ pub record HasNumbers (a : Attrs) : Type 0 where
 
 -- a peer reads the attributes as they are, and the announcement fits into a message
 pub record CanBeRead (profile : Profile) (external : Bool) (p : AddressPrefix) (a : Attrs) : Type 0 where
-  pub readable : IsReadable profile external a
-  pub short : announcement_length profile.as4 p a ≤ 4096
+  pub readable : IsReadable profile.second profile external a
+  pub short : announcement_length profile.second profile.as4 p a ≤ 4096

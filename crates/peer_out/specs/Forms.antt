@@ -39,7 +39,7 @@ sent_form profile me external row = record {
 -- What is sent at a prefix: nothing where the announcement would have more than the 4,096 octets of a message (section 4.1).
 abbrev pub as_sent : Profile → Speaker → Bool → AddressPrefix → Route → Option Attrs
 as_sent profile me external p row =
-    if nat_le (announcement_length profile.as4 p (sent_form profile me external row)) 4096 then Some (sent_form profile me external row) else None
+    if nat_le (announcement_length profile.second profile.as4 p (sent_form profile me external row)) 4096 then Some (sent_form profile me external row) else None
 
 -- who sends to which kind of peer
 pub record Exit : Type 0 where

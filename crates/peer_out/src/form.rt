@@ -7,6 +7,7 @@ use crate::sent_route::SentRoute;
 use crate::writes::Writes;
 use addr4::{Addr, Memory, Prefix};
 use bgp_attr::{Profile, Route, SharedAttrs, Speaker};
+use bgp_wire::{announcement_fits, attributes_length};
 use std::alloc::Global;
 
 /// A route as a peer is sent it, which is external or internal to this speaker. None exactly where the announcement of the prefix
@@ -19,11 +20,12 @@ pub(crate) fn sent_route<F: Writes>(
     row: &Route<SharedAttrs<F>>,
     external: bool,
 ) -> Result<Option<SentRoute<F>>, Memory>
+    requires { profile.second ≡ F.V6 }
     ensures { IfOk result (λ sent. sent ≡ as_sent profile me.now external prefix row.now) }
 {
     let route = SentRoute::new(alloc, profile, me, external, row)?;
-    let size = F::attributes_length(profile, &route.lent());
-    if F::announcement_fits(&prefix, size) {
+    let size = attributes_length(profile, &route.lent());
+    if announcement_fits(prefix, size) {
         Ok(Some(route))
     } else {
         Ok(None)
@@ -40,6 +42,7 @@ pub fn as_sent<F: Writes>(
     row: &Route<SharedAttrs<F>>,
     external: bool,
 ) -> Result<Option<SharedAttrs<F>>, Memory>
+    requires { profile.second ≡ F.V6 }
     ensures { IfOk result (λ sent. sent ≡ as_sent profile me.now external prefix row.now) }
 {
     match sent_route(alloc, profile, me, prefix, row, external)? {

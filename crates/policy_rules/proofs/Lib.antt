@@ -1,4 +1,5 @@
 pub mod GrammarLemmas
+mod GroupRanges
 pub mod RangeLemmas
 pub mod PassLemmas
 pub mod KeptLemmas

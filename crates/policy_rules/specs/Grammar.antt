@@ -1,4 +1,4 @@
--- The grammar of filter rules, over the words of a text.
+-- The grammar of filter rules, over the words of a text: of those of the network of a family, with AS numbers of two octets or four.
 use Rattle.std.specs.Prelude.{ℕ, Bool, if◌then◌else◌, List, [], ◌∷◌, ◌++◌, Option, Some, None, option_map, codes}
 use Rattle.std.specs.Str.{bytes_eq}
 use Rattle.addr4.specs.Texts.{number_below}
@@ -26,44 +26,44 @@ at_verdict None ended otherwise = otherwise
 
 unfoldable mutual
   -- a list of rules: each is a condition, actions and a verdict
-  pub rules_of : Bool → List (List ℕ) → Option (List Rule)
-  rules_of as4 [] = Some []
-  rules_of as4 (w ∷ ws) =
-      if bytes_eq w (codes "any") then behind as4 Any [] ws
-      else if bytes_eq w (codes "path") then behind_path as4 ws
-      else if bytes_eq w (codes "origin") then behind_origin as4 ws
-      else behind_prefix as4 w ws
+  pub rules_of : Bool → Bool → List (List ℕ) → Option (List Rule)
+  rules_of v6 as4 [] = Some []
+  rules_of v6 as4 (w ∷ ws) =
+      if bytes_eq w (codes "any") then behind v6 as4 Any [] ws
+      else if bytes_eq w (codes "path") then behind_path v6 as4 ws
+      else if bytes_eq w (codes "origin") then behind_origin v6 as4 ws
+      else behind_prefix v6 as4 w ws
 
   -- behind the word `path`
-  pub behind_path : Bool → List (List ℕ) → Option (List Rule)
-  behind_path as4 [] = None
-  behind_path as4 (n ∷ ws) = number_below (asn_bound as4) n >>= λ asn. behind as4 (Path asn) [] ws
+  pub behind_path : Bool → Bool → List (List ℕ) → Option (List Rule)
+  behind_path v6 as4 [] = None
+  behind_path v6 as4 (n ∷ ws) = number_below (asn_bound as4) n >>= λ asn. behind v6 as4 (Path asn) [] ws
 
   -- behind the word `origin`
-  pub behind_origin : Bool → List (List ℕ) → Option (List Rule)
-  behind_origin as4 [] = None
-  behind_origin as4 (n ∷ ws) = origin_of n >>= λ o. behind as4 (Origin o) [] ws
+  pub behind_origin : Bool → Bool → List (List ℕ) → Option (List Rule)
+  behind_origin v6 as4 [] = None
+  behind_origin v6 as4 (n ∷ ws) = origin_of n >>= λ o. behind v6 as4 (Origin o) [] ws
 
   -- behind a prefix
-  pub behind_prefix : Bool → List ℕ → List (List ℕ) → Option (List Rule)
-  behind_prefix as4 p (ge ∷ n ∷ le ∷ m ∷ ws) = within_of p ge n le m >>= λ c. behind as4 c [] ws
-  behind_prefix as4 p other = None
+  pub behind_prefix : Bool → Bool → List ℕ → List (List ℕ) → Option (List Rule)
+  behind_prefix v6 as4 p (ge ∷ n ∷ le ∷ m ∷ ws) = within_of v6 p ge n le m >>= λ c. behind v6 as4 c [] ws
+  behind_prefix v6 as4 p other = None
 
   -- behind a rule's condition and some of its actions
-  pub behind : Bool → Condition → List Action → List (List ℕ) → Option (List Rule)
-  behind as4 c actions [] = None
-  behind as4 c actions (w ∷ ws) =
+  pub behind : Bool → Bool → Condition → List Action → List (List ℕ) → Option (List Rule)
+  behind v6 as4 c actions [] = None
+  behind v6 as4 c actions (w ∷ ws) =
       at_verdict (verdict_of w)
-      (λ v. in_front (record { condition = c; actions = actions; verdict = v }) (rules_of as4 ws))
-      (if bytes_eq w (codes "nomed") then behind as4 c (actions ++ NoMed ∷ []) ws
-      else behind_setting as4 c actions w ws)
+      (λ v. in_front (record { condition = c; actions = actions; verdict = v }) (rules_of v6 as4 ws))
+      (if bytes_eq w (codes "nomed") then behind v6 as4 c (actions ++ NoMed ∷ []) ws
+      else behind_setting v6 as4 c actions w ws)
 
   -- behind the first word of an action of two words
-  pub behind_setting : Bool → Condition → List Action → List ℕ → List (List ℕ) → Option (List Rule)
-  behind_setting as4 c actions w [] = None
-  behind_setting as4 c actions w (n ∷ ws) = setting_of w n >>= λ a. behind as4 c (actions ++ a ∷ []) ws
+  pub behind_setting : Bool → Bool → Condition → List Action → List ℕ → List (List ℕ) → Option (List Rule)
+  behind_setting v6 as4 c actions w [] = None
+  behind_setting v6 as4 c actions w (n ∷ ws) = setting_of w n >>= λ a. behind v6 as4 c (actions ++ a ∷ []) ws
 
 -- behind some of a rule's actions and the first word of the next one
-abbrev pub at_action : Bool → Condition → List Action → List ℕ → List (List ℕ) → Option (List Rule)
-at_action as4 c actions w ws =
-    if bytes_eq w (codes "nomed") then behind as4 c (actions ++ NoMed ∷ []) ws else behind_setting as4 c actions w ws
+abbrev pub at_action : Bool → Bool → Condition → List Action → List ℕ → List (List ℕ) → Option (List Rule)
+at_action v6 as4 c actions w ws =
+    if bytes_eq w (codes "nomed") then behind v6 as4 c (actions ++ NoMed ∷ []) ws else behind_setting v6 as4 c actions w ws

@@ -1,7 +1,8 @@
 -- The words of a text, and what single words say.
-use Rattle.std.specs.Prelude.{ℕ, Bool, not, ◌&&◌, if◌then◌else◌, ◌^◌, List, length, ◌==◌, Option, Some, None, codes}
+use Rattle.std.specs.Prelude.{ℕ, suc, Bool, not, ◌&&◌, if◌then◌else◌, List, length, ◌==◌, Option, Some, None, codes}
 use Rattle.std.specs.Str.{bytes_eq}
 use Rattle.std.specs.List.{filter}
+use Rattle.addr4.specs.Families.{bits_of}
 use Rattle.addr4.specs.Texts.{number_of, number_below, prefix_of, parts}
 use Rattle.bgp_attr.specs.declared.attrs.Origin as origin
 use Rattle.bgp_attr.specs.declared.attrs.Origin.TheVariants.{Igp, Egp, Incomplete}
@@ -34,14 +35,14 @@ origin_of word = do
   n ← number_below 3 word
   Some (if n == 0 then Igp else if n == 1 then Egp else Incomplete)
 
--- `PREFIX ge N le N`, by its five words
-unfoldable pub within_of : List ℕ → List ℕ → List ℕ → List ℕ → List ℕ → Option Condition
-within_of prefix ge least le most =
+-- `PREFIX ge N le N`, by its five words: a prefix of the family, and lengths that its prefixes can have
+unfoldable pub within_of : Bool → List ℕ → List ℕ → List ℕ → List ℕ → List ℕ → Option Condition
+within_of v6 prefix ge least le most =
     if bytes_eq ge (codes "ge") && bytes_eq le (codes "le")
     then (do
-      p ← prefix_of 32 prefix
-      n ← number_below 33 least
-      m ← number_below 33 most
+      p ← prefix_of v6 prefix
+      n ← number_below (suc (bits_of v6)) least
+      m ← number_below (suc (bits_of v6)) most
       Some (Within p n m))
     else None
 

@@ -9,7 +9,7 @@ ghost use Rattle.policy_rules.specs.Grammar.{rules_of, behind, behind_prefix, at
 
 use crate::rule::{Action, Actions, Condition, Rule, Rules};
 use crate::words::{first_word, origin_of, setting_of, verdict_of, within_of};
-use addr4::{Memory, read_number_below};
+use addr4::{Memory, Prefix, Texts, read_number_below};
 use bgp_attr::Profile;
 use std::alloc::Global;
 
@@ -19,16 +19,16 @@ use std::alloc::Global;
 pub struct BadRule;
 
 /// Reads a list of rules, perhaps empty, in words parted by spaces, one or more; spaces may also stand at the start and the
-/// end. The profile tells which numbers an AS may have. `BadRule` exactly where the text isn't in the grammar. What was read
-/// is in range: lengths to 32, numbers of 32 bits, `prepend` to 16.
+/// end. Their prefixes are the family's. The profile tells which numbers an AS may have. `BadRule` exactly where the text
+/// isn't in the grammar. What was read is in range: lengths to the family's width, numbers of 32 bits, `prepend` to 16.
 #[tactic(auto, using(crate::proofs::GrammarLemmas::none_in_front, crate::proofs::GrammarLemmas::one_more_in_front, crate::proofs::GrammarLemmas::all_in_front_of_none), unfolding(crate::specs::Grammar::rules_of))]
-pub fn read_rules(
+pub fn read_rules<F: Texts>(
     alloc: Global,
     profile: Profile,
     text: &[u8],
-) -> Result<Result<Rules, BadRule>, Memory>
-    ensures value { IfOk result (λ rules. result_ok rules ≡ rules_of profile.as4 (words text.now)) }
-    ensures ranges { IfOk result (λ read. IfOk read (λ rules. AreRules profile.as4 rules)) }
+) -> Result<Result<Rules<F>, BadRule>, Memory>
+    ensures value { IfOk result (λ rules. result_ok rules ≡ rules_of F.V6 profile.as4 (words text.now)) }
+    ensures ranges { IfOk result (λ read. IfOk read (λ rules. AreRules F.V6 profile.as4 rules)) }
 {
     let mut rules = Vec::new(alloc);
     let mut rest = text;
@@ -43,13 +43,13 @@ pub fn read_rules(
 }
 
 /// The first rule, by its first word and what follows that, and what follows the rule.
-fn first_rule<'a>(
+fn first_rule<'a, F: Texts>(
     alloc: Global,
     profile: Profile,
     word: &[u8],
     rest: &'a [u8],
-) -> Result<Option<(Rule, &'a [u8])>, Memory>
-    ensures value { IfOk result (λ found. MatchOption found (rules_of profile.as4 (word.now ∷ words rest.now) ≡ None) (λ r. rules_of profile.as4 (word.now ∷ words rest.now) ≡ in_front r.0 (rules_of profile.as4 (words r.1.now)))) }
+) -> Result<Option<(Rule<Prefix<F>>, &'a [u8])>, Memory>
+    ensures value { IfOk result (λ found. MatchOption found (rules_of F.V6 profile.as4 (word.now ∷ words rest.now) ≡ None) (λ r. rules_of F.V6 profile.as4 (word.now ∷ words rest.now) ≡ in_front r.0 (rules_of F.V6 profile.as4 (words r.1.now)))) }
     ensures shorter { IfOk result (λ found. IfSome found (λ r. length (words r.1.now) < length (words rest.now))) }
 {
     match condition(profile, word, rest) {
@@ -60,13 +60,13 @@ fn first_rule<'a>(
 
 /// The rule with this condition, by what follows that, and what follows the rule.
 #[tactic(auto, unfolding(crate::specs::Grammar::rules_of))]
-fn rule_behind<'a>(
+fn rule_behind<'a, F: Texts>(
     alloc: Global,
     profile: Profile,
-    condition: Condition,
+    condition: Condition<Prefix<F>>,
     text: &'a [u8],
-) -> Result<Option<(Rule, &'a [u8])>, Memory>
-    ensures value { IfOk result (λ found. MatchOption found (behind profile.as4 condition [] (words text.now) ≡ None) (λ r. behind profile.as4 condition [] (words text.now) ≡ in_front r.0 (rules_of profile.as4 (words r.1.now)))) }
+) -> Result<Option<(Rule<Prefix<F>>, &'a [u8])>, Memory>
+    ensures value { IfOk result (λ found. MatchOption found (behind F.V6 profile.as4 condition [] (words text.now) ≡ None) (λ r. behind F.V6 profile.as4 condition [] (words text.now) ≡ in_front r.0 (rules_of F.V6 profile.as4 (words r.1.now)))) }
     ensures shorter { IfOk result (λ found. IfSome found (λ r. length (words r.1.now) < length (words text.now))) }
 {
     let mut actions = Vec::new(alloc);
@@ -94,8 +94,12 @@ fn rule_behind<'a>(
 
 /// A condition, by its first word and what follows that, and what follows the condition.
 #[tactic(auto, unfolding(crate::specs::Grammar::rules_of))]
-fn condition<'a>(profile: Profile, word: &[u8], rest: &'a [u8]) -> Option<(Condition, &'a [u8])>
-    ensures value { MatchOption result (rules_of profile.as4 (word.now ∷ words rest.now) ≡ None) (λ r. rules_of profile.as4 (word.now ∷ words rest.now) ≡ behind profile.as4 r.0 [] (words r.1.now)) }
+fn condition<'a, F: Texts>(
+    profile: Profile,
+    word: &[u8],
+    rest: &'a [u8],
+) -> Option<(Condition<Prefix<F>>, &'a [u8])>
+    ensures value { MatchOption result (rules_of F.V6 profile.as4 (word.now ∷ words rest.now) ≡ None) (λ r. rules_of F.V6 profile.as4 (word.now ∷ words rest.now) ≡ behind F.V6 profile.as4 r.0 [] (words r.1.now)) }
     ensures shorter { IfSome result (λ r. length (words r.1.now) ≤ length (words rest.now)) }
 {
     if word == b"any".as_slice() {
@@ -116,8 +120,12 @@ fn condition<'a>(profile: Profile, word: &[u8], rest: &'a [u8]) -> Option<(Condi
 
 /// The condition that begins with a prefix, and what follows it.
 #[tactic(auto, unfolding(crate::specs::Grammar::rules_of))]
-fn within<'a>(profile: Profile, prefix: &[u8], rest: &'a [u8]) -> Option<(Condition, &'a [u8])>
-    ensures value { MatchOption result (behind_prefix profile.as4 prefix.now (words rest.now) ≡ None) (λ r. behind_prefix profile.as4 prefix.now (words rest.now) ≡ behind profile.as4 r.0 [] (words r.1.now)) }
+fn within<'a, F: Texts>(
+    profile: Profile,
+    prefix: &[u8],
+    rest: &'a [u8],
+) -> Option<(Condition<Prefix<F>>, &'a [u8])>
+    ensures value { MatchOption result (behind_prefix F.V6 profile.as4 prefix.now (words rest.now) ≡ None) (λ r. behind_prefix F.V6 profile.as4 prefix.now (words rest.now) ≡ behind F.V6 profile.as4 r.0 [] (words r.1.now)) }
     ensures shorter { IfSome result (λ r. length (words r.1.now) ≤ length (words rest.now)) }
 {
     let (ge, rest) = first_word(rest)?;
@@ -131,7 +139,7 @@ fn within<'a>(profile: Profile, prefix: &[u8], rest: &'a [u8]) -> Option<(Condit
 /// An action, by its first word and what follows that, and what follows the action.
 #[tactic(auto, unfolding(crate::specs::Grammar::rules_of))]
 fn action<'a>(word: &[u8], rest: &'a [u8]) -> Option<(Action, &'a [u8])>
-    ensures value { (as4 : Bool) (c : _) (before : List Action) → MatchOption result (at_action as4 c before word.now (words rest.now) ≡ None) (λ r. at_action as4 c before word.now (words rest.now) ≡ behind as4 c (before ++ r.0 ∷ []) (words r.1.now)) }
+    ensures value { (v6 as4 : Bool) (c : _) (before : List Action) → MatchOption result (at_action v6 as4 c before word.now (words rest.now) ≡ None) (λ r. at_action v6 as4 c before word.now (words rest.now) ≡ behind v6 as4 c (before ++ r.0 ∷ []) (words r.1.now)) }
     ensures shorter { IfSome result (λ r. length (words r.1.now) ≤ length (words rest.now)) }
 {
     if word == b"nomed".as_slice() {

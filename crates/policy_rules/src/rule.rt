@@ -12,7 +12,7 @@ use std::marker::Model;
 pub enum Condition<P = Prefix> {
     /// `any`: all.
     Any,
-    /// `PREFIX ge N le N`: those whose prefix lies in this one, with a length from the least to the most, 0 to 32.
+    /// `PREFIX ge N le N`: those whose prefix lies in this one, with a length from the least to the most, 0 to the family's width.
     Within { prefix: P, least: u8, most: u8 },
     /// `path AS`: those with this AS number in some segment of the AS path.
     Path(u32),

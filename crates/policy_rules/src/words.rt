@@ -1,11 +1,12 @@
 //! The words of a text, and what single words say.
 
-ghost use Rattle.std.specs.Prelude.{◌≡◌, ◌∷◌, [], MatchOption};
-ghost use Rattle.addr4.specs.Texts.{parts, parts_after};
+ghost use Rattle.std.specs.Prelude.{◌≡◌, ◌∷◌, suc, [], MatchOption};
+ghost use Rattle.addr4.specs.Families.{bits_of};
+ghost use Rattle.addr4.specs.Texts.{number_below, parts, parts_after};
 ghost use Rattle.policy_rules.specs.Words.{words, words_among, origin_of, setting_of, verdict_of, within_of};
 
 use crate::rule::{Action, Condition, Verdict};
-use addr4::{first_part, read_number, read_number_below, read_prefix};
+use addr4::{Family, Prefix, Texts, first_part, read_number, read_number_below, read_prefix};
 use bgp_attr::Origin;
 
 /// The first word, and what follows it. None where there is no word.
@@ -35,23 +36,31 @@ pub fn origin_of(word: &[u8]) -> Option<Origin>
     }
 }
 
-/// The condition `PREFIX ge N le N`, by its five words.
+/// A length that a prefix of the family can have.
+fn length<F: Family>(word: &[u8]) -> Option<u8>
+    ensures { result ≡ number_below (suc (bits_of F.V6)) word.now }
+{
+    let length = read_number_below(word, u64::from(F::WIDTH) + 1)?;
+    Some(length as u8)
+}
+
+/// The condition `PREFIX ge N le N`, by its five words: a prefix of the family, and lengths to its width.
 #[tactic(auto, unfolding(crate::specs::Words::within_of))]
-pub fn within_of(
+pub fn within_of<F: Texts>(
     prefix: &[u8],
     ge: &[u8],
     least: &[u8],
     le: &[u8],
     most: &[u8],
-) -> Option<Condition>
-    ensures { result ≡ within_of prefix.now ge.now least.now le.now most.now }
+) -> Option<Condition<Prefix<F>>>
+    ensures { result ≡ within_of F.V6 prefix.now ge.now least.now le.now most.now }
 {
     if ge != b"ge".as_slice() || le != b"le".as_slice() {
         return None;
     }
     let prefix = read_prefix(prefix).ok()?;
-    let least = read_number_below(least, 33)? as u8;
-    let most = read_number_below(most, 33)? as u8;
+    let least = length::<F>(least)?;
+    let most = length::<F>(most)?;
     Some(Condition::Within {
         prefix,
         least,

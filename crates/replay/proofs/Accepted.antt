@@ -7,7 +7,7 @@ use Rattle.std.proofs.lemmas.Bool.Decides.{nat_tests}
 use Rattle.journal_check.proofs.InkLemmas.{both_true, printable}
 use Rattle.journal_text.specs.declared.line.Code.{Code}
 use Rattle.journal_text.specs.declared.line.Code.TheVariants.{E1, E6}
-use Rattle.event_text.specs.declared.event.Event.{Event}
+use Rattle.event_text.specs.Event.{Event}
 use Rattle.event_text.specs.Words.{is_clean}
 use Rattle.policy_rules.specs.Words.{words}
 use Rattle.bgp_attr.specs.declared.speaker.Profile.{Profile}

@@ -3,7 +3,7 @@ use Rattle.std.proofs.Common.{not, ◌≡◌, ◌⊎◌, ℕ, ◌+◌, ◌≤◌
 use Rattle.std.specs.List.{AllByRecursion, flat_map}
 use Rattle.std.proofs.lemmas.List.Concat.{flat_map-append}
 use Rattle.journal_text.specs.declared.line.Code.{Code}
-use Rattle.event_text.specs.declared.event.Event.{Event}
+use Rattle.event_text.specs.Event.{Event}
 use Rattle.event_text.specs.declared.declared.DeclaredPeer.{DeclaredPeer}
 use Rattle.event_text.specs.Declarations.{Declaration, no_declaration, peer_at, with_session, without_session}
 use Rattle.live_state.specs.Declared.{declared_after, declared_up, declared_down, declared_heard}
@@ -83,7 +83,7 @@ pub captures_accepted : LinesAreAccepted → LinesAreFew → CapturesAreAccepted
 captures_accepted accepted few as4 file text is =
     let rs = is.read.records in
     let ls = file_lines as4 rs in
-    let all : AreAccepted declared_after no_declaration ls = accepted declared_after declares as4 rs (all_bytes as4 rs is.read.each) in
+    let all : AreAccepted declared_after (no_declaration false) ls = accepted declared_after declares as4 rs (all_bytes as4 rs is.read.each) in
     let short : 1 + length ls ≤ 4294967296 = omega (arith, few as4 rs, is.read.count, is.read.few) in
-    ap (verdict_from 1 no_declaration) (ap lines_of (whole_text as4 file text is ∙ text_ended ls) ∙ clean_lines (map line_bytes ls) (all_clean no_declaration ls all))
-    ∙ all_judged 1 no_declaration ls short all
+    ap (verdict_from 1 (no_declaration false)) (ap lines_of (whole_text as4 file text is ∙ text_ended ls) ∙ clean_lines (map line_bytes ls) (all_clean (no_declaration false) ls all))
+    ∙ all_judged 1 (no_declaration false) ls short all

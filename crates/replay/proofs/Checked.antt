@@ -1,5 +1,5 @@
 -- What `check` says of an output.
-use Rattle.std.proofs.Common.{◌≡◌, ◌≢◌, ℕ, ◌+◌, ◌-◌, ◌≤◌, Bool, List, [], ◌∷◌, ◌++◌, take, Option, Some, None, Ok, Err, refl, sym, ap, subst, ◌∙◌, inl, inr, arith}
+use Rattle.std.proofs.Common.{◌≡◌, ◌≢◌, ℕ, ◌+◌, ◌-◌, ◌≤◌, Bool, List, [], ◌∷◌, ◌++◌, take, Option, Some, None, Ok, Err, refl, sym, ap, subst, ◌∙◌, inl, inr, arith, false}
 use Rattle.std.specs.List.{AllByRecursion}
 use Rattle.bgp_attr.specs.declared.speaker.Neighbour.{Neighbour}
 use Rattle.journal_text.specs.Texts.{sender_number, line_text, text_of}
@@ -86,22 +86,22 @@ verdict_low n d (line ∷ lines) k code e low = elim (judge n d line) as (λ r. 
 -- ---- outputs
 output_lawful : (quiet : Bool) (lines : List (List ℕ)) (bytes : List ℕ) → IsOutput quiet lines bytes → IsLawfulToCheck bytes
 output_lawful quiet lines bytes o = subst IsLawfulToCheck (sym o.text) (λ few.
-    let is = printed_judged (neighbours o.end.declared) quiet o.out (run_printed 1 first_moment o.end lines o.out o.run) few o.lawful.lawful in
-    (is, λ ending ends. lawful_ends (text_of quiet o.out) ending is ends))
+    let is = printed_judged (neighbours o.end.declared) quiet o.out (run_printed 1 (first_moment false) o.end lines o.out o.run) few o.lawful.lawful in
+    (is, λ ending ends. lawful_ends (text_of false quiet o.out) ending is ends))
 
 refused_lawful : (quiet : Bool) (text bytes : List ℕ) → IsRefusedOutput quiet text bytes → IsLawfulToCheck bytes
 refused_lawful quiet text bytes r = subst IsLawfulToCheck (sym (r.written ∙ ap (λ (t : List ℕ). t ++ last) o.text)) (λ few.
-    let is = refused_judged (neighbours o.end.declared) quiet o.out r.number r.code (run_printed 1 first_moment o.end _ o.out o.run) (omega (arith, low)) few o.lawful.lawful in
-    (is, λ ending ends. lawful_ends (text_of quiet o.out ++ last) ending is ends))
+    let is = refused_judged (neighbours o.end.declared) quiet o.out r.number r.code (run_printed 1 (first_moment false) o.end _ o.out o.run) (omega (arith, low)) few o.lawful.lawful in
+    (is, λ ending ends. lawful_ends (text_of false quiet o.out ++ last) ending is ends))
   where
     o : IsOutput quiet (take (r.number - 1) (lines_of text)) r.earlier
     o = r.output
 
     last : List ℕ
-    last = line_text (Refused r.number r.code)
+    last = line_text false (Refused r.number r.code)
 
     low : r.number ≤ 4294967296
-    low = verdict_low 1 no_declaration (lines_of text) r.number r.code r.refused (omega arith)
+    low = verdict_low 1 (no_declaration false) (lines_of text) r.number r.code r.refused (omega arith)
 
 -- with totals behind it
 totalled_lawful : (quiet : Bool) (text bytes : List ℕ) → IsTotalledOutput quiet text bytes → IsLawfulToCheck bytes
@@ -116,7 +116,7 @@ totalled_lawful quiet text bytes t = subst IsLawfulToCheck (sym t.written) (λ f
     ends = subst EndsWhole (sym o.text) (text_ended quiet o.out)
 
     counted : IsCounted t.end.declared.peers
-    counted = subst (λ (m : Moment). IsCounted m.declared.peers) t.output.at (run_counted 1 first_moment o.end (lines_of text) o.out tt o.run)
+    counted = subst (λ (m : Moment). IsCounted m.declared.peers) t.output.at (run_counted 1 (first_moment false) o.end (lines_of text) o.out tt o.run)
 
 -- ---- commands
 took_so : (left0 taken0 taken : Option (List ℕ)) (P Q : List ℕ → List ℕ → Type 0) → ((text bytes : List ℕ) → P text bytes → Q text bytes) → Took left0 taken0 taken P → Took left0 taken0 taken Q

@@ -1,6 +1,6 @@
 -- What was declared stays counted.
 use Rattle.std.proofs.Common.{not, ◌≡◌, ℕ, ◌&&◌, Bool, true, false, cond, List, Option, Some, None, arith}
-use Rattle.event_text.specs.declared.event.Event.{Event}
+use Rattle.event_text.specs.Event.{Event}
 use Rattle.event_text.specs.declared.event.Event.TheVariants.{Nothing, As4, Revised, Reflect, Local, Peer, Up, Down, Bgp, FilterIn, FilterOut, RouteAdd, RouteDel, Lose, Redist, Cover, Settled, Idle, Work, Ask, Show}
 use Rattle.event_text.specs.declared.declared.DeclaredPeer.{DeclaredPeer}
 use Rattle.event_text.specs.Declarations.{Declaration, IsCounted, peer_at, words_of, with_session, without_session, refusal}
@@ -14,7 +14,7 @@ ended_if false d k counted = counted
 
 begun_unless : (b : Bool) (d : Declaration) (k : ℕ) → refusal d (Up k) ≡ None → IsCounted d.peers → IsCounted (cond b d (with_session d k)).peers
 begun_unless true d k admitted counted = counted
-begun_unless false d k admitted counted = counted_begun d.profile d.speaker d.peers k counted admitted
+begun_unless false d k admitted counted = counted_begun d.v6 d.profile d.speaker d.peers k counted admitted
 
 counted_up : (d : Declaration) (k : ℕ) (p : Option DeclaredPeer) → refusal d (Up k) ≡ None → IsCounted d.peers → IsCounted (declared_up d k p).peers
 counted_up d k None admitted counted = counted
@@ -36,7 +36,7 @@ counted_after d Revised admitted counted = counted
 counted_after d Reflect admitted counted = counted
 counted_after d (Local words) admitted counted = counted
 counted_after d (Peer k words client) admitted counted =
-    counted_push d.peers (record { words = words_of d.speaker k words client; session = 0; up = false }) counted (addable d.profile d.speaker d.peers k words client admitted).1 (omega arith)
+    counted_push d.peers (record { words = words_of d.speaker k words client; session = 0; up = false }) counted (addable d.v6 d.profile d.speaker d.peers k words client admitted).1 (omega arith)
 counted_after d (Up k) admitted counted = counted_up d k (peer_at k d.peers) admitted counted
 counted_after d (Down k) admitted counted = counted_down d k (peer_at k d.peers) counted
 counted_after d (Bgp k octets) admitted counted = counted_heard d k octets (peer_at k d.peers) counted

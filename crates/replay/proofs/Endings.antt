@@ -123,7 +123,7 @@ of_read (Some text) None read P c h = absurd c
 of_read (Some text) (Some more) read P c h = subst P (sym c) (h more)
 
 accepted_status : (quiet : Bool) (text bytes : List ℕ) → IsOutput quiet (lines_of text) bytes → statuses.Ok ≡ status_of (verdict text)
-accepted_status quiet text bytes o = ap status_of (sym (verdict_accepted 1 first_moment o.end (lines_of text) o.out o.run))
+accepted_status quiet text bytes o = ap status_of (sym (verdict_accepted 1 (first_moment false) o.end (lines_of text) o.out o.run))
 
 pub refused_status : (quiet : Bool) (text bytes : List ℕ) → IsRefusedOutput quiet text bytes → statuses.Refused ≡ status_of (verdict text)
 refused_status quiet text bytes o = ap status_of (sym o.refused)
@@ -137,15 +137,15 @@ pub stepped_as : (quiet other : Bool) (read : List ℕ) (number : ℕ) (m : Mome
 stepped_as quiet other read number m turns pending output e s = subst (λ (q : Bool). HasStepped q read number m turns pending output) (sym e) s
 
 -- no line was stepped
-first_output : Stands first_moment → (quiet : Bool) (text : List ℕ) → IsOutputOfFront quiet text []
+first_output : Stands (first_moment false) → (quiet : Bool) (text : List ℕ) → IsOutputOfFront quiet text []
 first_output stands quiet text = record {
   count = 0;
   output = record {
     out = [];
-    end = first_moment;
+    end = (first_moment false);
     run = (refl, refl);
     lawful = record { lawful = tt; ends = none_at_first };
-    live = lives_through [] [] first_moment (refl, refl);
+    live = lives_through [] [] (first_moment false) (refl, refl);
     heard = nobody_hears;
     sent = nothing_sent;
     stands = stands;
@@ -153,7 +153,7 @@ first_output stands quiet text = record {
   };
 }
 
-took_first : Stands first_moment → (quiet : Bool) (left taken : Option (List ℕ)) → Took left taken taken (IsOutputOfFront quiet)
+took_first : Stands (first_moment false) → (quiet : Bool) (left taken : Option (List ℕ)) → Took left taken taken (IsOutputOfFront quiet)
 took_first stands quiet None taken = ([], [], tt, appends_nothing taken, first_output stands quiet [])
 took_first stands quiet (Some text) taken = (text, [], refl, appends_nothing taken, first_output stands quiet text)
 
@@ -165,7 +165,7 @@ took_none as4 None taken = ([], [], tt, appends_nothing taken, no_records as4 []
 took_none as4 (Some file) taken = (file, [], refl, appends_nothing taken, no_records as4 file)
 
 -- there was no memory for the words
-pub no_words : Stands first_moment → (command : Option Command) (left taken : Option (List ℕ)) → HasFirst command left taken taken
+pub no_words : Stands (first_moment false) → (command : Option Command) (left taken : Option (List ℕ)) → HasFirst command left taken taken
 no_words stands (Some (Run quiet)) left taken = took_first stands quiet left taken
 no_words stands (Some (Gen seed count quiet)) left taken = ([], appends_nothing taken, first_output stands quiet (text seed count))
 no_words stands (Some Check) left taken = refl

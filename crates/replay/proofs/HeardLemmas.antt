@@ -31,13 +31,13 @@ use Rattle.router_moments.specs.Scratch.{IsExact}
 use Rattle.replay.specs.Heard.{AreHeard, AreSent, AreBest}
 
 -- ---- at first
-no_view : (j : ℕ) → views_of first_moment.exits j ≡ tables.empty
+no_view : (j : ℕ) → views_of (first_moment false).exits j ≡ tables.empty
 no_view j = ap sent_by (get-empty nat_cmp j)
 
-pub nobody_hears : AreHeard [] first_moment
+pub nobody_hears : AreHeard [] (first_moment false)
 nobody_hears = same_function _ _ no_view
 
-pub nothing_sent : AreSent first_moment (views_of first_moment.exits)
+pub nothing_sent : AreSent (first_moment false) (views_of (first_moment false).exits)
 nothing_sent = record {
   up = λ j p there up. absurd (let clash : ◌≡◌ {A = Option DeclaredPeer} None (Some p) = there in cc);
   down = λ j down. no_view j;

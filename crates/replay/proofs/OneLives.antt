@@ -3,7 +3,7 @@ use Rattle.std.proofs.Common.{◌≡◌, ℕ, ◌+◌, sym, ap, subst, ◌∙◌
 use Rattle.bgp_wire.specs.Grammar.{EachHasOne}
 use Rattle.bgp_wire.specs.declared.message.Message.{Message}
 use Rattle.event_text.specs.declared.declared.DeclaredPeer.{DeclaredPeer}
-use Rattle.event_text.specs.declared.event.Event.{Event}
+use Rattle.event_text.specs.Event.{Event}
 use Rattle.event_text.specs.declared.event.Event.TheVariants.{Bgp}
 use Rattle.event_text.specs.Declarations.{peer_at}
 use Rattle.live_state.specs.Lives.{LiveState, LiveAfter, HearsFrom, HearsIfUp, heard}

@@ -1,5 +1,5 @@
 -- For each text exactly one output is allowed.
-use Rattle.std.proofs.Common.{◌≡◌, ℕ, ◌+◌, ◌-◌, sym, ap, subst, ◌∙◌, List, [], ◌∷◌, ◌++◌, take, length, Option, Some, None, Result, Ok}
+use Rattle.std.proofs.Common.{◌≡◌, ℕ, ◌+◌, ◌-◌, sym, ap, subst, ◌∙◌, List, [], ◌∷◌, ◌++◌, take, length, Option, Some, None, Result, Ok, false, refl}
 use Rattle.std.proofs.lemmas.Option.{some_pair_parts}
 use Rattle.addr4.specs.Prefixes.{AddressPrefix}
 use Rattle.link_change.specs.Rows.{Rows}
@@ -10,7 +10,7 @@ use Rattle.journal_text.specs.declared.line.Line.TheVariants.{Refused}
 use Rattle.journal_text.specs.declared.link.Link.{Link}
 use Rattle.journal_text.specs.Lines.{Value}
 use Rattle.journal_text.specs.Texts.{line_text, text_of}
-use Rattle.event_text.specs.declared.event.Event.{Event}
+use Rattle.event_text.specs.Event.{Event}
 use Rattle.mrt_reader.specs.Files.{TextsAreOne}
 use Rattle.std.specs.Io.KnownBytes.{Appends}
 use Rattle.check_run.specs.Answers.{answer_text, Judges}
@@ -30,38 +30,37 @@ use Rattle.replay.specs.One.{OutputIsOne, RefusalIsOne, TotalsAreOne, CallsAreOn
 use Rattle.replay.specs.Output.{Step, Run, RunIn, IsOutput}
 use Rattle.replay.specs.Totals.{IsTotal, AreTotalsOf, AreTotals, turns_line, rows_line, total_links}
 use Rattle.replay.specs.Answers.{HasDone, HasRefused, HasBroken}
-use Rattle.replay.proofs.Lines.{accepted_is_read}
-use Rattle.replay.proofs.ReflectionLemmas.{well_formed}
+use Rattle.replay.proofs.ReflectionLemmas.{formed_at, step_family}
 
 -- ---- lines
 pub same_event : (a b : Event) (r : Result Event Code) → r ≡ Ok a → r ≡ Ok b → a ≡ b
 same_event a b r first second = let same : ◌≡◌ {A = Result Event Code} (Ok a) (Ok b) = sym first ∙ second in cc
 
 -- a line that is stepped leaves no choice
-step_is_one : BlockIsOne → (n : ℕ) (m one other : Moment) (line : List ℕ) (said more : List Line) → Stands m → (f : Step n m line said one) (g : Step n m line more other) → (said ≡ more) × (f.turns ≡ g.turns) × (one ≡ other)
-step_is_one law n m one other line said more stands f g =
-    law m one other f.event said more f.turns g.turns stands (well_formed m.declared.profile line f.event (accepted_is_read n m.declared line f.event f.accepted)) f.acts.block
+step_is_one : BlockIsOne → (n : ℕ) (m one other : Moment) (line : List ℕ) (said more : List Line) → Stands m → m.declared.v6 ≡ false → (f : Step n m line said one) (g : Step n m line more other) → (said ≡ more) × (f.turns ≡ g.turns) × (one ≡ other)
+step_is_one law n m one other line said more stands first f g =
+    law m one other f.event said more f.turns g.turns stands (formed_at n m line f.event first f.accepted) f.acts.block
     (subst (λ (e : Event). IsBlock m e more g.turns other) (same_event g.event f.event (judge n m.declared line) g.accepted f.accepted) g.acts.block)
 
-pub run_is_one : BlockIsOne → (n : ℕ) (m one other : Moment) (lines : List (List ℕ)) (out more : List Line) → Stands m → Run n m lines out one → Run n m lines more other → (out ≡ more) × (one ≡ other)
-run_is_one law n m one other [] out more stands f g = (f.0 ∙ sym g.0, f.1 ∙ sym g.1)
-run_is_one law n m one other (line ∷ lines) out more stands f g =
-    let first = step_is_one law n m f.2 g.2 line f.0 g.0 stands f.3 g.3 in
-    let rest = run_is_one law (n + 1) f.2 one other lines f.1 g.1 f.3.acts.stands f.5 (subst (λ (x : Moment). Run (n + 1) x lines g.1 other) (sym first.2) g.5) in
+pub run_is_one : BlockIsOne → (n : ℕ) (m one other : Moment) (lines : List (List ℕ)) (out more : List Line) → Stands m → m.declared.v6 ≡ false → Run n m lines out one → Run n m lines more other → (out ≡ more) × (one ≡ other)
+run_is_one law n m one other [] out more stands family f g = (f.0 ∙ sym g.0, f.1 ∙ sym g.1)
+run_is_one law n m one other (line ∷ lines) out more stands family f g =
+    let first = step_is_one law n m f.2 g.2 line f.0 g.0 stands family f.3 g.3 in
+    let rest = run_is_one law (n + 1) f.2 one other lines f.1 g.1 f.3.acts.stands (step_family n m f.2 line f.0 family f.3) f.5 (subst (λ (x : Moment). Run (n + 1) x lines g.1 other) (sym first.2) g.5) in
     (f.4 ∙ ap (λ (l : List Line). l ++ f.1) first.0 ∙ ap (λ (l : List Line). g.0 ++ l) rest.0 ∙ sym g.4, rest.1)
 
 -- and takes as many turns
-turns_are_one : BlockIsOne → (n : ℕ) (m one other : Moment) (lines : List (List ℕ)) (out more : List Line) (turns count : ℕ) → Stands m → RunIn n m lines out one turns → RunIn n m lines more other count → turns ≡ count
-turns_are_one law n m one other [] out more turns count stands f g = f.2 ∙ sym g.2
-turns_are_one law n m one other (line ∷ lines) out more turns count stands f g =
-    let first = step_is_one law n m f.2 g.2 line f.0 g.0 stands f.4 g.4 in
-    let rest = turns_are_one law (n + 1) f.2 one other lines f.1 g.1 f.3 g.3 f.4.acts.stands f.7 (subst (λ (x : Moment). RunIn (n + 1) x lines g.1 other g.3) (sym first.2) g.7) in
+turns_are_one : BlockIsOne → (n : ℕ) (m one other : Moment) (lines : List (List ℕ)) (out more : List Line) (turns count : ℕ) → Stands m → m.declared.v6 ≡ false → RunIn n m lines out one turns → RunIn n m lines more other count → turns ≡ count
+turns_are_one law n m one other [] out more turns count stands family f g = f.2 ∙ sym g.2
+turns_are_one law n m one other (line ∷ lines) out more turns count stands family f g =
+    let first = step_is_one law n m f.2 g.2 line f.0 g.0 stands family f.4 g.4 in
+    let rest = turns_are_one law (n + 1) f.2 one other lines f.1 g.1 f.3 g.3 f.4.acts.stands (step_family n m f.2 line f.0 family f.4) f.7 (subst (λ (x : Moment). RunIn (n + 1) x lines g.1 other g.3) (sym first.2) g.7) in
     f.6 ∙ ap (λ (x : ℕ). x + f.3) first.1 ∙ ap (λ (x : ℕ). g.4.turns + x) rest ∙ sym g.6
 
 -- ---- outputs
 module _ (block : BlockIsOne) (stands : FirstStands) where
   pub output_is_one : OutputIsOne
-  output_is_one quiet lines one other f g = f.text ∙ ap (text_of quiet) (run_is_one block 1 first_moment f.end g.end lines f.out g.out stands f.run g.run).0 ∙ sym g.text
+  output_is_one quiet lines one other f g = f.text ∙ ap (text_of false quiet) (run_is_one block 1 (first_moment false) f.end g.end lines f.out g.out (stands false) refl f.run g.run).0 ∙ sym g.text
 
   same_refusal : (a b : ℕ) (c d : Code) (o : Option (ℕ × Code)) → o ≡ Some (a, c) → o ≡ Some (b, d) → (a ≡ b) × (c ≡ d)
   same_refusal a b c d o first second = let same : ◌≡◌ {A = Option (ℕ × Code)} (Some (a, c)) (Some (b, d)) = sym first ∙ second in some_pair_parts a b c d same
@@ -70,8 +69,8 @@ module _ (block : BlockIsOne) (stands : FirstStands) where
   refusal_is_one quiet text one other f g =
       let same = same_refusal f.number g.number f.code g.code (verdict text) f.refused g.refused in
       let earlier : f.earlier ≡ g.earlier = output_is_one quiet (take (g.number - 1) (lines_of text)) f.earlier g.earlier (subst (λ (n : ℕ). IsOutput quiet (take (n - 1) (lines_of text)) f.earlier) same.0 f.output) g.output in
-      f.written ∙ ap (λ (bytes : List ℕ). bytes ++ line_text (Refused f.number f.code)) earlier ∙ ap (λ (n : ℕ). g.earlier ++ line_text (Refused n f.code)) same.0
-      ∙ ap (λ (c : Code). g.earlier ++ line_text (Refused g.number c)) same.1 ∙ sym g.written
+      f.written ∙ ap (λ (bytes : List ℕ). bytes ++ line_text false (Refused f.number f.code)) earlier ∙ ap (λ (n : ℕ). g.earlier ++ line_text false (Refused n f.code)) same.0
+      ∙ ap (λ (c : Code). g.earlier ++ line_text false (Refused g.number c)) same.1 ∙ sym g.written
 
   -- ---- totals
   module _ (listing : ListingIsOne) where
@@ -91,8 +90,8 @@ module _ (block : BlockIsOne) (stands : FirstStands) where
     totals_are_one quiet text one other f g =
         let first = f.output in
         let second = g.output in
-        let end : f.end ≡ g.end = sym first.at ∙ (run_is_one block 1 first_moment first.output.end second.output.end (lines_of text) first.output.out second.output.out stands first.output.run second.output.run).1 ∙ second.at in
-        let turns : f.turns ≡ g.turns = turns_are_one block 1 first_moment first.output.end second.output.end (lines_of text) first.output.out second.output.out f.turns g.turns stands first.taken second.taken in
+        let end : f.end ≡ g.end = sym first.at ∙ (run_is_one block 1 (first_moment false) first.output.end second.output.end (lines_of text) first.output.out second.output.out (stands false) refl first.output.run second.output.run).1 ∙ second.at in
+        let turns : f.turns ≡ g.turns = turns_are_one block 1 (first_moment false) first.output.end second.output.end (lines_of text) first.output.out second.output.out f.turns g.turns (stands false) refl first.taken second.taken in
         let totals : f.totals ≡ g.totals = counted_is_one g.end g.turns f.totals g.totals (subst (λ (n : ℕ). AreTotals g.end n f.totals) turns (subst (λ (m : Moment). AreTotals m f.turns f.totals) end f.counted)) g.counted in
         f.written ∙ ap (λ (bytes : List ℕ). bytes ++ f.totals) (output_is_one quiet (lines_of text) f.earlier g.earlier first.output second.output) ∙ ap (λ (bytes : List ℕ). g.earlier ++ bytes) totals ∙ sym g.written
 

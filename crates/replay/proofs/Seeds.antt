@@ -8,7 +8,7 @@ use Rattle.bgp_attr.specs.Speakers.{Speaker}
 use Rattle.bgp_attr.specs.declared.speaker.Neighbour.{Neighbour}
 use Rattle.journal_text.specs.declared.line.Code.{Code}
 use Rattle.journal_text.specs.declared.line.Code.TheVariants.{E6}
-use Rattle.event_text.specs.declared.event.Event.{Event}
+use Rattle.event_text.specs.Event.{Event}
 use Rattle.event_text.specs.declared.declared.DeclaredPeer.{DeclaredPeer}
 use Rattle.bgp_attr.specs.declared.speaker.Profile.{Profile}
 use Rattle.event_text.specs.Events.{read_event}
@@ -203,7 +203,7 @@ module _ (c : ℕ) (d : Declaration) (r : Ready c d) where
       by true = refl
       by false = refl
 
-  may : (e : Drawn) → c < 65535 → IsOfFour e → refusal_by r.me d.peers (meant e) ≡ None
+  may : (e : Drawn) → c < 65535 → IsOfFour e → refusal_by d.v6 r.me d.peers (meant e) ≡ None
   may (drawn.Announce k x origin med) below h = is_declared k h.0 h.1
   may (drawn.Withdraw k x) below h = is_declared k h.0 h.1
   may (drawn.Down k) below h = is_declared k h.0 h.1
@@ -219,7 +219,7 @@ module _ (c : ℕ) (d : Declaration) (r : Ready c d) where
 
   admits : (e : Drawn) → c < 65535 → IsOfFour e → refusal d (meant e) ≡ None
   unfolding refusal
-  admits e below h = ap (λ (s : Option Speaker). refusal_at d.profile s d.peers (meant e)) r.speaker ∙ may e below h
+  admits e below h = ap (λ (s : Option Speaker). refusal_at d.v6 d.profile s d.peers (meant e)) r.speaker ∙ may e below h
 
 -- ---- the peers that are drawn
 pick : (b : Bool) (x y : Drawn) → IsOfFour x → IsOfFour y → IsOfFour (cond b x y)
@@ -287,11 +287,11 @@ admitted_then : (d : Declaration) (xs ys : List Event) → AreAdmitted d xs → 
 admitted_then d [] ys f g = g
 admitted_then d (x ∷ xs) ys f g = (f.0, f.1, admitted_then (declared_after d x) xs ys f.2 g)
 
-opening_admitted : AreAdmitted no_declaration opening_events
+opening_admitted : AreAdmitted (no_declaration false) opening_events
 unfolding refusal
 opening_admitted = (refl, refl, (refl, refl, (refl, refl, (refl, refl, (refl, refl, (refl, refl, (refl, refl, (refl, refl, (refl, refl, (refl, refl, tt))))))))))
 
-known_then : (k : ℕ) → 1 ≤ k → k ≤ 4 → is_some (peer_at k (after_all no_declaration opening_events).peers) ≡ true
+known_then : (k : ℕ) → 1 ≤ k → k ≤ 4 → is_some (peer_at k (after_all (no_declaration false) opening_events).peers) ≡ true
 known_then zero low high = absurd (omega (arith, low))
 known_then (suc zero) low high = refl
 known_then (suc (suc zero)) low high = refl
@@ -299,12 +299,12 @@ known_then (suc (suc (suc zero))) low high = refl
 known_then (suc (suc (suc (suc zero)))) low high = refl
 known_then (suc (suc (suc (suc (suc k))))) low high = absurd (omega (arith, high))
 
-opened : Ready 1 (after_all no_declaration opening_events)
+opened : Ready 1 (after_all (no_declaration false) opening_events)
 opened = record { me = _; profile = refl; speaker = refl; known = known_then; few = (omega arith, (omega arith, (omega arith, (omega arith, tt)))) }
 
-admitted : (seed count : ℕ) → count ≤ most_events → AreAdmitted no_declaration (meanings seed count)
+admitted : (seed count : ℕ) → count ≤ most_events → AreAdmitted (no_declaration false) (meanings seed count)
 admitted seed count few =
-    admitted_then no_declaration opening_events _ opening_admitted (drawn_admitted count seed 1 (after_all no_declaration opening_events) opened (omega (arith, few)))
+    admitted_then (no_declaration false) opening_events _ opening_admitted (drawn_admitted count seed 1 (after_all (no_declaration false) opening_events) opened (omega (arith, few)))
 
 -- ---- all lines
 
@@ -323,5 +323,5 @@ few_lines seed count = omega (arith, length-map (draws.events_from count seed ++
 
 pub accepted : LinesAreRead → SeedsAreAccepted
 accepted reads seed count few =
-    ap (verdict_from 1 no_declaration) (lines_read (lines seed count) (meanings seed count) (reads seed count))
-    ∙ accepts_lines 1 no_declaration (lines seed count) (meanings seed count) (omega (arith, few, same_length (lines seed count) (meanings seed count) (reads seed count), few_lines seed count)) (reads seed count) (admitted seed count few)
+    ap (verdict_from 1 (no_declaration false)) (lines_read (lines seed count) (meanings seed count) (reads seed count))
+    ∙ accepts_lines 1 (no_declaration false) (lines seed count) (meanings seed count) (omega (arith, few, same_length (lines seed count) (meanings seed count) (reads seed count), few_lines seed count)) (reads seed count) (admitted seed count few)

@@ -1,7 +1,7 @@
 -- After an idle the links are what the live state alone asks for.
 use Rattle.std.proofs.Common.{◌≡◌, ℕ, List, subst}
 use Rattle.journal_text.specs.Lines.{Line}
-use Rattle.event_text.specs.declared.event.Event.{Event}
+use Rattle.event_text.specs.Event.{Event}
 use Rattle.event_text.specs.declared.event.Event.TheVariants.{Idle}
 use Rattle.router_moments.specs.Moments.{Moment}
 use Rattle.router_moments.specs.Scratch.{IsExact}

@@ -10,10 +10,11 @@ use Rattle.std.specs.Fmt.{decimal}
 use Rattle.addr4.specs.Texts.{parts}
 use Rattle.journal_text.specs.Lines.{Line}
 use Rattle.journal_text.specs.declared.line.Line.TheVariants.{Ignored}
-use Rattle.journal_text.specs.Texts.{line_words, line_text, is_entry, shown, text_of, words_line, dot_number, link_text}
+use Rattle.journal_text.specs.Texts.{line_words, line_text, is_entry, shown, text_of, words_line, dot_number, link_text, link_name}
 use Rattle.journal_text.specs.declared.link.Link.TheVariants.{In, Adv}
-use Rattle.journal_check.specs.Readings.{TextEntry, is_clean, is_skipped, read_or_not, reading_from, reading_of}
-use Rattle.journal_check.specs.Judged.{entries_in, joined, each_read, entries_read, IsChecked}
+use Rattle.journal_check.specs.Entries.{FamilyEntry}
+use Rattle.journal_check.specs.Readings.{is_clean, is_skipped, read_or_not, reading_from, reading_of}
+use Rattle.journal_check.specs.Judged.{entries_given, joined, each_read, entries_read, IsChecked}
 use Rattle.journal_check.specs.Laws.{said}
 use Rattle.journal_check.specs.declared.checked.Checked.TheVariants.{Lawful}
 use Rattle.journal_check.proofs.InkLemmas.{IsInk, AreInk, all_append, ink_by, ink_decimal, ink_wide, printable, words_parted, line_passes}
@@ -62,23 +63,23 @@ both_end : (a b : List ℕ) → EndsWhole a → EndsWhole b → EndsWhole (a ++ 
 both_end a b p (inl none) = subst EndsWhole (sym (ap (λ t. a ++ t) none ∙ append-nil a)) p
 both_end a b p (inr ends) = inr (a ++ ends.0, ap (λ t. a ++ t) ends.1 ∙ sym (append_assoc a ends.0 (10 ∷ [])))
 
-line_ended : (line : Line) → EndsWhole (line_text line)
+line_ended : (line : Line) → EndsWhole (line_text false line)
 unfolding line_text
-line_ended line = inr (join_with_byte 32 (line_words line), refl)
+line_ended line = inr (join_with_byte 32 (line_words false line), refl)
 
 -- so does the text of lines
-pub text_ended : (quiet : Bool) (lines : List Line) → EndsWhole (text_of quiet lines)
+pub text_ended : (quiet : Bool) (lines : List Line) → EndsWhole (text_of false quiet lines)
 text_ended quiet [] = inl refl
-text_ended quiet (line ∷ lines) = both_end (shown quiet line) (text_of quiet lines) (by (quiet && is_entry line)) (text_ended quiet lines)
+text_ended quiet (line ∷ lines) = both_end (shown false quiet line) (text_of false quiet lines) (by (quiet && is_entry line)) (text_ended quiet lines)
   where
-    by : (b : Bool) → EndsWhole (cond b [] (line_text line))
+    by : (b : Bool) → EndsWhole (cond b [] (line_text false line))
     by true = inl refl
     by false = line_ended line
 
 -- ---- lines that say nothing
 
 abbrev pub AreSkipped : List (List ℕ) → Type 0
-AreSkipped lines = AllByRecursion (λ line. reading_of line ≡ said Ignored) lines
+AreSkipped lines = AllByRecursion (λ line. reading_of line ≡ said false Ignored) lines
 
 -- whole lines that say nothing
 pub record IsSkippedText (text : List ℕ) : Type 0 where
@@ -91,18 +92,18 @@ skipped_nothing = record { whole = inl refl; each = tt }
 pub skipped_both : (a b : List ℕ) → IsSkippedText a → IsSkippedText b → IsSkippedText (a ++ b)
 skipped_both a b p q = record {
   whole = both_end a b p.whole q.whole;
-  each = subst AreSkipped (sym (lines_both a b p.whole)) (all_append (λ line. reading_of line ≡ said Ignored) (lines_of a) (lines_of b) p.each q.each);
+  each = subst AreSkipped (sym (lines_both a b p.whole)) (all_append (λ line. reading_of line ≡ said false Ignored) (lines_of a) (lines_of b) p.each q.each);
 }
 
 each_alone : (ys : List (List ℕ)) → AreSkipped ys → each_read ys ≡ Some []
 each_alone [] h = refl
-each_alone (line ∷ ys) h = ap (λ r. joined (entries_in r) (each_read ys)) h.0 ∙ ap (joined (Some [])) (each_alone ys h.1)
+each_alone (line ∷ ys) h = ap (λ r. joined (entries_given r) (each_read ys)) h.0 ∙ ap (joined (Some [])) (each_alone ys h.1)
 
 each_behind : (xs ys : List (List ℕ)) → AreSkipped ys → each_read (xs ++ ys) ≡ each_read xs
 each_behind [] ys h = each_alone ys h
-each_behind (line ∷ xs) ys h = ap (joined (entries_in (reading_of line))) (each_behind xs ys h)
+each_behind (line ∷ xs) ys h = ap (joined (entries_given (reading_of line))) (each_behind xs ys h)
 
-entries_behind : (xs ys : List (List ℕ)) (es : List TextEntry) → AreSkipped ys → length (xs ++ ys) < 4294967296 → length xs < 4294967296 → entries_read xs ≡ Some es → entries_read (xs ++ ys) ≡ Some es
+entries_behind : (xs ys : List (List ℕ)) (es : List FamilyEntry) → AreSkipped ys → length (xs ++ ys) < 4294967296 → length xs < 4294967296 → entries_read xs ≡ Some es → entries_read (xs ++ ys) ≡ Some es
 unfolding entries_read
 entries_behind xs ys es h few before e =
     let now : nat_lt (length (xs ++ ys)) 4294967296 ≡ true = grind (arith, nat_tests) in
@@ -133,7 +134,7 @@ line_short a b p q =
     let size : length (join_with_byte 32 (codes "total" ∷ a ∷ b ∷ [])) ≤ 65536 = omega (arith, p, q, length-append (codes "total") (32 ∷ a ++ 32 ∷ b), length-append a (32 ∷ b)) in
     grind (arith, nat_tests)
 
-total_read : (a b : List ℕ) → IsShortWord a → IsShortWord b → reading_of (join_with_byte 32 (codes "total" ∷ a ∷ b ∷ [])) ≡ said Ignored
+total_read : (a b : List ℕ) → IsShortWord a → IsShortWord b → reading_of (join_with_byte 32 (codes "total" ∷ a ∷ b ∷ [])) ≡ said false Ignored
 unfolding reading_of is_clean is_skipped
 total_read a b p q =
     let line = join_with_byte 32 (codes "total" ∷ a ∷ b ∷ []) in
@@ -161,15 +162,15 @@ number_word n small = record { ink = ink_wide n small; short = omega (arith, len
 dotted : (n : ℕ) → n < 2 ^ 32 → AreInk (dot_number n)
 dotted n small = ((omega arith, omega arith), ink_decimal n (omega (arith, small)))
 
-pub peer_word : (k : ℕ) → k < 2 ^ 32 → IsShortWord (link_text (In k))
-unfolding link_text
+pub peer_word : (k : ℕ) → k < 2 ^ 32 → IsShortWord (link_text false (In k))
+unfolding link_text link_name
 peer_word k small = record {
   ink = all_append IsInk (codes "in") (dot_number k) (ink_by (codes "in") refl) (dotted k small);
   short = omega (arith, length-decimal-le_wide 10 k (omega arith) (omega (arith, small)) (omega (arith, small)), length-append (codes "in") (dot_number k));
 }
 
-pub session_word : (k s : ℕ) → k < 2 ^ 32 → s < 2 ^ 32 → IsShortWord (link_text (Adv k s))
-unfolding link_text
+pub session_word : (k s : ℕ) → k < 2 ^ 32 → s < 2 ^ 32 → IsShortWord (link_text false (Adv k s))
+unfolding link_text link_name
 session_word k s first second = record {
   ink = all_append IsInk (codes "adv" ++ dot_number k) (dot_number s) (all_append IsInk (codes "adv") (dot_number k) (ink_by (codes "adv") refl) (dotted k first)) (dotted s second);
   short =

@@ -1,5 +1,5 @@
 -- The texts of totals.
-use Rattle.std.proofs.Common.{◌≡◌, ℕ, suc, ◌+◌, ◌-◌, ◌^◌, ◌<◌, ◌≤◌, List, [], ◌∷◌, ◌++◌, length, take, drop, get_or, codes, refl, sym, ap, ◌∙◌, arith, subst, append_assoc}
+use Rattle.std.proofs.Common.{◌≡◌, ℕ, suc, ◌+◌, ◌-◌, ◌^◌, ◌<◌, ◌≤◌, List, [], ◌∷◌, ◌++◌, length, take, drop, get_or, codes, refl, sym, ap, ◌∙◌, arith, subst, append_assoc, false}
 use Rattle.std.proofs.lemmas.List.{append-nil, length-drop}
 use Rattle.std.proofs.Math.Seq.{take-length, take-suc}
 use Rattle.journal_text.specs.declared.line.Line.TheVariants.{Rows, Work}
@@ -9,20 +9,20 @@ use Rattle.router_moments.specs.Moments.{Moment, router_links}
 use Rattle.replay.specs.Totals.{Adds, AreTotals, AreTotalsOf, IsTotal, rows_line, total_links, turns_line}
 
 -- a line's text begins with its first word, here one of four bytes
-pub long_work : (turns : ℕ) → 4 ≤ length (line_text (Work turns))
+pub long_work : (turns : ℕ) → 4 ≤ length (line_text false (Work turns))
 unfolding line_text
 long_work turns = omega arith
 
-pub long_rows : (link : Link) (rows : ℕ) → 4 ≤ length (line_text (Rows link rows))
+pub long_rows : (link : Link) (rows : ℕ) → 4 ≤ length (line_text false (Rows link rows))
 unfolding line_text
 long_rows link rows = omega arith
 
 -- another first word
-pub behind_work : (turns : ℕ) → codes "total turns" ++ drop 4 (line_text (Work turns)) ≡ turns_line turns
+pub behind_work : (turns : ℕ) → codes "total turns" ++ drop 4 (line_text false (Work turns)) ≡ turns_line turns
 unfolding line_text
 behind_work turns = refl
 
-pub behind_rows : (link : Link) (rows : ℕ) → codes "total" ++ drop 4 (line_text (Rows link rows)) ≡ rows_line link rows
+pub behind_rows : (link : Link) (rows : ℕ) → codes "total" ++ drop 4 (line_text false (Rows link rows)) ≡ rows_line link rows
 unfolding line_text
 behind_rows link rows = refl
 

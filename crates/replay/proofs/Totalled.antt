@@ -3,7 +3,7 @@ use Rattle.std.proofs.Common.{ℕ, ◌+◌, ◌^◌, ◌<◌, Bool, true, false,
 use Rattle.std.specs.List.{AllByRecursion}
 use Rattle.std.specs.Fmt.{decimal}
 use Rattle.link_change.specs.Rows.{Rows}
-use Rattle.journal_text.specs.Texts.{link_text}
+use Rattle.journal_text.specs.Texts.{link_text, link_name}
 use Rattle.journal_text.specs.Lines.{Line}
 use Rattle.journal_text.specs.declared.link.Link.{Link}
 use Rattle.journal_text.specs.declared.link.Link.TheVariants.{Best, Fib}
@@ -21,7 +21,7 @@ use Rattle.replay.proofs.SkippedTexts.{IsShortWord, IsSkippedText, skipped_nothi
 -- ---- the links whose rows are counted have short names
 
 abbrev IsShortLink : Link → Type 0
-IsShortLink link = IsShortWord (link_text link)
+IsShortLink link = IsShortWord (link_text false link)
 
 sent_short : (k : ℕ) (peers : List DeclaredPeer) → k < 2 ^ 32 → IsCounted peers → AllByRecursion IsShortLink (sent_link k (peer_at k peers))
 sent_short k [] low counted = tt
@@ -32,7 +32,7 @@ sent_short k (p ∷ peers) low counted = by (nat_eq p.words.number k) (sent_shor
     by false later = later
 
 links_short : (peers : List DeclaredPeer) → IsCounted peers → AllByRecursion IsShortLink (total_links peers)
-unfolding link_text
+unfolding link_text link_name
 links_short peers counted =
     let one = sent_short 1 peers (omega arith) counted in
     let two = sent_short 2 peers (omega arith) counted in
@@ -46,9 +46,9 @@ links_short peers counted =
           (
             peer_word 4 (omega arith),
             (
-              word_by (link_text Best) (ink_by (link_text Best) refl) refl,
+              word_by (link_text false Best) (ink_by (link_text false Best) refl) refl,
               (
-                word_by (link_text Fib) (ink_by (link_text Fib) refl) refl,
+                word_by (link_text false Fib) (ink_by (link_text false Fib) refl) refl,
                 all_append IsShortLink (sent_link 1 (peer_at 1 peers)) (sent_link 2 (peer_at 2 peers) ++ (sent_link 3 (peer_at 3 peers) ++ sent_link 4 (peer_at 4 peers))) one
                     (all_append IsShortLink (sent_link 2 (peer_at 2 peers)) (sent_link 3 (peer_at 3 peers) ++ sent_link 4 (peer_at 4 peers)) two
                     (all_append IsShortLink (sent_link 3 (peer_at 3 peers)) (sent_link 4 (peer_at 4 peers)) three four)),
@@ -63,7 +63,7 @@ links_short peers counted =
 
 link_skipped : (link : Link) (rows : Option (Rows Value)) (bytes : List ℕ) → IsShortLink link → IsTotal link rows bytes → IsSkippedText bytes
 link_skipped link None bytes short is = subst IsSkippedText (sym is) skipped_nothing
-link_skipped link (Some rows) bytes short is = subst IsSkippedText (sym is.3) (total_skipped (link_text link) (decimal (length is.0)) short (number_word (length is.0) is.2))
+link_skipped link (Some rows) bytes short is = subst IsSkippedText (sym is.3) (total_skipped (link_text false link) (decimal (length is.0)) short (number_word (length is.0) is.2))
 
 each_skipped : (m : Moment) (links : List Link) (bytes : List ℕ) → AllByRecursion IsShortLink links → AreTotalsOf m links bytes → IsSkippedText bytes
 each_skipped m [] bytes short is = subst IsSkippedText (sym is) skipped_nothing

@@ -1,8 +1,8 @@
 -- Which line is refused.
-use Rattle.std.specs.Prelude.{ℕ, ◌+◌, ◌==◌, if◌then◌else◌, List, [], ◌∷◌, Option, Some, None, Result, Ok, Err}
+use Rattle.std.specs.Prelude.{ℕ, ◌+◌, ◌==◌, if◌then◌else◌, List, [], ◌∷◌, Option, Some, None, Result, Ok, Err, false}
 use Rattle.journal_text.specs.declared.line.Code.{Code}
 use Rattle.journal_text.specs.declared.line.Code.TheVariants.{E6}
-use Rattle.event_text.specs.declared.event.Event.{Event}
+use Rattle.event_text.specs.Event.{Event}
 use Rattle.event_text.specs.Events.{read_event}
 use Rattle.event_text.specs.Declarations.{Declaration, no_declaration, refusal}
 use Rattle.live_state.specs.Declared.{declared_after}
@@ -36,7 +36,7 @@ verdict_from n d (line ∷ lines) = refused_or n (judge n d line) (λ event. ver
 
 -- the first refused line of a text and its code; none where the text is accepted
 abbrev pub verdict : List ℕ → Option (ℕ × Code)
-verdict text = verdict_from 1 no_declaration (lines_of text)
+verdict text = verdict_from 1 (no_declaration false) (lines_of text)
 
 -- the status that a verdict asks for
 abbrev pub status_of : Option (ℕ × Code) → Status

@@ -1,11 +1,11 @@
 -- What a run writes.
-use Rattle.std.specs.Prelude.{◌≡◌, ℕ, ◌+◌, ◌-◌, ◌⊎◌, Bool, List, [], ◌∷◌, ◌++◌, take, Some, Ok}
+use Rattle.std.specs.Prelude.{◌≡◌, ℕ, ◌+◌, ◌-◌, ◌⊎◌, Bool, List, [], ◌∷◌, ◌++◌, take, Some, Ok, false}
 use Rattle.journal_text.specs.declared.line.Code.{Code}
 use Rattle.journal_text.specs.Lines.{Line}
 use Rattle.journal_text.specs.declared.line.Line.TheVariants.{Refused}
 use Rattle.journal_text.specs.Texts.{line_text, text_of, entries_of}
 use Rattle.journal_text.specs.Walk.{Leads, no_links}
-use Rattle.event_text.specs.declared.event.Event.{Event}
+use Rattle.event_text.specs.Event.{Event}
 use Rattle.event_text.specs.declared.event.Event.TheVariants.{Idle}
 use Rattle.router_moments.specs.Moments.{Moment, first_moment, router_links}
 use Rattle.router_moments.specs.Stands.{Stands}
@@ -59,19 +59,19 @@ LiveThrough n live (line ∷ lines) end =
 pub record IsOutput (quiet : Bool) (lines : List (List ℕ)) (bytes : List ℕ) : Type 0 where
   pub out : List Line
   pub end : Moment
-  pub run : Run 1 first_moment lines out end
+  pub run : Run 1 (first_moment false) lines out end
   pub lawful : Leads no_links (entries_of out) (router_links end)
-  pub live : LiveThrough 1 first_live lines (live_state end)
+  pub live : LiveThrough 1 (first_live false) lines (live_state end)
   pub heard : AreHeard out end
   pub sent : AreSent end (views_of end.exits)
   pub stands : Stands end
-  pub text : bytes ≡ text_of quiet out
+  pub text : bytes ≡ text_of false quiet out
 
 -- An allowed output that leads to this moment, in so many turns.
 pub record IsOutputTo (quiet : Bool) (lines : List (List ℕ)) (bytes : List ℕ) (m : Moment) (turns : ℕ) : Type 0 where
   pub output : IsOutput quiet lines bytes
   pub at : output.end ≡ m
-  pub taken : RunIn 1 first_moment lines output.out output.end turns
+  pub taken : RunIn 1 (first_moment false) lines output.out output.end turns
 
 -- The output for a text with a refused line: an allowed one for the lines before it, and then that it is refused.
 pub record IsRefusedOutput (quiet : Bool) (text bytes : List ℕ) : Type 0 where
@@ -80,7 +80,7 @@ pub record IsRefusedOutput (quiet : Bool) (text bytes : List ℕ) : Type 0 where
   pub refused : verdict text ≡ Some (number, code)
   pub earlier : List ℕ
   pub output : IsOutput quiet (take (number - 1) (lines_of text)) earlier
-  pub written : bytes ≡ earlier ++ line_text (Refused number code)
+  pub written : bytes ≡ earlier ++ line_text false (Refused number code)
 
 -- An allowed output for some first lines of the text, which are all accepted.
 pub record IsOutputOfFront (quiet : Bool) (text bytes : List ℕ) : Type 0 where

@@ -1,5 +1,5 @@
 -- What peers of a route reflector are told (RFC 4456).
-use Rattle.std.specs.Prelude.{◌≡◌, ℕ, true, List, Some}
+use Rattle.std.specs.Prelude.{◌≡◌, ℕ, true, List, Some, false}
 use Rattle.std.specs.FinMap as tables
 use Rattle.addr4.specs.Prefixes.{AddressPrefix}
 use Rattle.bgp_attr.specs.Attributes.{Attrs}
@@ -19,7 +19,7 @@ use Rattle.replay.specs.Output.{Step, Run}
 -- where one of them is a client, with the local ID in front of a CLUSTER_LIST that is one longer than received and didn't have it.
 abbrev pub ReflectedRoutesAreMarked : Type 0
 ReflectedRoutesAreMarked =
-    (lines : List (List ℕ)) (out : List Line) (m : Moment) → Run 1 first_moment lines out m
+    (lines : List (List ℕ)) (out : List Line) (m : Moment) → Run 1 (first_moment false) lines out m
     → (n : ℕ) (line : List ℕ) (said : List Line) (next : Moment) → (step : Step n m line said next) → step.event ≡ Idle
     → (me : Speaker) (j : ℕ) (to : DeclaredPeer) → next.declared.speaker ≡ Some me → peer_at j next.declared.peers ≡ Some to → to.up ≡ true
     → (p : AddressPrefix) (sent : Attrs) → tables.get (views_of next.exits j) p ≡ Some sent → IsBestAsSent (live_state next) me to.words p sent

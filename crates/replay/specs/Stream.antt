@@ -34,12 +34,12 @@ pub record HasStepped (quiet : Bool) (read : List ℕ) (number : ℕ) (m : Momen
   pub count : number ≡ length done + 1
   pub stands : Stands m
   pub out : List Line
-  pub run : Run 1 first_moment (lines_in done) out m
-  pub taken : RunIn 1 first_moment (lines_in done) out m turns
+  pub run : Run 1 (first_moment false) (lines_in done) out m
+  pub taken : RunIn 1 (first_moment false) (lines_in done) out m turns
   pub lawful : Leads no_links (entries_of out) (router_links m)
   pub heard : AreHeard out m
   pub sent : AreSent m (views_of m.exits)
-  pub written : output ≡ text_of quiet out
+  pub written : output ≡ text_of false quiet out
 
 -- However the text goes on, a line of it is refused, with this output.
 abbrev pub IsRefusedAt : Bool → List ℕ → List ℕ → Type 0
@@ -58,13 +58,13 @@ pub record StepsLine (quiet : Bool) (n : ℕ) (old : Moment) (line before now : 
   pub leads : (earlier : List (Entry Value)) → Leads no_links earlier (router_links old) → Leads no_links (earlier ++ entries_of said) (router_links new)
   pub hears : (earlier : List Line) → AreHeard earlier old → AreHeard (earlier ++ said) new
   pub stands : Stands new
-  pub written : now ≡ before ++ text_of quiet said
+  pub written : now ≡ before ++ text_of false quiet said
 
 -- line n was refused, and nothing else was written
 pub record RefusesLine (n : ℕ) (old : Moment) (line before now : List ℕ) : Type 0 where
   pub code : Code
   pub refused : judge n old.declared line ≡ Err code
-  pub written : now ≡ before ++ line_text (Refused n code)
+  pub written : now ≡ before ++ line_text false (Refused n code)
 
 -- what a step of the stream says of all that was read and written so far, where taken was written earlier
 abbrev pub GoesOn : Bool → Bool → (ℕ × Moment × ℕ × List ℕ) → List ℕ → List ℕ → List ℕ → (ℕ × Moment × ℕ × List ℕ) → Type 0

@@ -20,7 +20,7 @@ turns_line turns = words_line (codes "total" ∷ codes "turns" ∷ decimal turns
 
 -- `total LINK ROWS`
 abbrev pub rows_line : Link → ℕ → List ℕ
-rows_line link rows = words_line (codes "total" ∷ link_text link ∷ decimal rows ∷ [])
+rows_line link rows = words_line (codes "total" ∷ link_text false link ∷ decimal rows ∷ [])
 
 -- Something was appended, and this holds of it.
 abbrev pub Adds : (List ℕ → Type 0) → List ℕ → List ℕ → Type 0

@@ -40,8 +40,9 @@ fn judge(
     line: &[u8],
 ) -> Result<Result<Event, Code>, Memory>
     ensures judged { IfOk result (λ answer. answer ≡ judge number core.now.moment.declared line.now) }
-    ensures formed { IfOk result (λ answer. IfOk answer (IsWellFormed core.now.moment.declared.profile)) }
+    ensures formed { IfOk result (λ answer. IfOk answer (IsWellFormed core.now.moment.declared.v6 core.now.moment.declared.profile)) }
 {
+    core.declared().known();
     let event = match parse(alloc, core.declared().profile(), line)? {
         Ok(event) => event,
         Err(code) => return Ok(Err(code)),
@@ -68,6 +69,7 @@ pub fn step_line(
     ensures refused { IfOk result (λ turns. turns ≡ None → RefusesLine number core.old.moment line.now (made journal.old) (made journal.new)) }
     ensures quiet { OnOk result (journal.new.quiet ≡ journal.old.quiet) }
 {
+    journal.known();
     match judge(alloc, core, number, line)? {
         Ok(event) => {
             let turns = core.step(event, journal)?;

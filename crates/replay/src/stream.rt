@@ -81,6 +81,7 @@ impl Stream {
         ensures ready { OnOk result (IsReady self.new.number self.new.core) }
         ensures quiet { OnOk result (journal.new.quiet ≡ journal.old.quiet) }
     {
+        journal.known();
         if part.len() > LONGEST_PART - self.pending.len() {
             journal.push_line(Line::Refused(self.number, Code::E1))?;
             return Ok(false);

@@ -1,6 +1,6 @@
 //! The totals that end the output of generated events.
 
-ghost use Rattle.std.specs.Prelude.{◌≡◌, ◌≤◌, ◌⊎◌, ◌++◌, ℕ, List, drop, length, OnOk, IfOk};
+ghost use Rattle.std.specs.Prelude.{◌≡◌, ◌≤◌, ◌⊎◌, ◌++◌, ℕ, List, drop, length, OnOk, IfOk, false};
 ghost use Rattle.edge_io.specs.Causes.{Rose};
 ghost use Rattle.check_run.specs.Runs.{Writes, IsFrontOf};
 ghost use Rattle.journal_text.specs.Texts.{line_text};
@@ -23,7 +23,7 @@ const FIRST_WORD: usize = 4;
 
 /// The text of a line that is no entry.
 fn text_of_line(alloc: Global, line: Line) -> Result<Vec<u8>, Memory>
-    ensures { IfOk result (λ text. text.items ≡ line_text line) }
+    ensures { IfOk result (λ text. text.items ≡ line_text false line) }
 {
     let mut text = Vec::new(alloc);
     push_line(alloc, &mut text, &line)?;

@@ -1,17 +1,12 @@
 -- The links above `fib`, as they are told by the best routes that are lent.
 use Rattle.std.proofs.Common.{◌≡◌, ◌<◌, ◌≤◌, ◌^◌, Bool, true, false, cond, not, ◌||◌, Option, Some, None, is_some, refl, sym, ap, subst, ◌∙◌}
 use Rattle.std.specs.Prelude.{option_map}
-use Rattle.std.specs.Ordering.{ordering_reverse}
-use Rattle.std.specs.declared.cmp.Ordering.{Ordering}
-use Rattle.std.specs.declared.cmp.Ordering.TheVariants.{Less, Equal, Greater}
 use Rattle.addr4.specs.Blocks.{width}
-use Rattle.addr4.specs.Prefixes.{AddressPrefix, prefix_cmp, ComesBefore}
-use Rattle.addr4.specs.Places.{IsBeyond}
-use Rattle.addr4.proofs.PrefixOrder.{prefixes_total, exact_prefixes}
-use Rattle.addr4.proofs.RankLemmas.{further}
+use Rattle.addr4.specs.Prefixes.{AddressPrefix}
 use Rattle.bgp_attr.specs.Routes.{Route}
 use Rattle.link_change.specs.Rows.{Rows, Candidates, IsNextCandidate, CoversRows, with_rows, together}
 use Rattle.link_change.proofs.RowLemmas.{same_function}
+use Rattle.link_change.proofs.WalkLemmas as walk
 use Rattle.rib_route.specs.Rows.{Interior}
 use Rattle.rib_route.specs.Rows.{External}
 use Rattle.rib_route.specs.Rows.{FibRow}
@@ -58,22 +53,16 @@ module _ (best : Rows Route) (link : BgpLink) where
 
   -- none is left
   pub none_more : (place : Option AddressPrefix) → IsNextCandidate Both place None → IsNextCandidate Own place None
-  none_more place next q more = not_own q (next q more)
+  none_more = walk.none_more Both Own not_own
 
   -- the next route is one of the link
   pub one_found : (place : Option AddressPrefix) (p : AddressPrefix) → IsNextCandidate Both place (Some p) → Own p ≡ true → IsNextCandidate Own place (Some p)
-  one_found place p next own = (next.0, own, λ q more less. not_own q (next.2 q more less))
+  one_found = walk.one_found Both Own not_own
 
   -- it isn't, so the walk goes on
-  module _ (place : Option AddressPrefix) (p : AddressPrefix) (next : IsNextCandidate Both place (Some p)) (none : Own p ≡ false) where
-    by_order : (q : AddressPrefix) → IsBeyond place q → (ComesBefore p q → Own q ≡ false) → (o : Ordering) → prefix_cmp q p ≡ o → Own q ≡ false
-    by_order q more later Less e = not_own q (next.2 q more e)
-    by_order q more later Equal e = ap Own (exact_prefixes q p e) ∙ none
-    by_order q more later Greater e = later (prefixes_total.antisymm p q ∙ ap ordering_reverse e)
-
-    pub goes_on : (result : Option AddressPrefix) → IsNextCandidate Own (Some p) result → IsNextCandidate Own place result
-    goes_on None is = λ q more. by_order q more (λ later. is q later) (prefix_cmp q p) refl
-    goes_on (Some r) is = (further place p r next.0 is.0, is.1, λ q more less. by_order q more (λ later. is.2 q later less) (prefix_cmp q p) refl)
+  pub goes_on : (place : Option AddressPrefix) (p : AddressPrefix) → IsNextCandidate Both place (Some p) → Own p ≡ false → (result : Option AddressPrefix)
+      → IsNextCandidate Own (Some p) result → IsNextCandidate Own place result
+  goes_on = walk.goes_on Both Own not_own
 
 -- ---- under what ties the exit to the routes
 module _ (e : RibExit) (best : Rows Route) (stands : StandsOver best e) where

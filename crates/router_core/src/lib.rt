@@ -1,7 +1,6 @@
 //! The router: events and turns of background work, and the lines that they give.
 //!
-//! A [`Core`] has what was declared, a chain of stages for each peer, the tree of the interior routes, and the register of
-//! these. [`Core::step`] steps an event, and its lines go into the text of a journal; it asks that the event may stand there,
+//! A [`Core`] has a network of stages (`router_network`), and counts events. [`Core::step`] steps an event, and its lines go into the text of a journal; it asks that the event may stand there,
 //! as `event_text` judges. [`Core::unit`], [`Core::drain`] and [`Core::idle`] do background work alone: one turn of a task, a
 //! phase of an idle, all of it. [`Core::chain`], [`Core::resolver`], [`Core::tree`], [`Core::external`] and [`Core::count`] look
 //! at what is there. Each turn's lines are made into text at once, so that a long idle holds few lines.
@@ -19,22 +18,8 @@
 //! For want of memory a call answers `Memory`, and from then on each further call does: what was half done is never seen.
 #![tactic(auto)]
 
-mod best;
-mod candidates;
-mod exits;
-mod forwarding;
-mod hops;
-mod lookups;
-mod network;
-mod own;
-mod peers;
-mod reads;
 mod router;
-mod routes;
-mod sessions;
-mod settled;
 mod steps;
-mod turns;
 mod updates;
 
 pub use router::Core;

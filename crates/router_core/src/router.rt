@@ -17,7 +17,7 @@ ghost use Rattle.router_moments.specs.Blocks.{Acts};
 ghost use Rattle.router_moments.specs.Lookups.{IsCountOf};
 ghost use Rattle.router_moments.specs.Works.{Comes, HaveDrained, HasIdled};
 
-use crate::network::Network;
+use crate::steps::step;
 use addr4::{Family, Memory, Prefix, V4};
 use decision::Contests;
 use event_text::{Declared, Event};
@@ -28,6 +28,7 @@ use nexthop_resolver::{Metric, Resolver};
 use rib_exit::RibExit;
 use rib_tree::{Tree, a_new_tree_stands};
 use router_moments::{Done, Idle, Phase, rows_at_rest_are_exact, the_first_task_tells};
+use router_network::Network;
 use std::alloc::Global;
 use std::marker::Model;
 
@@ -43,10 +44,10 @@ pub struct Core {
 impl Model for Core {
     ghost use Rattle.std.specs.Prelude.{◌≡◌, false};
     ghost use Rattle.std.specs.Coded.{coded_option};
-    ghost use Rattle.router_core.specs.Informed.{Informed};
+    ghost use Rattle.router_network.specs.Informed.{Informed};
     ghost use Rattle.router_moments.specs.Stands.{HaveReaders};
     ghost use Rattle.router_moments.specs.Moments.{Cored, cored_code, moment_code};
-    ghost use Rattle.router_core.specs.contracts.exits.Policies as policies_row;
+    ghost use Rattle.router_network.specs.contracts.exits.Policies as policies_row;
     ghost use Rattle.exit_side.specs.contracts.exits.Exits as exits_row;
     ghost use Rattle.fanout_queue.specs.contracts.reader.Reader as reader_row;
     ghost use Rattle.redist.specs.contracts.stage.Redist as redist_row;
@@ -78,7 +79,7 @@ impl Model for Core {
 impl Core {
     /// Nothing is declared, and no link is live. Takes no memory.
     pub fn new(alloc: Global) -> Core
-        ensures value { result ≡ record { moment = first_moment; events = 0; failed = false } }
+        ensures value { result ≡ record { moment = (first_moment false); events = 0; failed = false } }
         ensures stands { CoreStands result }
     {
         a_new_tree_stands();
@@ -94,7 +95,7 @@ impl Core {
     pub fn declared(&self) -> &Declared
         ensures { result.now ≡ self.now.moment.declared }
     {
-        &self.network.declared
+        self.network.declared()
     }
 
     /// How many events were stepped.
@@ -116,7 +117,7 @@ impl Core {
     pub fn tree(&self) -> &Tree
         ensures { result.now ≡ self.now.moment.tree }
     {
-        &self.network.tree
+        self.network.tree()
     }
 
     /// The next hops of a peer's routes, which are known exactly where rows of its `filt.K` name them, with the metrics by
@@ -124,7 +125,7 @@ impl Core {
     pub fn resolver(&self, number: u32) -> Option<&Resolver<Metric>>
         ensures { option_copied result ≡ resolver_at number self.now.moment.hops }
     {
-        self.network.hops.resolver(number)
+        self.network.resolver(number)
     }
 
     /// The external routes on their way to the forwarding table: their rows, and the next hops that these name, with the
@@ -132,7 +133,7 @@ impl Core {
     pub fn external(&self) -> &RibExit
         ensures { result.now ≡ self.now.moment.rib }
     {
-        &self.network.rib
+        self.network.external()
     }
 
     /// Whether a prefix is settled. The first task, in the order of an idle, whose work holds it up, which then has work; None
@@ -163,7 +164,7 @@ impl Core {
     /// that the live state alone asks for. After want of memory the core answers nothing else.
     pub fn step(&mut self, event: Event, journal: &mut Journal) -> Result<u128, Memory>
         requires admitted { refusal self.old.moment.declared event ≡ None }
-        requires formed { IsWellFormed self.old.moment.declared.profile event }
+        requires formed { IsWellFormed self.old.moment.declared.v6 self.old.moment.declared.profile event }
         requires few { self.old.events < 4294967295 }
         requires stands { self.old.failed ≡ false → CoreStands self.old }
         ensures acts { IfOk result (λ turns. Gives (Acts self.old.moment event turns self.new.moment) journal.old journal.new) }
@@ -181,7 +182,7 @@ impl Core {
         rows_at_rest_are_exact();
         declarations_follow();
         self.failed = true;
-        let turns = self.network.step(event, &mut self.contests, journal)?;
+        let turns = step(&mut self.network, event, &mut self.contests, journal)?;
         self.events += 1;
         self.failed = false;
         Ok(turns)

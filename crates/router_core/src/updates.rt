@@ -1,31 +1,32 @@
-//! What an UPDATE does to a peer's routes, prefix by prefix.
+//! What an UPDATE does to a peer's routes of a family, prefix by prefix.
 
 ghost use Rattle.std.specs.Prelude.{◌≡◌, ◌++◌, map, filter, IfOk, OnOk};
 ghost use Rattle.std.specs.BTreeSet.{IsFromIterResult};
 ghost use Rattle.addr4.specs.Prefixes.{prefix_cmp};
-ghost use Rattle.bgp_attr.specs.Hosts.{is_host_prefix};
+ghost use Rattle.addr4.specs.Hosts.{is_host_prefix};
 ghost use Rattle.bgp_wire.specs.Grammar.{without};
-ghost use Rattle.live_state.specs.Messages.{announced_with, changes_of, withdrawn_from};
+ghost use Rattle.live_state.specs.Messages.{announced_with, changes_in, withdrawn_from};
 
-use addr4::{Family, Memory, Prefix, Row};
-use bgp_attr::{Attrs, SharedAttrs, is_host_prefix};
-use bgp_wire::Update;
+use addr4::{Addr, Family, Memory, Prefix, Row};
+use bgp_attr::{Attrs, SharedAttrs};
+use bgp_wire::Said;
+use router_network::again;
 use std::alloc::Global;
 use std::collections::BTreeSet;
 
-/// The changes that an UPDATE makes, in their order: withdrawals (none) of prefixes that it doesn't announce, then
-/// announcements, all with the same attributes.
-pub(crate) fn changes(
+/// The changes that an UPDATE makes to the routes of a family, in their order: withdrawals (none) of prefixes that it doesn't
+/// announce, then announcements, all with the same attributes.
+pub(crate) fn changes<F: Family>(
     alloc: Global,
-    update: Update,
-) -> Result<Vec<(Prefix, Option<SharedAttrs>)>, Memory>
-    ensures { IfOk result (λ changes. changes.items ≡ changes_of update) }
+    said: Said<F>,
+) -> Result<Vec<(Prefix<F>, Option<SharedAttrs<F>>)>, Memory>
+    ensures { IfOk result (λ changes. changes.items ≡ changes_in F.V6 said) }
 {
-    let Update {
+    let Said {
         withdrawn,
         announced,
         attrs,
-    } = update;
+    } = said;
     let attrs = shared(alloc, attrs)?;
     let all = changes_with(alloc, withdrawn.as_slice(), announced.as_slice(), &attrs);
     drop(attrs);
@@ -35,13 +36,13 @@ pub(crate) fn changes(
 }
 
 /// The withdrawals, and then the announcements.
-fn changes_with(
+fn changes_with<F: Family>(
     alloc: Global,
-    withdrawn: &[Prefix],
-    announced: &[Prefix],
-    attrs: &Option<SharedAttrs>,
-) -> Result<Vec<(Prefix, Option<SharedAttrs>)>, Memory>
-    ensures { IfOk result (λ changes. changes.items ≡ map withdrawn_from (without announced.now withdrawn.now) ++ map (announced_with attrs.now) (filter is_host_prefix announced.now)) }
+    withdrawn: &[Prefix<F>],
+    announced: &[Prefix<F>],
+    attrs: &Option<SharedAttrs<F>>,
+) -> Result<Vec<(Prefix<F>, Option<SharedAttrs<F>>)>, Memory>
+    ensures { IfOk result (λ changes. changes.items ≡ map withdrawn_from (without announced.now withdrawn.now) ++ map (announced_with attrs.now) (filter (is_host_prefix F.V6) announced.now)) }
 {
     let mut all = Vec::new(alloc);
     push_withdrawn(alloc, &mut all, withdrawn, announced)?;
@@ -50,7 +51,10 @@ fn changes_with(
 }
 
 /// The attributes, to be shared by all prefixes.
-fn shared(alloc: Global, attrs: Option<Attrs>) -> Result<Option<SharedAttrs>, Memory>
+fn shared<F: Family>(
+    alloc: Global,
+    attrs: Option<Attrs<Addr<F>>>,
+) -> Result<Option<SharedAttrs<F>>, Memory>
     ensures { IfOk result (λ shared. shared ≡ attrs) }
 {
     match attrs {
@@ -59,24 +63,12 @@ fn shared(alloc: Global, attrs: Option<Attrs>) -> Result<Option<SharedAttrs>, Me
     }
 }
 
-/// The same attributes once more. Takes no memory.
-pub(crate) fn again<F: Family>(
-    attrs: &Option<SharedAttrs<F>>,
-) -> Result<Option<SharedAttrs<F>>, Memory>
-    ensures { IfOk result (λ again. again ≡ attrs.now) }
-{
-    match attrs {
-        Some(attrs) => Ok(Some(attrs.copy()?)),
-        None => Ok(None),
-    }
-}
-
 /// Withdrawals of the prefixes that aren't announced too.
-fn push_withdrawn(
+fn push_withdrawn<F: Family>(
     alloc: Global,
-    all: &mut Vec<(Prefix, Option<SharedAttrs>)>,
-    withdrawn: &[Prefix],
-    announced: &[Prefix],
+    all: &mut Vec<(Prefix<F>, Option<SharedAttrs<F>>)>,
+    withdrawn: &[Prefix<F>],
+    announced: &[Prefix<F>],
 ) -> Result<(), Memory>
     ensures { OnOk result (all.new.items ≡ all.old.items ++ map withdrawn_from (without announced.now withdrawn.now)) }
 {
@@ -92,22 +84,22 @@ fn push_withdrawn(
     Ok(())
 }
 
-fn set_of(alloc: Global, prefixes: &[Prefix]) -> Result<BTreeSet<Prefix>, Memory>
+fn set_of<F: Family>(alloc: Global, prefixes: &[Prefix<F>]) -> Result<BTreeSet<Prefix<F>>, Memory>
     ensures { IfOk result (IsFromIterResult prefix_cmp prefixes.now) }
 {
     Ok(prefixes.iter().copied().collect(alloc)?)
 }
 
 /// Announcements of the prefixes of hosts.
-fn push_announced(
-    all: &mut Vec<(Prefix, Option<SharedAttrs>)>,
-    announced: &[Prefix],
-    attrs: &Option<SharedAttrs>,
+fn push_announced<F: Family>(
+    all: &mut Vec<(Prefix<F>, Option<SharedAttrs<F>>)>,
+    announced: &[Prefix<F>],
+    attrs: &Option<SharedAttrs<F>>,
 ) -> Result<(), Memory>
-    ensures { OnOk result (all.new.items ≡ all.old.items ++ map (announced_with attrs.now) (filter is_host_prefix announced.now)) }
+    ensures { OnOk result (all.new.items ≡ all.old.items ++ map (announced_with attrs.now) (filter (is_host_prefix F.V6) announced.now)) }
 {
     for prefix in announced {
-        if is_host_prefix(*prefix) {
+        if prefix.is_of_hosts() {
             all.push((*prefix, again(attrs)?))?;
         }
     }

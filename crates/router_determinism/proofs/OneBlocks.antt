@@ -122,7 +122,7 @@ module _ (laws : PartsAreOne) (m : Moment) (said other : List Line) (turns more 
       (f.lines ∙ ap (λ (l : List Line). l ++ lines.Work turns ∷ []) one.0 ∙ ap (λ (x : ℕ). g.inner ++ lines.Work x ∷ []) count ∙ sym g.lines, count, one.1)
 
   -- ---- a line for each kind of event
-  pub block_is_one : EachHasOne → (event : Event) → IsWellFormed m.declared.profile event → IsBlock m event said turns m1 → IsBlock m event other more m2 → OneStep said turns m1 other more m2
+  pub block_is_one : EachHasOne → (event : Event) → IsWellFormed m.declared.v6 m.declared.profile event → IsBlock m event said turns m1 → IsBlock m event other more m2 → OneStep said turns m1 other more m2
   block_is_one law Nothing formed f g = just_one _ _ said other turns more m1 m2 f g
   block_is_one law As4 formed f g = just_one _ _ said other turns more m1 m2 f g
   block_is_one law Revised formed f g = just_one _ _ said other turns more m1 m2 f g

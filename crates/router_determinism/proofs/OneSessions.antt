@@ -76,7 +76,7 @@ module _ (laws : PartsAreOne) where
   -- ---- a message of a peer that is up
   pub hearing_is_one : (k : ℕ) (p : DeclaredPeer) (m : Moment) (message : Message) (said other : List Line) (m1 m2 : Moment) → Stands m → IsUpAt k m → IsHeardMessage m.declared.profile message
       → Hears k p m message said m1 → Hears k p m message other m2 → One said m1 other m2
-  hearing_is_one k p m (messages.Update u) said other m1 m2 stands up heard f g = feeds_are_one k (changes_of u) m said other m1 m2 stands up (changes_heard m.declared.profile u heard) f g
+  hearing_is_one k p m (messages.Update u) said other m1 m2 stands up heard f g = feeds_are_one k (changes_of m.declared.profile u) m said other m1 m2 stands up (changes_heard m.declared.profile u heard) f g
   hearing_is_one k p m messages.Keepalive said other m1 m2 stands up heard f g = (f.0 ∙ sym g.0, f.1 ∙ sym g.1)
   hearing_is_one k p m messages.Skip said other m1 m2 stands up heard f g = (f.0 ∙ sym g.0, f.1 ∙ sym g.1)
   hearing_is_one k p m messages.Notification said other m1 m2 stands up heard f g = loss_is_one k p.session m said other m1 m2 stands f g

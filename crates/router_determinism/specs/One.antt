@@ -5,7 +5,7 @@ use Rattle.link_change.specs.Rows.{Rows}
 use Rattle.journal_text.specs.Lines.{Line}
 use Rattle.journal_text.specs.declared.link.Task.{Task}
 use Rattle.journal_text.specs.Lines.{Value}
-use Rattle.event_text.specs.declared.event.Event.{Event}
+use Rattle.event_text.specs.Event.{Event}
 use Rattle.event_text.specs.WellFormed.{IsWellFormed}
 use Rattle.router_moments.specs.declared.tasks.Phase.{Phase}
 use Rattle.router_moments.specs.Moments.{Moment}
@@ -42,7 +42,7 @@ PhasesAreOne =
 -- What an event does is one.
 abbrev pub BlockIsOne : Type 0
 BlockIsOne =
-    (m one other : Moment) (event : Event) (said more : List Line) (turns count : ℕ) → Stands m → IsWellFormed m.declared.profile event
+    (m one other : Moment) (event : Event) (said more : List Line) (turns count : ℕ) → Stands m → IsWellFormed m.declared.v6 m.declared.profile event
     → IsBlock m event said turns one → IsBlock m event more count other → (said ≡ more) × (turns ≡ count) × (one ≡ other)
 
 -- The rows of a link, by prefix, are one list.

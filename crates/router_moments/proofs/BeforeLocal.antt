@@ -10,7 +10,7 @@ pub local_first : (d : Declaration) (words : Speaker) → refusal d (events.Loca
 unfolding refusal
 local_first d words e = by_speaker d.speaker e
   where
-    by_speaker : (s : Option Speaker) → refusal_at d.profile s d.peers (events.Local words) ≡ None → s ≡ None
+    by_speaker : (s : Option Speaker) → refusal_at d.v6 d.profile s d.peers (events.Local words) ≡ None → s ≡ None
     by_speaker None e = refl
     by_speaker (Some me) e = absurd (cc)
 

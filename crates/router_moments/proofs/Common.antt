@@ -12,7 +12,7 @@ pub use Rattle.std.specs.Ordering.{nat_cmp, eq_by_cmp}
 pub use Rattle.addr4.proofs.PrefixOrder.{itself}
 pub use Rattle.addr4.specs.Places.{key_of}
 pub use Rattle.addr4.specs.Prefixes.{AddressPrefix, prefix_cmp}
-pub use Rattle.bgp_attr.specs.Hosts.{is_host_prefix}
+pub use Rattle.addr4.specs.Hosts.{is_host_prefix}
 pub use Rattle.bgp_attr.specs.Attributes.{Attrs}
 pub use Rattle.bgp_attr.specs.Routes.{Route}
 pub use Rattle.bgp_attr.specs.declared.speaker.Neighbour.{Neighbour}
@@ -27,7 +27,7 @@ pub use Rattle.event_text.proofs.Sessions.{begun_words}
 pub use Rattle.event_text.specs.Declarations.{peer_at, Declaration, with_session, with_four_octets, with_revised, with_reflection, without_session, begun_at, refusal_at}
 pub use Rattle.event_text.specs.WellFormed.{IsWellFormed}
 pub use Rattle.event_text.specs.declared.declared.DeclaredPeer.{DeclaredPeer}
-pub use Rattle.event_text.specs.declared.event.Event.{Event}
+pub use Rattle.event_text.specs.Event.{Event}
 pub use Rattle.event_text.specs.declared.event.Event.TheVariants.{Down, Bgp, RouteAdd, RouteDel, Lose, Cover, Settled, Work, As4, Revised, Reflect, Up, Redist}
 pub use Rattle.exit_laws.proofs.HearLemmas.{unheard_joins}
 pub use Rattle.exit_laws.proofs.OtherLemmas.{others_are_unheard}
@@ -43,7 +43,7 @@ pub use Rattle.hop_side.specs.Steps.{GoesOn, ComesOn, LeadsRes, HasNoInterest}
 pub use Rattle.in_chain.proofs.TurnLemmas.{candidates_are_counted}
 pub use Rattle.in_chain.specs.Chains.{Chained, filt_rows, filt_candidates}
 pub use Rattle.in_chain.specs.Steps.{welded, fed}
-pub use Rattle.journal_check.specs.Laws.{IsPrefix}
+pub use Rattle.addr4.specs.Families.{IsIpv4Prefix}
 pub use Rattle.journal_laws.proofs.PrintedHops.{AllHaveMetrics}
 pub use Rattle.journal_laws.proofs.PrintedRows.{Prints, IsFit}
 pub use Rattle.journal_laws.specs.Peers.{neighbours, words_in}

@@ -2,7 +2,7 @@
 use Rattle.router_moments.proofs.Common.{sym, subst, ◌∙◌, ap, ◌≡◌, ℕ, refl, List, true, arith, false, ◌+◌, Bool, ◌≤◌, ◌<◌, get-empty, nat_cmp, AddressPrefix, Route, Profile, peer_at, Declaration, IsWellFormed, DeclaredPeer, Event, ArePrintableExits, Chained, neighbours, AreTablesOf, IsInteriorRow, IsPrintableChain, Journaled, Line, Task, Change, declared_after, LiveState, Hop, Resolving, Metric, OutChained, chain_at, Proto, Interior, of_new, branch_of, first_held, FirstHeldTells, RowsAtRestAreExact, live_state, Moment, best_of, Gives, all_phases, ArePrinted, IsPrintableMoment, Tells, Stands, ExitsAt, AllHaveExits, StandsAt, HaveReaders, HasStepped, Keeps, TakesTurn, RunsOut, HaveSameExits, Done, Taken, Phase}
 use Rattle.std.proofs.Common.{length, Option, Some, None, is_some}
 use Rattle.std.specs.FinMap.{len-empty}
-use Rattle.event_text.specs.Declarations.{plain, refusal}
+use Rattle.event_text.specs.Declarations.{plain, plain_of, refusal}
 use Rattle.link_change.proofs.RowLemmas.{empty_rows}
 use Rattle.rib_tree.specs.Trees.{AreNumbered}
 use Rattle.rib_tree.specs.Steps.{new_tree}
@@ -18,7 +18,7 @@ use Rattle.journal_laws.specs.Peers.{KeepsPeers}
 use Rattle.router_moments.proofs.KeepLemmas.{acts_of}
 use Rattle.router_moments.proofs.TurnWalks.{turn_same, phase_same, phases_same}
 use Rattle.router_moments.proofs.ExitsUp.{event_exits}
-use Rattle.router_moments.proofs.ProfileLemmas.{profile_after, profile_follows, nothing_printable}
+use Rattle.router_moments.proofs.ProfileLemmas.{profile_after, profile_follows, family_follows, nothing_printable}
 use Rattle.router_moments.proofs.SessionLemmas.{reads_as}
 use Rattle.live_state.proofs.SessionLemmas.{losses_follow}
 use Rattle.rib_tree.proofs.NewLemmas.{int_empty}
@@ -52,7 +52,7 @@ record Prints (m m' : Moment) (said : List Line) : Type 0 where
   lines : ArePrinted m.declared said
   peers : KeepsPeers m.declared m'.declared
 
-step_prints : (m m' : Moment) (event : Event) (turns : ℕ) (said : List Line) → DeclarationsFollow → Stands m → IsPrintableMoment m → AreNumbered 4294967294 m.tree → refusal m.declared event ≡ None → IsWellFormed m.declared.profile event → HasStepped m event turns m' said
+step_prints : (m m' : Moment) (event : Event) (turns : ℕ) (said : List Line) → DeclarationsFollow → Stands m → IsPrintableMoment m → AreNumbered 4294967294 m.tree → refusal m.declared event ≡ None → IsWellFormed m.declared.v6 m.declared.profile event → HasStepped m event turns m' said
     → Prints m m' said
 step_prints m m' event turns said follow stands printable few admitted formed h =
     let l = event_printed m stands printable few event said turns m' admitted formed h.block in
@@ -61,6 +61,7 @@ step_prints m m' event turns said follow stands printable few admitted formed h 
     let profile : profile_after m.declared.profile event ≡ m'.declared.profile = profile_follows m.declared event ∙ ap (λ (x : Declaration). x.profile) is in
     record {
       now = record {
+        first = ap (λ (x : Declaration). x.v6) (sym is) ∙ family_follows m.declared event ∙ printable.first;
         declared = d.declared;
         chains = subst (λ (f : Profile). (k : ℕ) (c : Chained) → chain_at k m'.chains ≡ Some c → IsPrintableChain f c) profile l.chains;
         interior = l.interior;
@@ -100,9 +101,9 @@ module _ (old : Cored) (m : Moment) (n : ℕ) (failed : Bool) (view : record { m
   pub few_losses : n < 4294967295 → AreNumbered 4294967294 m.tree
   few_losses few proto = let most = stood.numbered proto in omega (arith, few, most)
 
-  module _ (event : Event) (turns : ℕ) (m' : Moment) (before now : Journaled) (few : old.events < 4294967295) (admitted : refusal old.moment.declared event ≡ None) (formed : IsWellFormed old.moment.declared.profile event) (follow : DeclarationsFollow) (g : Gives (HasStepped m event turns m') before now) where
+  module _ (event : Event) (turns : ℕ) (m' : Moment) (before now : Journaled) (few : old.events < 4294967295) (admitted : refusal old.moment.declared event ≡ None) (formed : IsWellFormed old.moment.declared.v6 old.moment.declared.profile event) (follow : DeclarationsFollow) (g : Gives (HasStepped m event turns m') before now) where
     prints : Prints m m' g.0
-    prints = step_prints m m' event turns g.0 follow stood.stands stood.printable (few_losses (subst (λ (c : Cored). c.events < 4294967295) (sym view) few)) (subst (λ (c : Cored). refusal c.moment.declared event ≡ None) (sym view) admitted) (subst (λ (c : Cored). IsWellFormed c.moment.declared.profile event) (sym view) formed) g.2
+    prints = step_prints m m' event turns g.0 follow stood.stands stood.printable (few_losses (subst (λ (c : Cored). c.events < 4294967295) (sym view) few)) (subst (λ (c : Cored). refusal c.moment.declared event ≡ None) (sym view) admitted) (subst (λ (c : Cored). IsWellFormed c.moment.declared.v6 c.moment.declared.profile event) (sym view) formed) g.2
 
     declared : m'.declared ≡ declared_after m.declared event
     declared = ap (λ (l : LiveState). l.declared) g.2.keeps.live ∙ follow (live_state m) event g.2.live g.2.after
@@ -156,8 +157,8 @@ module _ (old : Cored) (m : Moment) (n : ℕ) (failed : Bool) (view : record { m
       core_worked m' g.0 i.inner g.2.keeps (phases_same all_phases m i.inner idle.turns m' stood.stands i.runs) (phases_go all_phases m i.inner idle.turns m' stood.stands i.runs)
 
 -- ---- the first moment
-first_moment_stands : ANewTreeStands → Stands first_moment
-first_moment_stands law = record {
+pub first_moment_stands : (v6 : Bool) → ANewTreeStands → Stands (first_moment v6)
+first_moment_stands v6 law = record {
   peers = record {
     chains = λ k c at. absurd (let none = get-empty {X = Chained} nat_cmp k in cc);
     each = λ k. subst (StandsAt None) (sym (get-empty {X = Chained} nat_cmp k)) tt;
@@ -177,33 +178,34 @@ first_moment_stands law = record {
   };
   exits = record {
     rows = λ k c at. absurd (let none = get-empty {X = Chained} nat_cmp k in cc);
-    each = (exits_at_first plain).sound;
+    each = (exits_at_first (plain_of v6)).sound;
     all = λ reader unread at. absurd (let none = get-empty {X = List (Change Route)} nat_cmp reader in cc);
-    read = (exits_at_first plain).stand (best_of first_moment);
+    read = (exits_at_first (plain_of v6)).stand (best_of (first_moment v6));
     profile = refl;
     sender = tt;
-    sessions = λ k. subst (λ (o : Option OutChained). ExitsAt None first_moment.outgoing k None o) (sym (get-empty {X = OutChained} nat_cmp k)) tt;
+    sessions = λ k. subst (λ (o : Option OutChained). ExitsAt None (first_moment v6).outgoing k None o) (sym (get-empty {X = OutChained} nat_cmp k)) tt;
     one = tt;
     external = external_at_first.stands;
   };
   external = record {
     sound = external_at_first.sound;
-    agree = external_at_first.agree first_moment.registry (λ s. ap is_some (get-empty {X = Option AddressPrefix} interest_cmp (record { subnet = s; client = 0 })));
+    agree = external_at_first.agree (first_moment v6).registry (λ s. ap is_some (get-empty {X = Option AddressPrefix} interest_cmp (record { subnet = s; client = 0 })));
   };
   waits = record { own = λ before. refl; external = λ before. refl };
 }
 
-pub first_stands : ANewTreeStands → CoreStands (cored first_moment 0)
+pub first_stands : ANewTreeStands → CoreStands (cored (first_moment false) 0)
 first_stands law = record {
   good = refl;
-  stands = first_moment_stands law;
+  stands = first_moment_stands false law;
   printable = record {
+    first = refl;
     declared = refl;
     chains = λ k c at. absurd (let none = get-empty {X = Chained} nat_cmp k in cc);
     interior = new_printable;
     hops = λ k s at. absurd (let none = get-empty {X = Resolving Metric} nat_cmp k in cc);
     ways = λ a h at. absurd (let none = get-empty {X = Hop Way} nat_cmp a in cc);
-    exits = nothing_printable plain (neighbours first_moment.declared);
+    exits = nothing_printable plain refl (neighbours (first_moment false).declared);
   };
   exits = λ k p there up. absurd (let clash : ◌≡◌ {A = Option DeclaredPeer} None (Some p) = there in cc);
   numbered = of_new (λ b. b.losses ≤ 0) (λ k. omega arith);

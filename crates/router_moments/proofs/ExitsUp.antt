@@ -165,10 +165,10 @@ module _ (m m' : Moment) (stands : Stands m) (all : AllHaveExits m) where
   ended_if false k p said turns ups is = stays is.2
 
   heard : (k : ℕ) (p : DeclaredPeer) (message : Message) (said : List Line) → OnlyUp m.declared m'.declared → Hears k p m message said m' → AllHaveExits m'
-  heard k p (messages.Update u) said ups is = by_same m m' all ups (feeds_same k (changes_of u) m said m' is)
+  heard k p (messages.Update u) said ups is = by_same m m' all ups (feeds_same k (changes_of m.declared.profile u) m said m' is)
   heard k p messages.Keepalive said ups is = stays is.1
   heard k p messages.Skip said ups is = stays is.1
-  heard k p (messages.Refresh r) said ups is = by_same m m' all ups (λ j. ap (λ (x : Moment). is_some (exit_at j x.exits)) is.1 ∙ refreshed_exit k m (is_served r) j)
+  heard k p (messages.Refresh r) said ups is = by_same m m' all ups (λ j. ap (λ (x : Moment). is_some (exit_at j x.exits)) is.1 ∙ refreshed_exit k m (is_served m.declared.profile.second r) j)
   heard k p messages.Notification said ups is = lost m m' all k p.session said stands ups is
   heard k p (messages.Notify n) said ups is = lost m m' all k p.session is.0 stands ups is.2
 

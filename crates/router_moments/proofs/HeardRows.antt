@@ -6,7 +6,7 @@ use Rattle.std.specs.Prelude.{filter, map, [], ◌∷◌}
 use Rattle.bgp_wire.specs.Grammar.{Reads, without}
 use Rattle.bgp_wire.specs.Grammar as grammar
 use Rattle.bgp_wire.specs.Attributes.{is_old_form}
-use Rattle.bgp_wire.specs.Readable.{IsReadableSegment, reads_reflection}
+use Rattle.bgp_wire.specs.Readable.{IsReadableSegment, reads_reflection, said_of}
 use Rattle.bgp_wire.specs.Routes.{is_unrecognized}
 use Rattle.bgp_wire.specs.declared.message.Message.TheVariants as messages
 use Rattle.loss_chain.specs.Rows.{AllRows}
@@ -123,10 +123,11 @@ withdrawn_heard : (profile : Profile) (ns : List AddressPrefix) → AreHeard pro
 withdrawn_heard profile [] = tt
 withdrawn_heard profile (n ∷ ns) = ((λ a is. absurd (cc)), withdrawn_heard profile ns)
 
-pub changes_heard : (profile : Profile) (u : Update) → ForSome u.attrs (MayBeHeard profile) → AreHeard profile (changes_of u)
+pub changes_heard : (profile : Profile) (u : Update) → ForSome (said_of profile.second u).attrs (MayBeHeard profile) → AreHeard profile (changes_of profile u)
 changes_heard profile u own =
-    all_both (λ c. ForSome c.1 (MayBeHeard profile)) (map withdrawn_from (without u.announced u.withdrawn)) (map (announced_with u.attrs) (filter is_host_prefix u.announced))
-    (withdrawn_heard profile (without u.announced u.withdrawn)) (announced_heard profile u.attrs own (filter is_host_prefix u.announced))
+    let s = said_of profile.second u in
+    all_both (λ c. ForSome c.1 (MayBeHeard profile)) (map withdrawn_from (without s.announced s.withdrawn)) (map (announced_with s.attrs) (filter (is_host_prefix profile.second) s.announced))
+    (withdrawn_heard profile (without s.announced s.withdrawn)) (announced_heard profile s.attrs own (filter (is_host_prefix profile.second) s.announced))
 
 -- what octets say may be heard
 pub message_heard : (profile : Profile) (external : Bool) (octets : List ℕ) (message : Message) → AreOctets octets → grammar.Answers profile external octets message → IsHeardMessage profile message

@@ -53,7 +53,7 @@ pub new_peer_at : (d : Declaration) (k : ℕ) (words : Speaker) (client : Bool) 
 new_peer_at d k words client absent = peer_at_push_here k d.peers (new_peer d k words client) absent refl
 
 pub peer_absent : (d : Declaration) (k : ℕ) (words : Speaker) (client : Bool) → refusal d (events.Peer k words client) ≡ None → peer_at k d.peers ≡ None
-peer_absent d k words client e = (addable d.profile d.speaker d.peers k words client e).1
+peer_absent d k words client e = (addable d.v6 d.profile d.speaker d.peers k words client e).1
 
 -- the peer that was just declared is there
 pub not_added : (before after : Declaration) (k : ℕ) (words : Speaker) (client : Bool) → peer_at k before.peers ≡ None → after ≡ with_peer before k words client → None ≡ peer_at k after.peers → ⊥
@@ -211,7 +211,7 @@ module _ (m : Moment) (me : Speaker) (k : ℕ) (words : Speaker) (client : Bool)
     };
   }
 
-pub peer_declared : (m v : Moment) (me : Speaker) (k : ℕ) (words : Speaker) (client : Bool) (after : Declaration) (p : DeclaredPeer) (cs : Chains) (hs : Resolvers) (before j now : Journaled) → v ≡ m → Stands m → refusal m.declared (events.Peer k words client) ≡ None → IsWellFormed m.declared.profile (events.Peer k words client)
+pub peer_declared : (m v : Moment) (me : Speaker) (k : ℕ) (words : Speaker) (client : Bool) (after : Declaration) (p : DeclaredPeer) (cs : Chains) (hs : Resolvers) (before j now : Journaled) → v ≡ m → Stands m → refusal m.declared (events.Peer k words client) ≡ None → IsWellFormed m.declared.v6 m.declared.profile (events.Peer k words client)
     → Some me ≡ v.declared.speaker → after ≡ with_peer v.declared k words client → Some p ≡ peer_at k after.peers → cs ≡ put_chain k (new_chain me p.words) v.chains → j ≡ with_entries before (begin_entries k)
     → LeadsIn Inward (peer_links v.chains) (begin_entries k) (peer_links cs) → IsPeers cs → BeginsHops p.words.number v.hops hs j now → Pushes (HasStepped m (events.Peer k words client) 0 (record v { declared = after; chains = cs; hops = hs })) before now
 peer_declared m v me k words client after p cs hs before j now view stands admitted formed local added there put lines leads peers begins =
@@ -219,7 +219,7 @@ peer_declared m v me k words client after p cs hs before j now view stands admit
       journal_lines (begin_entries k ++ hop_begins k),
       hop.lines ∙ ap (λ (x : Journaled). with_entries x (hop_begins k)) lines ∙ with_entries_append before (begin_entries k) (hop_begins k),
       subst (λ (n : Moment). HasStepped v (events.Peer k words client) 0 n (journal_lines (begin_entries k ++ hop_begins k))) (sym is)
-          (peer_stepped v me k words client (sym local) (subst Stands (sym view) stands) absent (subst (λ (x : Chains). LeadsIn Inward (peer_links v.chains) (begin_entries k) (peer_links x)) chains leads) (let least = formed.0.least in omega (arith, least), (addable m.declared.profile m.declared.speaker m.declared.peers k words client admitted).0) (subst IsPeers chains peers)
+          (peer_stepped v me k words client (sym local) (subst Stands (sym view) stands) absent (subst (λ (x : Chains). LeadsIn Inward (peer_links v.chains) (begin_entries k) (peer_links x)) chains leads) (let least = formed.0.least in omega (arith, least), (addable m.declared.v6 m.declared.profile m.declared.speaker m.declared.peers k words client admitted).0) (subst IsPeers chains peers)
           (subst (λ (x : Resolvers). BeginsWith k v.hops x) hop.after hop.begins)),
     )
   where
@@ -307,7 +307,7 @@ pub may_begin : (d : Declaration) (k : ℕ) → refusal d (events.Up k) ≡ None
 unfolding refusal
 may_begin d k e = by_speaker d.speaker e
   where
-    by_speaker : (speaker : Option Speaker) → refusal_at d.profile speaker d.peers (events.Up k) ≡ None → session_refusal (peer_at k d.peers) ≡ None
+    by_speaker : (speaker : Option Speaker) → refusal_at d.v6 d.profile speaker d.peers (events.Up k) ≡ None → session_refusal (peer_at k d.peers) ≡ None
     by_speaker None e = absurd (cc)
     by_speaker (Some local) e = e
 
@@ -331,7 +331,7 @@ pub peer_after : (d : Declaration) (k : ℕ) (words : Speaker) (client : Bool) �
 unfolding refusal
 peer_after d k words client e none = by_speaker d.speaker e none
   where
-    by_speaker : (s : Option Speaker) → refusal_at d.profile s d.peers (events.Peer k words client) ≡ None → None ≡ s → ⊥
+    by_speaker : (s : Option Speaker) → refusal_at d.v6 d.profile s d.peers (events.Peer k words client) ≡ None → None ≡ s → ⊥
     by_speaker None e none = absurd (cc)
     by_speaker (Some me) e none = absurd (cc)
 
@@ -344,7 +344,7 @@ rules_there d k rules e = by_speaker d.speaker e
     by_peer None e = absurd (cc)
     by_peer (Some p) e = (p, refl)
 
-    by_speaker : (s : Option Speaker) → refusal_at d.profile s d.peers (events.FilterIn k rules) ≡ None → (p : DeclaredPeer) × (peer_at k d.peers ≡ Some p)
+    by_speaker : (s : Option Speaker) → refusal_at d.v6 d.profile s d.peers (events.FilterIn k rules) ≡ None → (p : DeclaredPeer) × (peer_at k d.peers ≡ Some p)
     by_speaker None e = absurd (cc)
     by_speaker (Some me) e = by_peer (peer_at k d.peers) e
 

@@ -1,10 +1,12 @@
 -- What each event says can be printed, and so can what stands behind it.
-use Rattle.router_moments.proofs.Common.{sym, subst, ◌∙◌, ap, ◌≡◌, ℕ, refl, List, true, arith, false, ◌+◌, Bool, ◌++◌, ◌≤◌, cond, ◌<◌, nat_eq, not, ◌&&◌, IfSome, get-empty, AllByRecursion, nat_cmp, AddressPrefix, is_host_prefix, Attrs, Neighbour, Profile, Speaker, AreOctets, Message, Update, peer_at, Declaration, with_four_octets, with_revised, with_reflection, IsWellFormed, DeclaredPeer, Event, Down, Bgp, RouteAdd, RouteDel, Lose, Cover, Settled, Work, As4, Revised, Reflect, Up, Redist, ArePrintableExits, resolver_at, Chained, IsPrefix, AllHaveMetrics, IsFit, neighbours, words_in, IsPrinted, AreTablesOf, IsInteriorRow, IsPrintableChain, HaveWays, IsNameNumber, Line, Link, Task, Value, Rows, is_empty_map, speaker_since, as4_is_first, revised_is_first, reflect_is_first, LiveState, changes_of, Says, announced_with, withdrawn_from, all_both, table_of, Hop, Resolving, Metric, OutChained, put_each, chain_at, overdue_at, has_turn_in, Rule, width, Proto, Connected, Static, Ospf, Rip, Interior, put_all, Branch, way_of_route, tree_overdue, fed_tree, int_rows, branch_of, ByPeer, IsBlock, BeginsIf, EndsIf, HearsIf, Declares, BySpeaker, Begins, DropsRouteIf, answer_lines, Shows, Moment, router_links, with_exits, rules_to, all_phases, ArePrinted, IsPrintableMoment, Stands, ExitsAt, journal_lines, has_work, FallsRoute}
+use Rattle.router_moments.proofs.Common.{sym, subst, ◌∙◌, ap, ◌≡◌, ℕ, refl, List, true, arith, false, ◌+◌, Bool, ◌++◌, ◌≤◌, cond, ◌<◌, nat_eq, not, ◌&&◌, IfSome, get-empty, AllByRecursion, nat_cmp, AddressPrefix, is_host_prefix, Attrs, Neighbour, Profile, Speaker, AreOctets, Message, Update, peer_at, Declaration, with_four_octets, with_revised, with_reflection, IsWellFormed, DeclaredPeer, Event, Down, Bgp, RouteAdd, RouteDel, Lose, Cover, Settled, Work, As4, Revised, Reflect, Up, Redist, ArePrintableExits, resolver_at, Chained, IsIpv4Prefix, AllHaveMetrics, IsFit, neighbours, words_in, IsPrinted, AreTablesOf, IsInteriorRow, IsPrintableChain, HaveWays, IsNameNumber, Line, Link, Task, Value, Rows, is_empty_map, speaker_since, as4_is_first, revised_is_first, reflect_is_first, LiveState, changes_of, Says, announced_with, withdrawn_from, all_both, table_of, Hop, Resolving, Metric, OutChained, put_each, chain_at, overdue_at, has_turn_in, Rule, width, Proto, Connected, Static, Ospf, Rip, Interior, put_all, Branch, way_of_route, tree_overdue, fed_tree, int_rows, branch_of, ByPeer, IsBlock, BeginsIf, EndsIf, HearsIf, Declares, BySpeaker, Begins, DropsRouteIf, answer_lines, Shows, Moment, router_links, with_exits, rules_to, all_phases, ArePrinted, IsPrintableMoment, Stands, ExitsAt, journal_lines, has_work, FallsRoute}
 use Rattle.std.proofs.Common.{◌^◌, ◌==◌, [], ◌∷◌, map, Option, Some, None, IsSome, is_some}
 use Rattle.std.specs.Prelude.{filter, length}
 use Rattle.std.proofs.lemmas.List.Elements.{All-nil}
 use Rattle.bgp_wire.specs.Grammar.{Reads, without, is_served}
-use Rattle.addr4.specs.Families.{IsIpv4Prefix, IsIpv4}
+use Rattle.bgp_wire.specs.Said.{Said}
+use Rattle.bgp_wire.specs.Readable.{said_of}
+use Rattle.addr4.specs.Families.{IsPrefixOf, IsIpv4}
 use Rattle.bgp_wire.specs.declared.message.Message.TheVariants as messages
 use Rattle.bgp_wire.proofs.ReadableLaws.{Every, all_every, every_filter}
 use Rattle.bgp_wire.proofs.ReadableMessages.{read_is_readable}
@@ -122,7 +124,7 @@ module _ (m : Moment) (stands : Stands m) (printable : IsPrintableMoment m) wher
           by_row None at = refl
           by_row (Some row) at = absurd (let is = int_prints (neighbours m.declared) m.tree printable.interior p row at in omega (arith, is.0.short, longer))
 
-      by_match : (found : Option (AddressPrefix × Interior)) → found ≡ longest width (int_rows m.tree) addr → IsMatch (matched found)
+      by_match : (found : Option (AddressPrefix × Interior)) → found ≡ longest width (int_rows m.tree) addr → IsMatch false (matched found)
       by_match None is = tt
       by_match (Some r) is =
           let is_longest : IsLongest width (int_rows m.tree) addr (Some r) = subst (IsLongest width (int_rows m.tree) addr) (sym is) (longest_is width (int_rows m.tree) addr) in
@@ -167,7 +169,7 @@ module _ (m : Moment) (stands : Stands m) (printable : IsPrintableMoment m) wher
       of_exit (Some me) None (Some c) there is e = absurd is
       of_exit None p (Some c) there is e = absurd is
 
-  settled : (p : AddressPrefix) (said : List Line) → IsPrefix p → TellsSettled p m said → Printed said
+  settled : (p : AddressPrefix) (said : List Line) → IsIpv4Prefix p → TellsSettled p m said → Printed said
   settled p said prefix tells = subst Printed (sym tells.line) (plain_printed (neighbours m.declared) _ refl refl (prefix, by_answer tells.answer tells.tells.works), tt)
     where
       by_answer : (o : Option Task) → IfSome o (λ task. has_work task m ≡ true) → IsNamedIfAny o
@@ -175,7 +177,7 @@ module _ (m : Moment) (stands : Stands m) (printable : IsPrintableMoment m) wher
       by_answer (Some task) works = task_named task works
 
   module _ (few : AreNumbered 4294967294 m.tree) where
-    asked : (link : Link) (p : AddressPrefix) → IsNamed link → IsPrefix p → (of : Option (Rows Value)) → router_links m link ≡ of → Printed (answer_lines link p of)
+    asked : (link : Link) (p : AddressPrefix) → IsNamed link → IsIpv4Prefix p → (of : Option (Rows Value)) → router_links m link ≡ of → Printed (answer_lines link p of)
     asked link p named prefix None at = (absent, tt)
     asked link p named prefix (Some rows) at = (answer_printed (neighbours m.declared) link rows named (λ q v is. links_print m stands printable link rows q v at is) p prefix, tt)
 
@@ -199,7 +201,7 @@ module _ (m : Moment) (stands : Stands m) (printable : IsPrintableMoment m) wher
         let silent = end_is_printed m.declared.profile (neighbours m.declared) k m.exits l.silenced l.entries printable.exits l.ends in
         let ended = (silenced k m l.silenced l.entries stands l.ends).stands in
         let goes = first_goes (overdue_at k m.chains) (with_exits m l.silenced) l.first l.room ended l.runs in
-        let x = goes.prints (record { declared = printable.declared; chains = printable.chains; interior = printable.interior; hops = printable.hops; ways = printable.ways; exits = silent.exits }) in
+        let x = goes.prints (record { first = printable.first; declared = printable.declared; chains = printable.chains; interior = printable.interior; hops = printable.hops; ways = printable.ways; exits = silent.exits }) in
         let room = (first_works (overdue_at k m.chains) (with_exits m l.silenced) l.first l.room ended l.runs).stands in
         let i = l.loses in
         let c = i.part.loses.chain in
@@ -220,30 +222,42 @@ module _ (m : Moment) (stands : Stands m) (printable : IsPrintableMoment m) wher
         })
 
     -- ---- messages
-    changes_said : (w : Neighbour) (octets : List ℕ) (u : Update) → AreOctets octets → Reads m.declared.profile (not w.internal) octets (messages.Update u) → AllByRecursion (IsSaid m.declared.profile w) (changes_of u)
+    changes_said : (w : Neighbour) (octets : List ℕ) (u : Update) → AreOctets octets → Reads m.declared.profile (not w.internal) octets (messages.Update u) → AllByRecursion (IsSaid m.declared.profile w) (changes_of m.declared.profile u)
     changes_said w octets u are reads =
-        let readable = read_is_readable m.declared.profile (not w.internal) octets u are reads in
-        all_both (IsSaid m.declared.profile w) (map withdrawn_from (without u.announced u.withdrawn)) _ (withdrawn _ (every_filter IsIpv4Prefix _ u.withdrawn (all_every IsIpv4Prefix u.withdrawn readable.withdrawn)))
-        (announced u.attrs refl (filter is_host_prefix u.announced) (every_filter IsIpv4Prefix is_host_prefix u.announced (all_every IsIpv4Prefix u.announced readable.announced)))
+        let readable = read_is_readable m.declared.profile (not w.internal) octets u are reads m.declared.profile.second in
+        all_both (IsSaid m.declared.profile w) (map withdrawn_from (without s.announced s.withdrawn)) _ (withdrawn _ (every_filter IsOne _ s.withdrawn (all_every IsOne s.withdrawn readable.withdrawn)))
+        (announced s.attrs refl (filter host s.announced) (every_filter IsOne host s.announced (all_every IsOne s.announced readable.announced)))
       where
-        withdrawn : (ns : List AddressPrefix) → Every IsIpv4Prefix ns → AllByRecursion (IsSaid m.declared.profile w) (map withdrawn_from ns)
+        s : Said
+        s = said_of m.declared.profile.second u
+
+        host : AddressPrefix → Bool
+        host = is_host_prefix m.declared.profile.second
+
+        IsOne : AddressPrefix → Type 0
+        IsOne = IsPrefixOf m.declared.profile.second
+
+        ipv4 : (n : AddressPrefix) → IsOne n → IsIpv4Prefix n
+        ipv4 n is = subst (λ (b : Bool). IsPrefixOf b n) printable.exits.first is
+
+        withdrawn : (ns : List AddressPrefix) → Every IsOne ns → AllByRecursion (IsSaid m.declared.profile w) (map withdrawn_from ns)
         withdrawn [] each = tt
-        withdrawn (n ∷ ns) each = ((each.0, tt), withdrawn ns each.1)
+        withdrawn (n ∷ ns) each = ((ipv4 n each.0, tt), withdrawn ns each.1)
 
-        attrs_said : (o : Option Attrs) → u.attrs ≡ o → IfSome o (WasHeard m.declared.profile (not w.internal))
+        attrs_said : (o : Option Attrs) → s.attrs ≡ o → IfSome o (WasHeard m.declared.profile (not w.internal))
         attrs_said None at = tt
-        attrs_said (Some a) at = (octets, u, are, reads, at)
+        attrs_said (Some a) at = (octets, u, are, reads, ap (λ (b : Bool). (said_of b u).attrs) (sym printable.exits.first) ∙ at)
 
-        announced : (o : Option Attrs) → u.attrs ≡ o → (ns : List AddressPrefix) → Every IsIpv4Prefix ns → AllByRecursion (IsSaid m.declared.profile w) (map (announced_with o) ns)
+        announced : (o : Option Attrs) → s.attrs ≡ o → (ns : List AddressPrefix) → Every IsOne ns → AllByRecursion (IsSaid m.declared.profile w) (map (announced_with o) ns)
         announced o at [] each = tt
-        announced o at (n ∷ ns) each = ((each.0, attrs_said o at), announced o at ns each.1)
+        announced o at (n ∷ ns) each = ((ipv4 n each.0, attrs_said o at), announced o at ns each.1)
 
     heard : (k : ℕ) (p : DeclaredPeer) (octets : List ℕ) (message : Message) (said : List Line) (m' : Moment) → peer_at k m.declared.peers ≡ Some p → p.up ≡ true → AreOctets octets → Says m.declared.profile p octets message → Hears k p m message said m'
         → Leaves m.declared.profile (neighbours m.declared) m' said
-    heard k p octets (messages.Update u) said m' at up are says hears = gone said m' (feeds_go k p.words (changes_of u) m said m' stands (p, at, up) (changes_heard m.declared.profile u (message_heard m.declared.profile (not p.words.internal) octets (messages.Update u) are says)) (ap words_in at) (changes_said p.words octets u are says) hears)
+    heard k p octets (messages.Update u) said m' at up are says hears = gone said m' (feeds_go k p.words (changes_of m.declared.profile u) m said m' stands (p, at, up) (changes_heard m.declared.profile u (message_heard m.declared.profile (not p.words.internal) octets (messages.Update u) are says)) (ap words_in at) (changes_said p.words octets u are says) hears)
     heard k p octets messages.Keepalive said m' at up are says hears = stays said m' hears.1 (subst Printed (sym hears.0) tt)
     heard k p octets messages.Skip said m' at up are says hears = stays said m' hears.1 (subst Printed (sym hears.0) tt)
-    heard k p octets (messages.Refresh r) said m' at up are says hears = subst (λ (x : Moment). Leaves m.declared.profile (neighbours m.declared) x said) (sym hears.1) (by_served (is_served r))
+    heard k p octets (messages.Refresh r) said m' at up are says hears = subst (λ (x : Moment). Leaves m.declared.profile (neighbours m.declared) x said) (sym hears.1) (by_served (is_served m.declared.profile.second r))
       where
         by_served : (b : Bool) → Leaves m.declared.profile (neighbours m.declared) (cond b (with_exits m (refreshed_exits k m.exits)) m) said
         by_served true = exits_leave (with_exits m (refreshed_exits k m.exits)) said refl refl refl refl (refresh_is_printed m.declared.profile (neighbours m.declared) k m.exits printable.exits) (subst Printed (sym hears.0) tt)
@@ -254,7 +268,7 @@ module _ (m : Moment) (stands : Stands m) (printable : IsPrintableMoment m) wher
         record { chains = l.chains; interior = l.interior; hops = l.hops; ways = l.ways; exits = l.exits; printed = subst Printed (sym hears.1) (note_printed (neighbours m.declared) k _ (named_by m stands start k p at) hears.3.each hears.3.few, l.printed) }
 
     -- ---- interior routes
-    fed : (proto : Proto) (p : AddressPrefix) (row : Option Interior) (said : List Line) (m' : Moment) → IsSome m.declared.speaker → IsPrefix p → IfSome row (IsInteriorRow p) → FallsRoute m (fed_tree m.tree proto p row) proto p (way_of_route proto m.tree) said m'
+    fed : (proto : Proto) (p : AddressPrefix) (row : Option Interior) (said : List Line) (m' : Moment) → IsSome m.declared.speaker → IsIpv4Prefix p → IfSome row (IsInteriorRow p) → FallsRoute m (fed_tree m.tree proto p row) proto p (way_of_route proto m.tree) said m'
         → Leaves m.declared.profile (neighbours m.declared) m' said
     fed proto p row said m' since prefix new falls =
         let b = branch_of proto m.tree in
@@ -300,7 +314,7 @@ module _ (m : Moment) (stands : Stands m) (printable : IsPrintableMoment m) wher
     declared : (speaker : Option Speaker) (k : ℕ) (words : Speaker) (client : Bool) (said : List Line) (turns : ℕ) (m' : Moment) → IsNameNumber k → Declares m speaker k words client said turns m' → Leaves m.declared.profile (neighbours m.declared) m' said
     declared None k words client said turns m' named is = absurd is
     declared (Some me) k words client said turns m' named is = just _ _ said turns m' is (record {
-      chains = put_each (λ j c. IsPrintableChain m.declared.profile c) k _ m.chains (record { tables = none_printable _; in_force = All-nil (IsRule m.declared.profile.as4); walk = tt }) printable.chains;
+      chains = put_each (λ j c. IsPrintableChain m.declared.profile c) k _ m.chains (record { tables = none_printable _; in_force = All-nil (IsRule false m.declared.profile.as4); walk = tt }) printable.chains;
       interior = printable.interior;
       hops = metrics_put k (nothing_known k) m.hops _ refl (λ a h at. absurd (let none = get-empty {X = Hop Metric} nat_cmp a in cc)) printable.hops;
       ways = printable.ways;
@@ -308,7 +322,7 @@ module _ (m : Moment) (stands : Stands m) (printable : IsPrintableMoment m) wher
       printed = (begun (links.In k) named, (begun (links.Filt k) named, (begun (links.Res k) named, tt)));
     })
 
-    refiltered : (k : ℕ) (rules : List Rule) (said : List Line) (turns : ℕ) (m' : Moment) → AreRules m.declared.profile.as4 rules → Refilters k rules m said turns m' → Leaves m.declared.profile (neighbours m.declared) m' said
+    refiltered : (k : ℕ) (rules : List Rule) (said : List Line) (turns : ℕ) (m' : Moment) → AreRules false m.declared.profile.as4 rules → Refilters k rules m said turns m' → Leaves m.declared.profile (neighbours m.declared) m' said
     refiltered k rules said turns m' are is =
         let e = is.1.edits in
         let chains = put_each (λ j c. IsPrintableChain m.declared.profile c) k _ m.chains (edited_printable m.declared.profile e.chain rules (printable.chains k e.chain e.at) are) printable.chains in
@@ -342,57 +356,60 @@ module _ (m : Moment) (stands : Stands m) (printable : IsPrintableMoment m) wher
     heard_if true k p octets said turns m' up at are is = heard k p octets is.1.0 said m' at up are is.1.1 is.1.2
     heard_if false k p octets said turns m' up at are is = just _ m said turns m' is (stays _ m refl (ignored, tt))
 
-    dropped_if : (has : Bool) (proto : Proto) (p : AddressPrefix) (said : List Line) (turns : ℕ) (m' : Moment) → IsSome m.declared.speaker → IsPrefix p → DropsRouteIf has proto p m said turns m' → Leaves m.declared.profile (neighbours m.declared) m' said
+    dropped_if : (has : Bool) (proto : Proto) (p : AddressPrefix) (said : List Line) (turns : ℕ) (m' : Moment) → IsSome m.declared.speaker → IsIpv4Prefix p → DropsRouteIf has proto p m said turns m' → Leaves m.declared.profile (neighbours m.declared) m' said
     dropped_if false proto p said turns m' since prefix is = just _ m said turns m' is (stays _ m refl (ignored, tt))
     dropped_if true proto p said turns m' since prefix is = fed proto p None said m' since prefix tt is.1
 
     -- before `local` nothing stands that could be printed
-    profiled_printed : (profile : Profile) (said : List Line) (turns : ℕ) (m' : Moment) → m.declared.speaker ≡ None → Just [] (profiled m profile) said turns m' → Leaves profile (neighbours m.declared) m' said
-    profiled_printed profile said turns m' first is =
+    profiled_printed : (profile : Profile) (said : List Line) (turns : ℕ) (m' : Moment) → profile.second ≡ false → m.declared.speaker ≡ None → Just [] (profiled m profile) said turns m' → Leaves profile (neighbours m.declared) m' said
+    profiled_printed profile said turns m' ipv4 first is =
         subst (λ (x : Moment). Leaves profile (neighbours m.declared) x said) (sym is.2) (subst (λ (l : List Line). Leaves profile (neighbours m.declared) (profiled m profile) l) (sym is.0) (record {
           chains = λ k c at. absurd (let none = no_chain m stands first k in cc);
           interior = printable.interior;
           hops = printable.hops;
           ways = printable.ways;
-          exits = nothing_printable profile (neighbours m.declared);
+          exits = nothing_printable profile ipv4 (neighbours m.declared);
           printed = tt;
         }))
 
-    pub event_printed : (event : Event) (said : List Line) (turns : ℕ) (m' : Moment) → refusal m.declared event ≡ None → IsWellFormed m.declared.profile event → IsBlock m event said turns m' → Leaves (profile_after m.declared.profile event) (neighbours m.declared) m' said
-    event_printed As4 said turns m' admitted formed is = profiled_printed (with_four_octets m.declared.profile) said turns m' (as4_is_first m.declared admitted) is
-    event_printed Revised said turns m' admitted formed is = profiled_printed (with_revised m.declared.profile) said turns m' (revised_is_first m.declared admitted) is
-    event_printed Reflect said turns m' admitted formed is = profiled_printed (with_reflection m.declared.profile) said turns m' (reflect_is_first m.declared admitted) is
-    event_printed Nothing said turns m' admitted formed is = just [] m said turns m' is (stays [] m refl tt)
-    event_printed (Local words) said turns m' admitted formed is =
+    first_printed : (event : Event) (said : List Line) (turns : ℕ) (m' : Moment) → refusal m.declared event ≡ None → IsWellFormed false m.declared.profile event → IsBlock m event said turns m' → Leaves (profile_after m.declared.profile event) (neighbours m.declared) m' said
+    first_printed As4 said turns m' admitted formed is = profiled_printed (with_four_octets m.declared.profile) said turns m' printable.exits.first (as4_is_first m.declared admitted) is
+    first_printed Revised said turns m' admitted formed is = profiled_printed (with_revised m.declared.profile) said turns m' printable.exits.first (revised_is_first m.declared admitted) is
+    first_printed Reflect said turns m' admitted formed is = profiled_printed (with_reflection m.declared.profile) said turns m' printable.exits.first (reflect_is_first m.declared admitted) is
+    first_printed Nothing said turns m' admitted formed is = just [] m said turns m' is (stays [] m refl tt)
+    first_printed (Local words) said turns m' admitted formed is =
         let l = is.1 in
         let inherits = plain_printed (neighbours m.declared) (lines.Journal (entries.Inherit links.ReadRib links.Best)) refl refl (tt, tt) in
         subst (λ (n : Moment). Leaves m.declared.profile (neighbours m.declared) n said) (sym l.after) (exits_leave _ _ refl refl refl refl (join_is_printed m.declared.profile (neighbours m.declared) l.reader m.exits printable.exits)
         (subst Printed (sym l.lines) (begun (links.Org Connected) tt, (begun (links.Org Static) tt, (begun (links.Org Ospf) tt, (begun (links.Org Rip) tt, (begun links.Low tt, (begun links.Dyn tt, (begun links.Int tt, (begun links.Red tt, (begun links.Best tt, (inherits, (begun links.Ebgp tt, (begun links.Ibgp tt, (begun links.Ext tt, (begun links.Fib tt, tt))))))))))))))))
-    event_printed (Peer k words client) said turns m' admitted formed is = declared m.declared.speaker k words client said turns m' (formed.0.least, formed.0.fits) is
-    event_printed (Up k) said turns m' admitted formed is = by_peer (λ p. BeginsIf p.up m k p said turns m') k _ (λ p at begins. begun_if p.up k p said turns m' at begins) is
-    event_printed (Down k) said turns m' admitted formed is = by_peer (λ p. EndsIf p.up m k p said turns m') k _ (λ p at ends. ended_if p.up k p said turns m' refl at ends) is
-    event_printed (Bgp k octets) said turns m' admitted formed is = by_peer (λ p. HearsIf p.up m k p octets said turns m') k _ (λ p at hears. heard_if p.up k p octets said turns m' refl at formed.1.bytes hears) is
-    event_printed (FilterIn k rules) said turns m' admitted formed is = refiltered k rules said turns m' formed.1 is
-    event_printed (FilterOut k rules) said turns m' admitted formed is = redirected k rules said turns m' is
-    event_printed (RouteAdd p row) said turns m' admitted formed is =
-        let prefix : IsPrefix p = formed.0 in
+    first_printed (Peer k words client) said turns m' admitted formed is = declared m.declared.speaker k words client said turns m' (formed.0.least, formed.0.fits) is
+    first_printed (Up k) said turns m' admitted formed is = by_peer (λ p. BeginsIf p.up m k p said turns m') k _ (λ p at begins. begun_if p.up k p said turns m' at begins) is
+    first_printed (Down k) said turns m' admitted formed is = by_peer (λ p. EndsIf p.up m k p said turns m') k _ (λ p at ends. ended_if p.up k p said turns m' refl at ends) is
+    first_printed (Bgp k octets) said turns m' admitted formed is = by_peer (λ p. HearsIf p.up m k p octets said turns m') k _ (λ p at hears. heard_if p.up k p octets said turns m' refl at formed.1.bytes hears) is
+    first_printed (FilterIn k rules) said turns m' admitted formed is = refiltered k rules said turns m' formed.1 is
+    first_printed (FilterOut k rules) said turns m' admitted formed is = redirected k rules said turns m' is
+    first_printed (RouteAdd p row) said turns m' admitted formed is =
+        let prefix : IsIpv4Prefix p = formed.0 in
         let own = formed.1 in
         fed row.proto p (Some row) said m' (speaker_since m.declared (RouteAdd p row) (λ e. cc) admitted) prefix (record { prefix = prefix; printed = λ all. record { well_told = record { ranges = (own.name, own.metric); told = own.gateway }; short = tt } }) is.1
-    event_printed (RouteDel proto p) said turns m' admitted formed is = dropped_if _ proto p said turns m' (speaker_since m.declared (RouteDel proto p) (λ e. cc) admitted) formed is
-    event_printed (Lose proto) said turns m' admitted formed is = protocol_lost proto said m' is.1
-    event_printed (Redist proto on) said turns m' admitted formed is = just [] _ said turns m' is (record { chains = printable.chains; interior = printable.interior; hops = printable.hops; ways = printable.ways; exits = printable.exits; printed = tt })
-    event_printed (Cover addr) said turns m' admitted formed is = stays said m' is.1 (covered addr said formed is.2)
-    event_printed (Settled p) said turns m' admitted formed is = stays said m' is.1 (settled p said formed is.2)
-    event_printed Idle said turns m' admitted formed is =
+    first_printed (RouteDel proto p) said turns m' admitted formed is = dropped_if _ proto p said turns m' (speaker_since m.declared (RouteDel proto p) (λ e. cc) admitted) formed is
+    first_printed (Lose proto) said turns m' admitted formed is = protocol_lost proto said m' is.1
+    first_printed (Redist proto on) said turns m' admitted formed is = just [] _ said turns m' is (record { chains = printable.chains; interior = printable.interior; hops = printable.hops; ways = printable.ways; exits = printable.exits; printed = tt })
+    first_printed (Cover addr) said turns m' admitted formed is = stays said m' is.1 (covered addr said formed is.2)
+    first_printed (Settled p) said turns m' admitted formed is = stays said m' is.1 (settled p said formed is.2)
+    first_printed Idle said turns m' admitted formed is =
         let within = is.within in
         let fits = is.fits in
         leaves said m' is.inner (phases_go all_phases m is.inner turns m' stands is.runs) (λ inner. subst Printed (sym is.lines) (
           plain_printed (neighbours m.declared) _ refl refl fits,
           all_both (IsPrinted (neighbours m.declared)) is.inner (lines.Idle turns ∷ []) inner (plain_printed (neighbours m.declared) (lines.Idle turns) refl refl (omega (arith, within, fits)), tt),
         ))
-    event_printed (Work task n) said turns m' admitted formed is =
+    first_printed (Work task n) said turns m' admitted formed is =
         let most = is.most in
         let low = formed.1 in
         leaves said m' is.inner (turns_go turns task m is.inner m' stands is.taken) (λ inner. subst Printed (sym is.lines) (all_both (IsPrinted (neighbours m.declared)) is.inner (lines.Work turns ∷ []) inner (plain_printed (neighbours m.declared) (lines.Work turns) refl refl (omega (arith, most, low)), tt)))
-    event_printed (Ask link p) said turns m' admitted formed is = just _ m said turns m' is (stays _ m refl (asked link p formed.0 formed.1 (router_links m link) refl))
-    event_printed (Show link) said turns m' admitted formed is = stays said m' is.1 (listed link formed (router_links m link) refl said is.2)
+    first_printed (Ask link p) said turns m' admitted formed is = just _ m said turns m' is (stays _ m refl (asked link p formed.0 formed.1 (router_links m link) refl))
+    first_printed (Show link) said turns m' admitted formed is = stays said m' is.1 (listed link formed (router_links m link) refl said is.2)
+
+    pub event_printed : (event : Event) (said : List Line) (turns : ℕ) (m' : Moment) → refusal m.declared event ≡ None → IsWellFormed m.declared.v6 m.declared.profile event → IsBlock m event said turns m' → Leaves (profile_after m.declared.profile event) (neighbours m.declared) m' said
+    event_printed event said turns m' admitted formed is = first_printed event said turns m' admitted (subst (λ (v6 : Bool). IsWellFormed v6 m.declared.profile event) printable.first formed) is

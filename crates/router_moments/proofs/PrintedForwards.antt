@@ -1,7 +1,7 @@
 -- This speaker's own routes, the external rows, and what packets are forwarded by can be printed, and so can what goes on to `fib`.
-use Rattle.router_moments.proofs.Common.{sym, subst, ◌∙◌, ◌≡◌, ℕ, refl, List, true, arith, false, Bool, ◌≤◌, cond, ◌<◌, inr, inl, ◌⊎◌, option_or, AddressPrefix, Route, Neighbour, Profile, Speaker, AreBestRows, fib_distance, IsPrefix, Prints, IsPrinted, HaveWays, IsWay, route_value, fib_value, interior_value, sent_entries, external_value, Entry, Fib, Value, IsSent, Rows, Change, all_both, over, external_hop, Resolving, in_force_by, fresh_by, walk_to, goes_on, Passed, function_at, IsSender, redistributed, Protos, Registry, ext_is_of_best, StandsOver, ext_rows, fib_over, FallsOn, RibExit, FibRow, Interior, Parted, on_link, BgpLink, own_rows, MaySend}
+use Rattle.router_moments.proofs.Common.{sym, subst, ◌∙◌, ◌≡◌, ℕ, refl, List, true, arith, false, Bool, ◌≤◌, cond, ◌<◌, inr, inl, ◌⊎◌, option_or, AddressPrefix, Route, Neighbour, Profile, Speaker, AreBestRows, fib_distance, IsIpv4Prefix, Prints, IsPrinted, HaveWays, IsWay, route_value, fib_value, interior_value, sent_entries, external_value, Entry, Fib, Value, IsSent, Rows, Change, all_both, over, external_hop, Resolving, in_force_by, fresh_by, walk_to, goes_on, Passed, function_at, IsSender, redistributed, Protos, Registry, ext_is_of_best, StandsOver, ext_rows, fib_over, FallsOn, RibExit, FibRow, Interior, Parted, on_link, BgpLink, own_rows, MaySend}
 use Rattle.std.proofs.Common.{◌^◌, Option, Some, None}
-use Rattle.addr4.specs.Families.{IsIpv4}
+use Rattle.addr4.specs.Families.{IsAddress, IsIpv4}
 use Rattle.bgp_wire.specs.Lengths.{attributes_length}
 use Rattle.rib_route.specs.Distances.{external_proto}
 use Rattle.rib_route.specs.Rows.{External}
@@ -32,9 +32,9 @@ use Rattle.journal_laws.proofs.PrintedRows.{merged_print, forwarded_print}
 use Rattle.journal_laws.proofs.PrintedWays.{ArePrintedEntries, sent_printed}
 
 -- a message has room for the attributes of this speaker's own routes
-own_short : (addr : ℕ) → attributes_length false (local_attrs addr) ≤ 4096
+own_short : (addr : ℕ) → attributes_length false false (local_attrs addr) ≤ 4096
 unfolding attributes_length
-own_short addr = let is : attributes_length false (local_attrs addr) ≡ 14 = refl in omega (arith, is)
+own_short addr = let is : attributes_length false false (local_attrs addr) ≡ 14 = refl in omega (arith, is)
 
 first_fits : (gateway : Option ℕ) (hop : ℕ) → IsAddressIfAny gateway → IsIpv4 hop → IsIpv4 (first_router gateway hop)
 first_fits None hop own fits = fits
@@ -46,37 +46,37 @@ or_none (Some x) = refl
 
 module _ (profile : Profile) (peers : ℕ → Option Neighbour) where
   -- ---- this speaker's own routes
-  own_printed : peers 0 ≡ None → (me : Speaker) → IsSender profile me → IsPrintable peers (route_value (local_route me))
-  own_printed nobody me sender = record {
+  own_printed : profile.second ≡ false → peers 0 ≡ None → (me : Speaker) → IsSender profile me → IsPrintable peers (route_value (local_route me))
+  own_printed first nobody me sender = record {
     well_told = record {
       ranges = record { attrs = record { path = tt; med = tt; local_pref = tt; aggregator = tt; unrecognized = tt }; pref = omega arith; med = tt; prepend = omega arith; igp = omega arith; from = omega arith };
-      told = (record { next_hop = sender.addr.ipv4; aggregator = tt; originator = tt; clusters = tt }, sym nobody);
+      told = (record { next_hop = subst (λ (v6 : Bool). IsAddress v6 me.addr) first sender.addr.of; aggregator = tt; originator = tt; clusters = tt }, sym nobody);
     };
     short = (false, own_short me.addr);
   }
 
-  pub own_print : peers 0 ≡ None → (s : Option Speaker) (on : Passed Protos) (int : Rows Interior) → MaySend profile s → Prints peers interior_value int → Prints peers route_value (own_rows s on int)
-  own_print nobody None on int sender prints p row is = absurd (cc)
-  own_print nobody (Some me) on int sender prints p row is = by_row (int p) refl is
+  pub own_print : profile.second ≡ false → peers 0 ≡ None → (s : Option Speaker) (on : Passed Protos) (int : Rows Interior) → MaySend profile s → Prints peers interior_value int → Prints peers route_value (own_rows s on int)
+  own_print first nobody None on int sender prints p row is = absurd (cc)
+  own_print first nobody (Some me) on int sender prints p row is = by_row (int p) refl is
     where
-      by_row : (o : Option Interior) → int p ≡ o → redistributed me (function_at on p) p o ≡ Some row → IsPrefix p × IsPrintable peers (route_value row)
+      by_row : (o : Option Interior) → int p ≡ o → redistributed me (function_at on p) p o ≡ Some row → IsIpv4Prefix p × IsPrintable peers (route_value row)
       by_row None at is = absurd (cc)
       by_row (Some r) at is =
-          ((prints p r at).0, subst (λ (x : Route). IsPrintable peers (route_value x)) (sym (only_own_routes me (function_at on p) p (Some r) row is)) (own_printed nobody me sender))
+          ((prints p r at).0, subst (λ (x : Route). IsPrintable peers (route_value x)) (sym (only_own_routes me (function_at on p) p (Some r) row is)) (own_printed first nobody me sender))
 
   -- ---- external rows
   pub external_print : (best : Rows Route) → AreBestRows profile peers best → Prints peers external_value (λ q. external_row (best q))
   external_print best are p row is = by_route (best p) refl is
     where
-      by_sender : (r : Route) (from : Option Neighbour) → best p ≡ Some r → external_of from r.attrs.next_hop ≡ Some row → IsPrefix p × IsPrintable peers (external_value row)
+      by_sender : (r : Route) (from : Option Neighbour) → best p ≡ Some r → external_of from r.attrs.next_hop ≡ Some row → IsIpv4Prefix p × IsPrintable peers (external_value row)
       by_sender r None at is = absurd (cc)
       by_sender r (Some peer) at is =
           let own = are p r at in
           let same : record { internal = peer.internal; next_hop = r.attrs.next_hop } ≡ row = cc in
-          subst (λ (x : External). IsPrefix p × IsPrintable peers (external_value x)) same
+          subst (λ (x : External). IsIpv4Prefix p × IsPrintable peers (external_value x)) same
           (own.prefix, record { well_told = record { ranges = tt; told = own.printed.well_told.told.0.next_hop }; short = tt })
 
-      by_route : (o : Option Route) → best p ≡ o → external_row o ≡ Some row → IsPrefix p × IsPrintable peers (external_value row)
+      by_route : (o : Option Route) → best p ≡ o → external_row o ≡ Some row → IsIpv4Prefix p × IsPrintable peers (external_value row)
       by_route None at is = absurd (cc)
       by_route (Some r) at is = by_sender r r.from at is
 
@@ -84,20 +84,20 @@ module _ (profile : Profile) (peers : ℕ → Option Neighbour) where
   pub side_print : (link : BgpLink) (best : Rows Route) → AreBestRows profile peers best → Prints peers external_value (split_rows best link)
   side_print link best are p row is = by_row (external_row (best p)) refl is
     where
-      by_test : (b : Bool) (r : External) → external_row (best p) ≡ Some r → cond b (Some r) None ≡ Some row → IsPrefix p × IsPrintable peers (external_value row)
+      by_test : (b : Bool) (r : External) → external_row (best p) ≡ Some r → cond b (Some r) None ≡ Some row → IsIpv4Prefix p × IsPrintable peers (external_value row)
       by_test true r at is = external_print best are p row (at ∙ is)
       by_test false r at is = absurd (cc)
 
-      by_row : (o : Option External) → external_row (best p) ≡ o → on_link link o ≡ Some row → IsPrefix p × IsPrintable peers (external_value row)
+      by_row : (o : Option External) → external_row (best p) ≡ o → on_link link o ≡ Some row → IsIpv4Prefix p × IsPrintable peers (external_value row)
       by_row None at is = absurd (cc)
       by_row (Some r) at is = by_test (is_of link r.internal) r at is
 
   -- ---- what packets are forwarded by
-  outlet_print : (p : AddressPrefix) (r : External) (row : FibRow) (o : Option Outlet) → IsOutletIfAny o → IsPrefix p → IsPrintable peers (external_value r) → over_outlet r o ≡ Some row → IsPrefix p × IsPrintable peers (fib_value row)
+  outlet_print : (p : AddressPrefix) (r : External) (row : FibRow) (o : Option Outlet) → IsOutletIfAny o → IsIpv4Prefix p → IsPrintable peers (external_value r) → over_outlet r o ≡ Some row → IsIpv4Prefix p × IsPrintable peers (fib_value row)
   outlet_print p r row None own prefix printed is = absurd (cc)
   outlet_print p r row (Some o) own prefix printed is =
       let same : record { proto = external_proto r; gateway = Some (first_router o.gateway r.next_hop); iface = o.iface } ≡ row = cc in
-      subst (λ (x : FibRow). IsPrefix p × IsPrintable peers (fib_value x)) same
+      subst (λ (x : FibRow). IsIpv4Prefix p × IsPrintable peers (fib_value x)) same
       (prefix, record { well_told = record { ranges = own.0; told = first_fits o.gateway r.next_hop own.1 printed.well_told.told }; short = tt })
 
   -- the answers that hold at a prefix
@@ -107,11 +107,11 @@ module _ (profile : Profile) (peers : ℕ → Option Neighbour) where
   resolved_print : (s : Resolving Way) (ext : Rows External) → HaveWays s → Prints peers external_value ext → Prints peers fib_value (resolved_rows s ext)
   resolved_print s ext ways prints p row is = by_row (ext p) refl is
     where
-      by_answer : (r : External) (x : Option Way) → ext p ≡ Some r → answers_at s p (external_hop r) ≡ x → made_by external_hop over r x ≡ Some row → IsPrefix p × IsPrintable peers (fib_value row)
+      by_answer : (r : External) (x : Option Way) → ext p ≡ Some r → answers_at s p (external_hop r) ≡ x → made_by external_hop over r x ≡ Some row → IsIpv4Prefix p × IsPrintable peers (fib_value row)
       by_answer r None at known is = absurd (cc)
       by_answer r (Some x) at known is = let own = prints p r at in outlet_print p r row x.outlet (answers_fit IsWay s.known s.walk p ways (external_hop r) x known) own.0 own.1 is
 
-      by_row : (o : Option External) → ext p ≡ o → goes_on external_hop over (answers_at s p) o ≡ Some row → IsPrefix p × IsPrintable peers (fib_value row)
+      by_row : (o : Option External) → ext p ≡ o → goes_on external_hop over (answers_at s p) o ≡ Some row → IsIpv4Prefix p × IsPrintable peers (fib_value row)
       by_row None at is = absurd (cc)
       by_row (Some r) at is = by_answer r (answers_at s p (external_hop r)) at refl is
 

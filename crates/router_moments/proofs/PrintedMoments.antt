@@ -1,5 +1,5 @@
 -- What stands between two steps can be printed: the rows that each stage has, and what the register answers.
-use Rattle.router_moments.proofs.Common.{sym, subst, ◌∙◌, ap, ◌≡◌, ℕ, refl, true, arith, suc, zero, Route, Neighbour, Profile, best_is_a_branchs, peer_at, DeclaredPeer, AreBestRows, resolver_at, res_at, Chained, AllHaveMetrics, Prints, IsFit, neighbours, words_in, AreTablesOf, IsInteriorRow, IsPrintableChain, IsWay, IsNameNumber, route_value, interior_value, Rows, metric_of, way_of, answer_of, chain_at, filt_at, filt_by, Proto, int_rows, branch_of, all_at, Moment, best_of, own_of, read_of, IsPrintableMoment, Stands}
+use Rattle.router_moments.proofs.Common.{sym, subst, ◌∙◌, ap, ◌≡◌, ℕ, refl, true, false, arith, suc, zero, Route, Neighbour, Profile, best_is_a_branchs, peer_at, DeclaredPeer, AreBestRows, resolver_at, res_at, Chained, AllHaveMetrics, Prints, IsFit, neighbours, words_in, AreTablesOf, IsInteriorRow, IsPrintableChain, IsWay, IsNameNumber, route_value, interior_value, Rows, metric_of, way_of, answer_of, chain_at, filt_at, filt_by, Proto, int_rows, branch_of, all_at, Moment, best_of, own_of, read_of, IsPrintableMoment, Stands}
 use Rattle.std.proofs.Common.{Option, Some, None}
 use Rattle.event_text.specs.Declarations.{IsDeclaration}
 use Rattle.journal_laws.specs.Standing.{IsMetric}
@@ -11,15 +11,16 @@ use Rattle.router_moments.proofs.HeardRows.{heard_of}
 use Rattle.router_moments.proofs.PrintedForwards.{own_print}
 use Rattle.router_moments.proofs.PrintedReaders.{read_are}
 
--- what `best` is made of
+-- what `best` is made of, in IPv4's network
 pub record IsShown (m : Moment) : Type 0 where
+  pub first : m.declared.profile.second ≡ false
   pub declared : IsDeclaration m.declared
   pub chains : (k : ℕ) (c : Chained) → chain_at k m.chains ≡ Some c → IsPrintableChain m.declared.profile c
   pub interior : (proto : Proto) → AreTablesOf IsInteriorRow (branch_of proto m.tree).tables
   pub hops : AllHaveMetrics m.hops
 
 pub shown : (m : Moment) → IsPrintableMoment m → IsShown m
-shown m printable = record { declared = printable.declared; chains = printable.chains; interior = printable.interior; hops = printable.hops }
+shown m printable = record { first = printable.exits.first; declared = printable.declared; chains = printable.chains; interior = printable.interior; hops = printable.hops }
 
 module _ (m : Moment) (stands : Stands m) (is : IsShown m) where
   abbrev peers : ℕ → Option Neighbour
@@ -72,7 +73,7 @@ module _ (m : Moment) (stands : Stands m) (is : IsShown m) where
   int_shown = int_prints peers m.tree is.interior
 
   pub own_shown : Prints peers route_value (own_of m)
-  own_shown = own_print m.declared.profile peers (leaves_all m.declared is.declared).peers.nobody m.declared.speaker m.redist (int_rows m.tree) stands.exits.sender int_shown
+  own_shown = own_print m.declared.profile peers is.first (leaves_all m.declared is.declared).peers.nobody m.declared.speaker m.redist (int_rows m.tree) stands.exits.sender int_shown
 
   all_shown : (k : ℕ) → Prints peers route_value (all_at (own_of m) m.chains m.hops k)
   all_shown zero = own_shown

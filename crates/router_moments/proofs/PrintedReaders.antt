@@ -1,5 +1,5 @@
 -- What readers of `best` have can be printed, and stays so where a change of `best` joins the queue, and where the forwarding side takes one.
-use Rattle.router_moments.proofs.Common.{sym, subst, ◌∙◌, ap, ◌≡◌, ℕ, refl, ◌≢◌, AddressPrefix, Route, Neighbour, Profile, ArePrintableExits, AreBestRows, Exited, with_queue, Queued, Takes, unread_by, IsPrefix, IsSent, Rows, Change, Queues, read_rows_by}
+use Rattle.router_moments.proofs.Common.{sym, subst, ◌∙◌, ap, ◌≡◌, ℕ, refl, ◌≢◌, AddressPrefix, Route, Neighbour, Profile, ArePrintableExits, AreBestRows, Exited, with_queue, Queued, Takes, unread_by, IsIpv4Prefix, IsSent, Rows, Change, Queues, read_rows_by}
 use Rattle.std.proofs.Common.{Option, Some, None}
 use Rattle.link_change.proofs.RowLemmas.{with_row_here}
 use Rattle.exit_laws.specs.Printable.{IsBestChange}
@@ -12,7 +12,7 @@ module _ (profile : Profile) (peers : ℕ → Option Neighbour) where
   read_are e (Some r) best exits are p row at = rows_read profile peers (unread_by e.queue r) best (exits.unread r) are p row at
 
   -- ---- a change of `best` joins the queue, if one came
-  prefix_of_one : (p : AddressPrefix) (before after : Option Route) → after ≢ before → ((r : Route) → before ≡ Some r → IsPrefix p) → ((r : Route) → after ≡ Some r → IsPrefix p) → IsPrefix p
+  prefix_of_one : (p : AddressPrefix) (before after : Option Route) → after ≢ before → ((r : Route) → before ≡ Some r → IsIpv4Prefix p) → ((r : Route) → after ≡ Some r → IsIpv4Prefix p) → IsIpv4Prefix p
   prefix_of_one p None None differs was is = absurd (differs refl)
   prefix_of_one p (Some r) after differs was is = was r refl
   prefix_of_one p None (Some r) differs was is = is r refl

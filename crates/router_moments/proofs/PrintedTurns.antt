@@ -1,5 +1,5 @@
 -- What falls and turns say can be printed, and so can what stands behind them.
-use Rattle.router_moments.proofs.Common.{sym, subst, ◌∙◌, ap, ◌≡◌, ℕ, List, arith, ◌++◌, ◌≤◌, not, inr, IfSome, AllByRecursion, AddressPrefix, Attrs, Route, Neighbour, Profile, Speaker, peer_at, Declaration, ArePrintableExits, AreBestRows, with_queue, Resolvers, PeerRows, res_at, GoesOn, Chained, welded, fed, IsPrefix, AllHaveMetrics, Prints, IsFit, neighbours, IsPrinted, AreTablesOf, IsInteriorRow, IsPrintableChain, HaveWays, IsWay, IsNameNumber, route_value, interior_value, sent_entries, Entry, Line, Link, Best, Res, Org, Task, Value, IsSent, Rows, Change, LiveState, all_both, swept_one, same_some, route_hop, with_metric, metric_of, way_of, over, external_hop, answer_of, put_each, chain_at, Chains, filt_at, put_chain, Registry, fib_over, FallsOn, Proto, Interior, put_all, welded_branch, swept_branch, Branch, int_rows, Treed, branch_of, put_branch, own_rows, best_entries, own_entries, RunsFirst, Moment, best_of, own_of, with_exits, read_rows_by, with_chains, read_of, with_tree, with_hops, candidates_of, with_redist, with_rib, ArePrinted, IsPrintableMoment, Stands, journal_lines, Turns, IsTurn, BelowInt, FallsRoute, RunsPhase, Resolves, FallsPeer, IsPeerTurn, RunsAll, FeedsAll, AreHeard, Phase}
+use Rattle.router_moments.proofs.Common.{sym, subst, ◌∙◌, ap, ◌≡◌, ℕ, List, arith, ◌++◌, ◌≤◌, not, inr, IfSome, AllByRecursion, AddressPrefix, Attrs, Route, Neighbour, Profile, Speaker, peer_at, Declaration, ArePrintableExits, AreBestRows, with_queue, Resolvers, PeerRows, res_at, GoesOn, Chained, welded, fed, IsIpv4Prefix, AllHaveMetrics, Prints, IsFit, neighbours, IsPrinted, AreTablesOf, IsInteriorRow, IsPrintableChain, HaveWays, IsWay, IsNameNumber, route_value, interior_value, sent_entries, Entry, Line, Link, Best, Res, Org, Task, Value, IsSent, Rows, Change, LiveState, all_both, swept_one, same_some, route_hop, with_metric, metric_of, way_of, over, external_hop, answer_of, put_each, chain_at, Chains, filt_at, put_chain, Registry, fib_over, FallsOn, Proto, Interior, put_all, welded_branch, swept_branch, Branch, int_rows, Treed, branch_of, put_branch, own_rows, best_entries, own_entries, RunsFirst, Moment, best_of, own_of, with_exits, read_rows_by, with_chains, read_of, with_tree, with_hops, candidates_of, with_redist, with_rib, ArePrinted, IsPrintableMoment, Stands, journal_lines, Turns, IsTurn, BelowInt, FallsRoute, RunsPhase, Resolves, FallsPeer, IsPeerTurn, RunsAll, FeedsAll, AreHeard, Phase}
 use Rattle.std.proofs.Common.{[], ◌∷◌, Option, Some, None}
 use Rattle.journal_text.specs.Walk.{no_links}
 use Rattle.journal_text.specs.declared.line.Line.TheVariants as lines
@@ -73,7 +73,7 @@ module _ (k : ℕ) (sent : Option (Change Route)) (P : Chains → List (Entry Va
     (c less : Chained) (at : chain_at k m.chains ≡ Some c) (after : f.fallen ≡ put_chain k less m.chains) (p : AddressPrefix) (changes : Changes k p sent m.chains f.fallen) where
   fall_prints : Stands m' → IsPrintableMoment m → IsFit (neighbours m.declared) m.declared.profile less → AreShown m f.entries → StaysPrintable m said m'
   fall_prints stands' printable own falls = record {
-    now = subst IsPrintableMoment (sym f.after) (record { declared = printable.declared; chains = new.chains; interior = printable.interior; hops = metrics; ways = printable.ways; exits = queued_printable m.declared.profile (neighbours m.declared) (best_of m) (best_of now) p f.decided.best m.exits m'.exits (best_fit m stands old) best chosen f.queued printable.exits });
+    now = subst IsPrintableMoment (sym f.after) (record { first = printable.first; declared = printable.declared; chains = new.chains; interior = printable.interior; hops = metrics; ways = printable.ways; exits = queued_printable m.declared.profile (neighbours m.declared) (best_of m) (best_of now) p f.decided.best m.exits m'.exits (best_fit m stands old) best chosen f.queued printable.exits });
     lines = lines_shown m said (f.entries ++ (f.resolved ++ (f.best ++ f.weld))) f.lines (both_shown m f.entries _ falls (both_shown m f.resolved _ resolved (both_shown m f.best f.weld (decided_shown m (best_of m) (best_of now) p f.decided.best f.best f.decided.lines (best_fit m stands old) best chosen) welds)));
   }
     where
@@ -97,6 +97,7 @@ module _ (k : ℕ) (sent : Option (Change Route)) (P : Chains → List (Entry Va
 
       new : IsShown now
       new = record {
+        first = printable.exits.first;
         declared = printable.declared;
         chains = subst (λ (a : Chains). (j : ℕ) (d : Chained) → chain_at j a ≡ Some d → IsPrintableChain m.declared.profile d) (sym put) (put_each (λ j d. IsPrintableChain m.declared.profile d) k (welded less) m.chains welded_own.printable printable.chains);
         interior = printable.interior;
@@ -125,7 +126,7 @@ module _ (k : ℕ) (sent : Option (Change Route)) (P : Chains → List (Entry Va
 
 -- ---- one prefix that a peer said something of
 abbrev pub IsSaid : Profile → Neighbour → AddressPrefix × Option Attrs → Type 0
-IsSaid profile w change = IsPrefix change.0 × IfSome change.1 (WasHeard profile (not w.internal))
+IsSaid profile w change = IsIpv4Prefix change.0 × IfSome change.1 (WasHeard profile (not w.internal))
 
 feed_prints : (k : ℕ) (w : Neighbour) (p : AddressPrefix) (row : Option Attrs) (m : Moment) (said : List Line) (m' : Moment) → Stands m → Stands m' → neighbours m.declared k ≡ Some w → IsSaid m.declared.profile w (p, row) → Feeds k (p, row) m said m' → IsPrintableMoment m → StaysPrintable m said m'
 feed_prints k w p row m said m' stands stands' there is t printable =
@@ -156,7 +157,7 @@ peer_prints task m said m' stands stands' t printable =
 -- ---- one turn of the next hops of a peer
 hop_prints : (k : ℕ) (m : Moment) (said : List Line) (m' : Moment) → Stands m → Stands m' → IsHopTurn k m said m' → IsPrintableMoment m → StaysPrintable m said m'
 hop_prints k m said m' stands stands' t printable = record {
-  now = subst IsPrintableMoment (sym t.after) (record { declared = printable.declared; chains = printable.chains; interior = printable.interior; hops = metrics; ways = printable.ways; exits = queued_printable m.declared.profile (neighbours m.declared) (best_of m) (best_of now) goes.0 t.decided.best m.exits m'.exits (best_fit m stands old) (best_fit now then new) chosen t.queued printable.exits });
+  now = subst IsPrintableMoment (sym t.after) (record { first = printable.first; declared = printable.declared; chains = printable.chains; interior = printable.interior; hops = metrics; ways = printable.ways; exits = queued_printable m.declared.profile (neighbours m.declared) (best_of m) (best_of now) goes.0 t.decided.best m.exits m'.exits (best_fit m stands old) (best_fit now then new) chosen t.queued printable.exits });
   lines = lines_shown m said (t.entries ++ t.best) t.lines (both_shown m t.entries t.best resolved (decided_shown m (best_of m) (best_of now) goes.0 t.decided.best t.best t.decided.lines (best_fit m stands old) (best_fit now then new) chosen));
 }
   where
@@ -174,7 +175,7 @@ hop_prints k m said m' stands stands' t printable = record {
         (answers_turned IsMetric route_hop with_metric metric_of _ _ m.registry m'.registry t.turn.turn.resolver t.turn.turn.taken t.sent (metrics_answered m stands old) t.turn.turn.turned (printable.hops k t.turn.turn.resolver t.turn.turn.at)) printable.hops
 
     new : IsShown now
-    new = record { declared = old.declared; chains = old.chains; interior = old.interior; hops = metrics }
+    new = record { first = old.first; declared = old.declared; chains = old.chains; interior = old.interior; hops = metrics }
 
     goes : (p : AddressPrefix) × GoesOn k p t.sent m.hops m'.hops t.entries (filt_at m.chains) (filt_at m.chains)
     goes = hop_goes k m said m' stands t
@@ -192,7 +193,7 @@ hop_prints k m said m' stands stands' t printable = record {
 -- ---- the walk of redistribution
 own_prints : (m : Moment) (said : List Line) (m' : Moment) → Stands m → Stands m' → IsOwnTurn m said m' → IsPrintableMoment m → StaysPrintable m said m'
 own_prints m said m' stands stands' t printable = record {
-  now = subst IsPrintableMoment (sym t.after) (record { declared = printable.declared; chains = printable.chains; interior = printable.interior; hops = printable.hops; ways = printable.ways; exits = queued_printable m.declared.profile (neighbours m.declared) (best_of m) (best_of now) sent.0 t.decided.best m.exits m'.exits (best_fit m stands old) (best_fit now then new) chosen t.queued printable.exits });
+  now = subst IsPrintableMoment (sym t.after) (record { first = printable.first; declared = printable.declared; chains = printable.chains; interior = printable.interior; hops = printable.hops; ways = printable.ways; exits = queued_printable m.declared.profile (neighbours m.declared) (best_of m) (best_of now) sent.0 t.decided.best m.exits m'.exits (best_fit m stands old) (best_fit now then new) chosen t.queued printable.exits });
   lines = lines_shown m said (own_entries t.own ++ t.best) t.lines (both_shown m (own_entries t.own) t.best (sent_printed (neighbours m.declared) route_value Red (own_of m) (own_of now) sent.0 t.own tt (own_shown m stands old) (own_shown now then new) sent.1)
       (decided_shown m (best_of m) (best_of now) sent.0 t.decided.best t.best t.decided.lines (best_fit m stands old) (best_fit now then new) chosen));
 }
@@ -207,7 +208,7 @@ own_prints m said m' stands stands' t printable = record {
     old = shown m printable
 
     new : IsShown now
-    new = record { declared = old.declared; chains = old.chains; interior = old.interior; hops = old.hops }
+    new = record { first = old.first; declared = old.declared; chains = old.chains; interior = old.interior; hops = old.hops }
 
     sent : (p : AddressPrefix) × IsSent (own_of m) (own_of now) p t.own
     sent = own_sent m t.me m'.redist t.own t.local t.walks
@@ -219,12 +220,12 @@ own_prints m said m' stands stands' t printable = record {
 out_prints : (k : ℕ) (m : Moment) (said : List Line) (m' : Moment) → Stands m → IsOutTurn k m said m' → IsPrintableMoment m → StaysPrintable m said m'
 out_prints k m said m' stands t printable =
     let x = turn_is_printed m.declared.profile (neighbours m.declared) k (candidates_of m) (best_of m) t.sent m.exits m'.exits said stands.exits.profile (best_fit m stands (shown m printable)) printable.exits t.turn in
-    record { now = subst IsPrintableMoment (sym t.after) (record { declared = printable.declared; chains = printable.chains; interior = printable.interior; hops = printable.hops; ways = printable.ways; exits = x.exits }); lines = x.lines }
+    record { now = subst IsPrintableMoment (sym t.after) (record { first = printable.first; declared = printable.declared; chains = printable.chains; interior = printable.interior; hops = printable.hops; ways = printable.ways; exits = x.exits }); lines = x.lines }
 
 refresh_prints : (k : ℕ) (m : Moment) (said : List Line) (m' : Moment) → Stands m → IsRefreshTurn k m said m' → IsPrintableMoment m → StaysPrintable m said m'
 refresh_prints k m said m' stands t printable =
     let x = resend_is_printed m.declared.profile (neighbours m.declared) k (best_of m) m.exits m'.exits said stands.exits.each stands.exits.read printable.exits t.turn in
-    record { now = subst IsPrintableMoment (sym t.after) (record { declared = printable.declared; chains = printable.chains; interior = printable.interior; hops = printable.hops; ways = printable.ways; exits = x.exits }); lines = x.lines }
+    record { now = subst IsPrintableMoment (sym t.after) (record { first = printable.first; declared = printable.declared; chains = printable.chains; interior = printable.interior; hops = printable.hops; ways = printable.ways; exits = x.exits }); lines = x.lines }
 
 read_prints : (m : Moment) (said : List Line) (m' : Moment) → Stands m → Stands m' → IsReadTurn m said m' → IsPrintableMoment m → StaysPrintable m said m'
 read_prints m said m' stands stands' t printable = record {
@@ -253,7 +254,7 @@ read_prints m said m' stands stands' t printable = record {
     ways = answers_kept IsWay way_of m.registry m.rib.forwarding m'.rib.forwarding (ways_answered m stands (shown m printable)) goes.keeps printable.ways
 
     after : IsPrintableMoment now
-    after = record { declared = printable.declared; chains = printable.chains; interior = printable.interior; hops = printable.hops; ways = ways; exits = taken_printable m.declared.profile (neighbours m.declared) m.exits m'.exits.queue t.reader t.change t.takes printable.exits }
+    after = record { first = printable.first; declared = printable.declared; chains = printable.chains; interior = printable.interior; hops = printable.hops; ways = ways; exits = taken_printable m.declared.profile (neighbours m.declared) m.exits m'.exits.queue t.reader t.change t.takes printable.exits }
 
     old : AreBestRows m.declared.profile (neighbours m.declared) (read_of m)
     old = read_fit m stands printable
@@ -268,7 +269,7 @@ external_prints m said m' stands t printable =
     let ways : HaveWays m'.rib.forwarding = answers_turned IsWay external_hop over way_of _ _ m.registry m'.registry m.rib.forwarding m'.rib.forwarding t.turn.resolved (ways_answered m stands (shown m printable)) t.turn.turned printable.ways in
     let read = read_fit m stands printable in
     record {
-      now = subst IsPrintableMoment (sym t.after) (record { declared = printable.declared; chains = printable.chains; interior = printable.interior; hops = printable.hops; ways = ways; exits = printable.exits });
+      now = subst IsPrintableMoment (sym t.after) (record { first = printable.first; declared = printable.declared; chains = printable.chains; interior = printable.interior; hops = printable.hops; ways = ways; exits = printable.exits });
       lines = lines_shown m said t.entries t.lines (subst (AreShown m) (sym t.turn.lines) (fib_printed m.declared.profile (neighbours m.declared) (fib_over m.rib (int_rows m.tree)) (fib_over m'.rib (int_rows m.tree)) t.turn.fib.0 t.fib
           (fib_print m.declared.profile (neighbours m.declared) m.rib (read_of m) (int_rows m.tree) stands.exits.external read printable.ways int)
           (fib_print m.declared.profile (neighbours m.declared) m'.rib (read_of m) (int_rows m.tree) (t.turn.stands (read_of m) stands.exits.external) read ways int) t.turn.fib.1));
@@ -318,6 +319,7 @@ module _ (proto : Proto) (b : Branch) (p : AddressPrefix) (way : List Link) (m :
 
   new : IsShown now
   new = record {
+    first = old.first;
     declared = printable.declared;
     chains = printable.chains;
     interior = put_all (λ (x : Branch). AreTablesOf IsInteriorRow x.tables) proto (welded_branch b) m.tree (welded_fit IsInteriorRow b.tables own).printable printable.interior;
@@ -329,6 +331,7 @@ module _ (proto : Proto) (b : Branch) (p : AddressPrefix) (way : List Link) (m :
 
   after : IsPrintableMoment now
   after = record {
+    first = printable.first;
     declared = new.declared;
     chains = new.chains;
     interior = new.interior;
@@ -360,7 +363,7 @@ module _ (proto : Proto) (b : Branch) (p : AddressPrefix) (way : List Link) (m :
       (fib_print m.declared.profile peers f.followed.rib (read_of now) (int_rows m.tree) then.exits.external read after.ways (int_shown m stands old))
       (fib_print m.declared.profile peers f.followed.rib (read_of now) (int_rows t) then.exits.external read after.ways int_then) (g.forwards.goes (int_rows m.tree) (int_rows t) p rows).fib)))
 
-  pub route_prints : IsPrefix p → AreEachOnce way → StaysPrintable m said m'
+  pub route_prints : IsIpv4Prefix p → AreEachOnce way → StaysPrintable m said m'
   route_prints prefix once = record {
     now = subst IsPrintableMoment (sym on.is) after;
     lines = lines_shown m said (f.entries ++ (f.below ++ tree_weld_entries proto t)) f.lines (both_shown m f.entries _ fall (both_shown m f.below _ (below_shown f.sent f.below f.below_int f.rows chosen) weld));

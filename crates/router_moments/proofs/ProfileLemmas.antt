@@ -44,10 +44,33 @@ profile_follows d (Down k) = down_keeps d k (peer_at k d.peers)
 profile_follows d (Bgp k octets) = heard_keeps d k octets (peer_at k d.peers)
 profile_follows d other = refl
 
+-- ---- the family is the same after each event
+same_up : (d : Declaration) (k : ℕ) (o : Option DeclaredPeer) → (declared_up d k o).v6 ≡ d.v6
+same_up d k None = refl
+same_up d k (Some p) = elim p.up as (λ (b : Bool). (cond b d (with_session d k)).v6 ≡ d.v6) [ true ↦ refl | false ↦ refl ]
+
+same_ends : (d : Declaration) (k : ℕ) (b : Bool) → (cond b (without_session d k) d).v6 ≡ d.v6
+same_ends d k true = refl
+same_ends d k false = refl
+
+same_down : (d : Declaration) (k : ℕ) (o : Option DeclaredPeer) → (declared_down d k o).v6 ≡ d.v6
+same_down d k None = refl
+same_down d k (Some p) = same_ends d k p.up
+
+same_heard : (d : Declaration) (k : ℕ) (octets : List ℕ) (o : Option DeclaredPeer) → (declared_heard d k octets o).v6 ≡ d.v6
+same_heard d k octets None = refl
+same_heard d k octets (Some p) = same_ends d k (p.up && ends_session d.profile (not p.words.internal) octets)
+
+pub family_follows : (d : Declaration) (event : Event) → (declared_after d event).v6 ≡ d.v6
+family_follows d (Up k) = same_up d k (peer_at k d.peers)
+family_follows d (Down k) = same_down d k (peer_at k d.peers)
+family_follows d (Bgp k octets) = same_heard d k octets (peer_at k d.peers)
+family_follows d other = refl
+
 -- ---- what stands before `local`
 -- exits that nobody has yet can be printed
-pub nothing_printable : (profile : Profile) (peers : ℕ → Option Neighbour) → ArePrintableExits profile peers (no_exits profile)
-nothing_printable profile peers = empty_is_printed profile peers (no_exits profile) (λ j. get-empty {X = OutChained} nat_cmp j) (λ reader. ap unread_or_none (get-empty {X = List (Change Route)} nat_cmp reader))
+pub nothing_printable : (profile : Profile) → profile.second ≡ false → (peers : ℕ → Option Neighbour) → ArePrintableExits profile peers (no_exits profile)
+nothing_printable profile first peers = empty_is_printed profile peers (no_exits profile) first (λ j. get-empty {X = OutChained} nat_cmp j) (λ reader. ap unread_or_none (get-empty {X = List (Change Route)} nat_cmp reader))
 
 module _ (m : Moment) (profile : Profile) (stands : Stands m) (first : m.declared.speaker ≡ None) where
   abbrev then : Moment

@@ -75,18 +75,18 @@ module _ (k : ℕ) (m : Moment) (stands : Stands m) where
       by_chain (Some c) at is = subst (λ (o : Option OutChained). ExitsAt m.declared.speaker m.outgoing k (peer_at k m.declared.peers) o) (sym (put_here k (walk_begun c) m.exits.queue m.exits)) (same_session m.declared.speaker m.outgoing k (peer_at k m.declared.peers) c (walk_begun c).refresh is)
 
   pub refreshed_keeps : (r : RouteRefresh) → Keeps (live_state m) m (refreshed k r m) []
-  refreshed_keeps r = by_served (is_served r)
+  refreshed_keeps r = by_served (is_served m.declared.profile.second r)
     where
       by_served : (b : Bool) → Keeps (live_state m) m (cond b (with_exits m (refreshed_exits k m.exits)) m) []
       by_served true = rewalked m k (refreshed_exits k m.exits) stands (refresh_keeps k m.exits stands.exits.each) asked_here [] refl (heard_quiet m (with_exits m (refreshed_exits k m.exits)) [] tt (refresh_keeps_views k m.exits))
       by_served false = keeps_none m stands
 
 -- the router that the call makes is that
-pub refresh_is : (m v : Moment) (k : ℕ) (r : RouteRefresh) (e : Exited) → v ≡ m → e ≡ refreshed_exits k v.exits → is_served r ≡ true → with_exits v e ≡ refreshed k r m
+pub refresh_is : (m v : Moment) (k : ℕ) (r : RouteRefresh) (e : Exited) → v ≡ m → e ≡ refreshed_exits k v.exits → is_served m.declared.profile.second r ≡ true → with_exits v e ≡ refreshed k r m
 refresh_is m v k r e view is served =
     ap (with_exits v) is ∙ ap (λ (n : Moment). with_exits n (refreshed_exits k n.exits)) view ∙ ap (λ (b : Bool). cond b (with_exits m (refreshed_exits k m.exits)) m) (sym served)
 
-pub unserved_is : (m : Moment) (k : ℕ) (r : RouteRefresh) → is_served r ≡ false → m ≡ refreshed k r m
+pub unserved_is : (m : Moment) (k : ℕ) (r : RouteRefresh) → is_served m.declared.profile.second r ≡ false → m ≡ refreshed k r m
 unserved_is m k r other = ap (λ (b : Bool). cond b (with_exits m (refreshed_exits k m.exits)) m) (sym other)
 
 -- ---- one turn of it

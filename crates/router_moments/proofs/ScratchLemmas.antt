@@ -9,7 +9,6 @@ use Rattle.link_change.proofs.InOrderLemmas.{unchanged_stays}
 use Rattle.loss_chain.specs.Tables.{rows_above}
 use Rattle.loss_chain.specs.Held.{has_row}
 use Rattle.loss_chain.proofs.HeldLemmas.{live_where_none_is_lost}
-use Rattle.peer_out.specs.Forms.{as_sent}
 use Rattle.filter_bank.specs.Outgoing.{outgoing}
 use Rattle.filter_bank.proofs.LawLemmas.{exact_unless_held_up}
 use Rattle.pass_core.specs.Turns.{row_lags}
@@ -28,7 +27,7 @@ use Rattle.exit_side.specs.Laws as exits
 use Rattle.rib_exit.specs.Laws as external
 use Rattle.peer_side.specs.Peers.{links_by, lags_in}
 use Rattle.live_state.specs.Lives.{Interiors}
-use Rattle.live_state.specs.Decided.{live_rows, judged_rows, least_rows, origins, since_local, with_metric_of, resolved_row, resolved_rows, longest_match, rows_if_any, resolved_of, own_row, own_rows as live_own_rows, candidates_of as live_candidates, best_of as live_best, external_row, external_rows, over_interior, reached_row, forwarding_rows, sent_rows, in_session}
+use Rattle.live_state.specs.Decided.{sent_to, live_rows, judged_rows, least_rows, origins, since_local, with_metric_of, resolved_row, resolved_rows, longest_match, rows_if_any, resolved_of, own_row, own_rows as live_own_rows, candidates_of as live_candidates, best_of as live_best, external_row, external_rows, over_interior, reached_row, forwarding_rows, sent_rows, in_session}
 use Rattle.live_state.proofs.LongestLemmas.{match_is}
 use Rattle.live_state.proofs.LeastLemmas.{first_false, second_false}
 use Rattle.register_interest.specs.Covers.{longest}
@@ -326,14 +325,14 @@ module _ (org_exact : OrgWhereNoneIsLost) (hops_exact : hops.ExactUnlessHeldUp) 
     session_exact None d None is each number rows = refl
 
   made_as : (j : ℕ) (c : OutChained) (me : Speaker) (d : DeclaredPeer) → exit_at j m.exits ≡ Some c → IsExitOf me (rules_to j m.outgoing) d c → (p : AddressPrefix) (row : Option Route)
-      → made_by c (present c.filter) p row ≡ outgoing (as_sent m.declared.profile me (not d.words.internal)) d.words (Some (rules_to j m.outgoing)) p row
+      → made_by c (present c.filter) p row ≡ outgoing (sent_to m.declared.profile me (not d.words.internal)) d.words (Some (rules_to j m.outgoing)) p row
   made_as j c me d at is p row =
       ap (λ (r : Option (List Rule)). made_by c r p row) is.latest
-      ∙ ap (λ (f : Profile). outgoing (as_sent f c.exit.me c.exit.external) c.peer (Some (rules_to j m.outgoing)) p row) (stands.exits.each.each j c at).profile
-      ∙ ap (λ (f : Profile). outgoing (as_sent f c.exit.me c.exit.external) c.peer (Some (rules_to j m.outgoing)) p row) stands.exits.profile
-      ∙ ap (λ (b : Bool). outgoing (as_sent m.declared.profile c.exit.me b) c.peer (Some (rules_to j m.outgoing)) p row) (stands.exits.read j c at).chain.kind
-      ∙ ap (λ (x : Speaker). outgoing (as_sent m.declared.profile x (not c.peer.internal)) c.peer (Some (rules_to j m.outgoing)) p row) is.speaker
-      ∙ ap (λ (w : Neighbour). outgoing (as_sent m.declared.profile me (not w.internal)) w (Some (rules_to j m.outgoing)) p row) is.words
+      ∙ ap (λ (f : Profile). outgoing (sent_to f c.exit.me c.exit.external) c.peer (Some (rules_to j m.outgoing)) p row) (stands.exits.each.each j c at).profile
+      ∙ ap (λ (f : Profile). outgoing (sent_to f c.exit.me c.exit.external) c.peer (Some (rules_to j m.outgoing)) p row) stands.exits.profile
+      ∙ ap (λ (b : Bool). outgoing (sent_to m.declared.profile c.exit.me b) c.peer (Some (rules_to j m.outgoing)) p row) (stands.exits.read j c at).chain.kind
+      ∙ ap (λ (x : Speaker). outgoing (sent_to m.declared.profile x (not c.peer.internal)) c.peer (Some (rules_to j m.outgoing)) p row) is.speaker
+      ∙ ap (λ (w : Neighbour). outgoing (sent_to m.declared.profile me (not w.internal)) w (Some (rules_to j m.outgoing)) p row) is.words
 
   numbered : (j : ℕ) (c : OutChained) → exit_at j m.exits ≡ Some c → c.peer.number ≡ j
   numbered j c at = (stands.exits.each.each j c at).number

@@ -83,11 +83,11 @@ module _ (m m' : Moment) (stands : Stands m) (j s : ℕ) (begun : HasBegun j s m
       subst (IsServed j s m'.exits) (append_assoc since (note ∷ []) rest ∙ ap (λ (ls : List Line). since ++ ls) (sym is)) (lost k t rest l (since ++ note ∷ []) noted)
 
   heard : (k : ℕ) (p : DeclaredPeer) (message : Message) (said : List Line) → Hears k p m message said m' → Serve said
-  heard k p (messages.Update u) said is = stays said (feeds_chains k (changes_of u) m said m' is)
+  heard k p (messages.Update u) said is = stays said (feeds_chains k (changes_of m.declared.profile u) m said m' is)
   heard k p messages.Keepalive said is = same_moment said is.1
   heard k p messages.Skip said is = same_moment said is.1
   heard k p messages.Notification said is = lost k p.session said is
-  heard k p (messages.Refresh r) said is = refresh_if (is_served r) k said is.1
+  heard k p (messages.Refresh r) said is = refresh_if (is_served m.declared.profile.second r) k said is.1
   heard k p (messages.Notify n) said is = notified k p.session _ is.0 said is.1 is.2
 
   heard_if : (up : Bool) (k : ℕ) (p : DeclaredPeer) (octets : List ℕ) (said : List Line) (turns : ℕ) → HearsIf up m k p octets said turns m' → Serve said
@@ -167,7 +167,7 @@ module _ (profile : Profile) (external : Bool) (octets : List ℕ) (r : RouteRef
     | inr fault ↦ absurd (fault.2 (messages.Refresh r) asks)
   ]
 
-asked : (m m' : Moment) (k : ℕ) (p : DeclaredPeer) (r : RouteRefresh) → peer_at k m.declared.peers ≡ Some p → is_served r ≡ true → m' ≡ refreshed k r m → IsServedAt k p.session m' []
+asked : (m m' : Moment) (k : ℕ) (p : DeclaredPeer) (r : RouteRefresh) → peer_at k m.declared.peers ≡ Some p → is_served m.declared.profile.second r ≡ true → m' ≡ refreshed k r m → IsServedAt k p.session m' []
 asked m m' k p r there served is =
     let now : m' ≡ with_exits m (refreshed_exits k m.exits) = is ∙ ap (λ (b : Bool). cond b (with_exits m (refreshed_exits k m.exits)) m) served in
     subst (λ (x : Moment). IsServedAt k p.session x []) (sym now) (record { begun = (p, there, omega arith); served = serving_begins k p.session m.exits })

@@ -5,8 +5,8 @@ use Rattle.std.specs.Prelude.{◌^◌, option_map}
 use Rattle.std.specs.FinMap as tables
 use Rattle.std.specs.FinMap.{get-remove}
 use Rattle.out_chain.specs.Steps.{new_out, exit_to, with_rules as with_rules_out}
-use Rattle.bgp_wire.specs.Attributes.{is_no_host}
-use Rattle.bgp_attr.specs.Speakers.{IsSpeaker, asn_bound}
+use Rattle.bgp_wire.specs.Readable.{IsHost}
+use Rattle.bgp_attr.specs.Speakers.{IsProfileOf, IsSpeaker, asn_bound}
 use Rattle.bgp_wire.specs.Paths.{width_of}
 use Rattle.journal_text.specs.declared.link.Link.TheVariants.{ReadRib}
 use Rattle.event_text.specs.declared.event.Event.TheVariants as events
@@ -241,7 +241,7 @@ speaker_up : (d : Declaration) (k : ℕ) → refusal d (events.Up k) ≡ None �
 unfolding refusal
 speaker_up d k e = by_speaker d.speaker e
   where
-    by_speaker : (s : Option Speaker) → refusal_at d.profile s d.peers (events.Up k) ≡ None → IsSome s
+    by_speaker : (s : Option Speaker) → refusal_at d.v6 d.profile s d.peers (events.Up k) ≡ None → IsSome s
     by_speaker None e = absurd (cc)
     by_speaker (Some me) e = refl
 
@@ -355,12 +355,9 @@ outgoing_edited m v k rules copied policies e view stands same set edits =
 
 -- ---- `local`
 -- this speaker's words can be said
-pub may_send : (profile : Profile) (words : Speaker) → IsSpeaker profile.as4 words → IsSender profile words
-may_send profile words is = record { asn = by_width profile.as4 is.asn_most; addr = record { ipv4 = is.addr_fits; first = no_host (words.addr / 2 ^ 120) is.host } }
+pub may_send : (v6 : Bool) (profile : Profile) (words : Speaker) → IsProfileOf v6 profile → IsSpeaker v6 profile.as4 words → IsSender profile words
+may_send v6 profile words of is = record { asn = by_width profile.as4 is.asn_most; addr = subst (λ (b : Bool). IsHost b words.addr) (sym of.second) (record { of = is.addr_fits; host = is.host }) }
   where
     by_width : (as4 : Bool) → words.asn < asn_bound as4 → words.asn < 256 ^ width_of as4
     by_width true most = most
     by_width false most = most
-
-    no_host : (n : ℕ) → (nat_le 1 n && nat_le n 223 && not (n == 127)) ≡ true → is_no_host n ≡ false
-    no_host n host = grind (arith, nat_tests)

@@ -20,7 +20,7 @@ use Rattle.journal_text.specs.Lines.{Line}
 use Rattle.journal_text.specs.declared.line.Line.TheVariants as lines
 use Rattle.journal_text.specs.Walk.{Leads}
 use Rattle.journal_text.specs.Texts.{entries_of}
-use Rattle.event_text.specs.declared.event.Event.{Event}
+use Rattle.event_text.specs.Event.{Event}
 use Rattle.event_text.specs.declared.event.Event.TheVariants.{Nothing, As4, Revised, Reflect, Local, Peer, Up, Down, Bgp, FilterIn, FilterOut, RouteAdd, RouteDel, Lose, Redist, Cover, Settled, Idle, Work, Ask, Show}
 use Rattle.event_text.specs.declared.declared.DeclaredPeer.{DeclaredPeer}
 use Rattle.policy_rules.specs.Rules.{Rule}
@@ -181,11 +181,11 @@ Notifies k s octets m said m' = (rest : List Line) × (said ≡ lines.Note k oct
 -- A refresh that is served asks for all that the peer was sent, once more: the walk over these rows begins before all prefixes, also
 -- where one is on (RFC 2918, sections 3 and 4). Any other does nothing.
 abbrev pub refreshed : ℕ → RouteRefresh → Moment → Moment
-refreshed k r m = cond (is_served r) (with_exits m (refreshed_exits k m.exits)) m
+refreshed k r m = cond (is_served m.declared.profile.second r) (with_exits m (refreshed_exits k m.exits)) m
 
 -- a message came from a peer that is up
 abbrev pub Hears : ℕ → DeclaredPeer → Moment → Message → List Line → Moment → Type 0
-Hears k p m (messages.Update u) said m' = FeedsAll k (changes_of u) m said m'
+Hears k p m (messages.Update u) said m' = FeedsAll k (changes_of m.declared.profile u) m said m'
 Hears k p m messages.Keepalive said m' = (said ≡ []) × (m' ≡ m)
 Hears k p m messages.Skip said m' = (said ≡ []) × (m' ≡ m)
 Hears k p m messages.Notification said m' = Loses k p.session m said m'

@@ -1,5 +1,5 @@
 -- Laws of moments, for the crates above.
-use Rattle.std.specs.Prelude.{◌≡◌, ◌+◌, ◌≤◌, false, [], None}
+use Rattle.std.specs.Prelude.{◌≡◌, ◌+◌, ◌≤◌, Bool, false, [], None}
 use Rattle.addr4.specs.Prefixes.{AddressPrefix}
 use Rattle.journal_text.specs.declared.link.Task.{Task}
 use Rattle.peer_side.specs.Peers.{rows_in}
@@ -15,7 +15,7 @@ use Rattle.router_moments.specs.Scratch.{IsExactAtRest, Tells}
 
 -- What holds between two steps holds before the first.
 abbrev pub FirstStands : Type 0
-FirstStands = Stands first_moment
+FirstStands = (v6 : Bool) → Stands (first_moment v6)
 
 -- At any moment where each peer that is up has an exit, at each prefix, each link that no work holds up there is what the live state alone
 -- asks for.

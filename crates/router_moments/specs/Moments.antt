@@ -9,7 +9,7 @@ use Rattle.journal_text.specs.Lines.{Value}
 use Rattle.journal_text.specs.Lines.{Line}
 use Rattle.journal_text.specs.Walk.{Links}
 use Rattle.journal_text.specs.Journals.{Journaled, with_lines, flushed}
-use Rattle.event_text.specs.Declarations.{Declaration, no_declaration, plain, with_profile}
+use Rattle.event_text.specs.Declarations.{Declaration, no_declaration, plain_of, with_profile}
 use Rattle.rib_tree.specs.Trees.{Treed, tree_count, tree_links, int_rows, int_candidates}
 use Rattle.rib_tree.specs.Steps.{new_tree}
 use Rattle.pass_core.specs.Passed.{Passed}
@@ -79,8 +79,9 @@ cored_code m =
     code_by (Moment × (ℕ × Bool)) (coded× m (coded× coded_ℕ coded_bool))
     (λ a. (a.moment, (a.events, a.failed))) (λ p. record { moment = p.0; events = p.1.0; failed = p.1.1 }) (λ _. refl)
 
-abbrev pub first_moment : Moment
-first_moment = record { declared = no_declaration; tree = new_tree; registry = record { rows = tables.empty; interests = tables.empty }; chains = tables.empty; hops = tables.empty; outgoing = tables.empty; exits = no_exits plain; reader = None; redist = record { in_force = no_protos; walk = None }; rib = nothing_yet }
+-- nothing is declared, and no link is live, in the network of a family
+abbrev pub first_moment : Bool → Moment
+first_moment v6 = record { declared = no_declaration v6; tree = new_tree; registry = record { rows = tables.empty; interests = tables.empty }; chains = tables.empty; hops = tables.empty; outgoing = tables.empty; exits = no_exits (plain_of v6); reader = None; redist = record { in_force = no_protos; walk = None }; rib = nothing_yet }
 
 -- before `local`, where messages are read and written by this profile from now on
 abbrev pub profiled : Moment → Profile → Moment

@@ -1,5 +1,5 @@
 -- What peers hear of a step; and what stands between two steps can be printed and read back: the declared peers, each row, live or lost, and the rules of filters.
-use Rattle.std.specs.Prelude.{◌≡◌, ℕ, List, Some}
+use Rattle.std.specs.Prelude.{◌≡◌, ℕ, false, List, Some}
 use Rattle.std.specs.List.{AllByRecursion}
 use Rattle.live_state.specs.Heard.{Hears}
 use Rattle.exit_laws.specs.Views.{views_of}
@@ -26,10 +26,11 @@ ArePrinted d said = AllByRecursion (IsPrinted (neighbours d)) said
 abbrev pub IsHeard : Moment → List Line → Moment → Type 0
 IsHeard m said m' = Hears m.declared.profile (neighbours m.declared) (views_of m.exits) said (views_of m'.exits)
 
--- The declarations; each peer's chain, whose rows, live or lost, the peer said; the routes of each protocol, live or lost; the
+-- The declarations, of IPv4's network; each peer's chain, whose rows, live or lost, the peer said; the routes of each protocol, live or lost; the
 -- answers about next hops of peers' routes, and of external ones; the changes of `best` that readers haven't taken, and the rows that
 -- peers were sent.
 pub record IsPrintableMoment (m : Moment) : Type 0 where
+  pub first : m.declared.v6 ≡ false
   pub declared : IsDeclaration m.declared
   pub chains : (k : ℕ) (c : Chained) → chain_at k m.chains ≡ Some c → IsPrintableChain m.declared.profile c
   pub interior : (proto : Proto) → AreTablesOf IsInteriorRow (branch_of proto m.tree).tables

@@ -1,7 +1,7 @@
 -- What peers are told that asked for all routes again (RFC 2918).
 use Rattle.std.specs.Prelude.{◌≡◌, ℕ, ◌≤◌, List, [], ◌++◌, Some}
 use Rattle.journal_text.specs.Lines.{Line}
-use Rattle.event_text.specs.declared.event.Event.{Event}
+use Rattle.event_text.specs.Event.{Event}
 use Rattle.event_text.specs.declared.declared.DeclaredPeer.{DeclaredPeer}
 use Rattle.event_text.specs.Declarations.{Declaration, peer_at}
 use Rattle.live_state.specs.Refreshes.{AsksAgain}

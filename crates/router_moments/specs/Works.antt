@@ -52,10 +52,11 @@ use Rattle.router_moments.specs.Turns.{ResolvesOn, Invalidates, FollowsOwn, Belo
 use Rattle.router_moments.specs.Phases.{all_phases, counts, changes_left, earlier, left_from, is_stale_by, stale_in}
 use Rattle.router_moments.specs.Blocks.{RunsFirst, Loses, Hears, Idles, IsBlock, ended as ended_moment}
 use Rattle.router_moments.specs.declared.tasks.Idle.{Idle}
-use Rattle.event_text.specs.declared.event.Event.{Event}
+use Rattle.event_text.specs.Event.{Event}
 use Rattle.std.specs.Option.{ForSome}
 use Rattle.bgp_wire.specs.declared.message.Message.{Message}
 use Rattle.bgp_wire.specs.declared.message.Message.TheVariants as messages
+use Rattle.bgp_wire.specs.Readable.{said_of}
 use Rattle.rib_tree.specs.Falls.{way_of_route}
 
 -- these lines were pushed, and this is said of them
@@ -168,7 +169,7 @@ AreHeard profile changes = AllByRecursion (λ c. ForSome c.1 (MayBeHeard profile
 
 -- and so are those of an UPDATE
 abbrev pub IsHeardMessage : Profile → Message → Type 0
-IsHeardMessage profile (messages.Update u) = ForSome u.attrs (MayBeHeard profile)
+IsHeardMessage profile (messages.Update u) = ForSome (said_of profile.second u).attrs (MayBeHeard profile)
 IsHeardMessage profile other = Unit {0}
 
 -- The prefixes of an UPDATE from peer k were announced and withdrawn, one after the other.

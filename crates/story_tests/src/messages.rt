@@ -1,10 +1,10 @@
 //! Tries the reading and writing of messages: rows, each with the answer that it wants.
 //!
 //! A row is `FLAGS OCTETS = ANSWER`. Flags: `x` the message comes from an external peer (`i`: an internal one), `4` AS numbers
-//! of four octets, `r` errors handled in the revised manner, `c` the reader is a route reflector. Where several stand there,
-//! parted by commas, the answer is the same under each. The answer says in words what the octets are read as. With `w` or `W`
-//! the answer is octets: those that are sent of what was read (`W`: with AS numbers of four octets), an UPDATE of one prefix,
-//! or the NOTIFICATION that answers a fault. Lines that begin with `#` and empty lines are no rows.
+//! of four octets, `r` errors handled in the revised manner, `c` the reader is a route reflector, `6` IPv6 is spoken, too. Where
+//! several stand there, parted by commas, the answer is the same under each. The answer says in words what the octets are read as. With `w` or `W`
+//! the answer is octets: those that are sent of what was read (`W`: with AS numbers of four octets), an UPDATE of one prefix of
+//! either family, or the NOTIFICATION that answers a fault. Lines that begin with `#` and empty lines are no rows.
 //!
 //! Each row that gets another answer is printed, and then how many rows there were and how many were wrong.
 
@@ -42,6 +42,8 @@ fn push_answer(out: &mut Vec<u8>, flags: &str, octets: &[u8]) -> Result<(), Memo
         as4: flags.contains('4'),
         revised: flags.contains('r'),
         reflect: flags.contains('c'),
+        v6: flags.contains('6'),
+        second: false,
     };
     let external = flags.contains('x');
     let message = read_message(*out.allocator(), profile, octets, external)?;

@@ -1,8 +1,8 @@
 //! Messages in words.
 
-use addr4::{Memory, Prefix, RouterId, push_addr, push_id, push_number, push_prefix};
+use addr4::{Addr, Memory, Prefix, RouterId, Texts, push_addr, push_id, push_number, push_prefix};
 use bgp_attr::{Aggregator, AsPath, Attrs, Origin, Reflection, Segment, SegmentKind, Unrecognized};
-use bgp_wire::{Message, Notice, RouteRefresh, Update};
+use bgp_wire::{Message, Notice, RouteRefresh, Said, Update};
 
 fn push_text(out: &mut Vec<u8>, text: &str) -> Result<(), Memory> {
     out.extend_from_slice(text.as_bytes())?;
@@ -14,7 +14,11 @@ fn push_hex(out: &mut Vec<u8>, octets: &[u8]) -> Result<(), Memory> {
     push_text(out, text.as_str())
 }
 
-fn push_prefixes(out: &mut Vec<u8>, sign: &str, prefixes: &[Prefix]) -> Result<(), Memory> {
+fn push_prefixes<F: Texts>(
+    out: &mut Vec<u8>,
+    sign: &str,
+    prefixes: &[Prefix<F>],
+) -> Result<(), Memory> {
     for prefix in prefixes {
         push_text(out, sign)?;
         push_prefix(out, *prefix)?;
@@ -109,8 +113,8 @@ fn push_reflection(out: &mut Vec<u8>, reflection: &Reflection) -> Result<(), Mem
     push_clusters(out, reflection.clusters())
 }
 
-/// ORIGIN, AS_PATH and NEXT_HOP.
-fn push_mandatory(out: &mut Vec<u8>, attrs: &Attrs) -> Result<(), Memory> {
+/// ORIGIN, AS_PATH and the next hop.
+fn push_mandatory<F: Texts>(out: &mut Vec<u8>, attrs: &Attrs<Addr<F>>) -> Result<(), Memory> {
     let origin = match attrs.origin {
         Origin::Igp => " o0",
         Origin::Egp => " o1",
@@ -122,7 +126,7 @@ fn push_mandatory(out: &mut Vec<u8>, attrs: &Attrs) -> Result<(), Memory> {
     push_addr(out, attrs.next_hop)
 }
 
-fn push_attrs(out: &mut Vec<u8>, attrs: &Attrs) -> Result<(), Memory> {
+fn push_attrs<F: Texts>(out: &mut Vec<u8>, attrs: &Attrs<Addr<F>>) -> Result<(), Memory> {
     push_mandatory(out, attrs)?;
     push_option(out, ",m", attrs.med)?;
     push_option(out, ",l", attrs.local_pref)?;
@@ -132,14 +136,27 @@ fn push_attrs(out: &mut Vec<u8>, attrs: &Attrs) -> Result<(), Memory> {
     push_unrecognized(out, attrs.unrecognized.as_slice())
 }
 
-fn push_update(out: &mut Vec<u8>, update: &Update) -> Result<(), Memory> {
-    push_text(out, "update")?;
-    push_prefixes(out, " -", update.withdrawn.as_slice())?;
-    push_prefixes(out, " +", update.announced.as_slice())?;
-    match &update.attrs {
+/// What is said of one family: what is withdrawn, what is announced, and the attributes.
+fn push_said<F: Texts>(out: &mut Vec<u8>, said: &Said<F>) -> Result<(), Memory> {
+    push_prefixes(out, " -", said.withdrawn.as_slice())?;
+    push_prefixes(out, " +", said.announced.as_slice())?;
+    match &said.attrs {
         Some(attrs) => push_attrs(out, attrs),
         None => Ok(()),
     }
+}
+
+/// What is said of IPv4, and behind a semicolon what is said of IPv6, if anything is.
+fn push_update(out: &mut Vec<u8>, update: &Update) -> Result<(), Memory> {
+    let second = &update.second;
+    let silent = second.withdrawn.as_slice().is_empty() && second.announced.as_slice().is_empty();
+    push_text(out, "update")?;
+    push_said(out, &update.first)?;
+    if silent {
+        return Ok(());
+    }
+    push_text(out, ";")?;
+    push_said(out, second)
 }
 
 fn push_notice(out: &mut Vec<u8>, notice: &Notice) -> Result<(), Memory> {

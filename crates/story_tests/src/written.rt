@@ -1,38 +1,47 @@
 //! What was read, as it is sent.
 
-ghost use Rattle.bgp_wire.specs.Readable.{IsReadableUpdate, IsReadableMessage};
+ghost use Rattle.std.specs.Prelude.{◌≡◌, ◌||◌};
+ghost use Rattle.bgp_wire.specs.Readable.{IsReadableSaid, IsReadableMessage};
 
 use addr4::Memory;
 use bgp_attr::Profile;
-use bgp_wire::{Message, Notice, Update, write_notification, write_update};
+use bgp_wire::{Message, Notice, Said, Wire, write_notification, write_update};
 use wire_laws::what_is_readable_fits;
 
-/// An UPDATE of one prefix as it is sent; no octets where it is too long, or has more or fewer prefixes.
-fn push_update(
+/// Whether AS numbers are sent with four octets.
+fn has_four_octets(profile: Profile, wide: bool) -> bool
+    ensures { result ≡ (profile.as4 || wide) }
+{
+    profile.as4 || wide
+}
+
+/// What is said of one prefix of a family as it is sent; no octets where it is too long, or of more or fewer prefixes.
+fn push_said<F: Wire>(
     out: &mut Vec<u8>,
     profile: Profile,
     external: bool,
-    update: &Update,
+    said: &Said<F>,
     wide: bool,
 ) -> Result<(), Memory>
-    requires { IsReadableUpdate profile external update.now }
+    requires { IsReadableSaid F.V6 profile external said.now }
 {
-    let prefixes = update
+    let prefixes = said
         .withdrawn
         .as_slice()
         .len()
-        .saturating_add(update.announced.as_slice().len());
+        .saturating_add(said.announced.as_slice().len());
     if prefixes != 1 {
         return Ok(());
     }
     what_is_readable_fits();
-    let as4 = profile.as4 || wide;
     let to = Profile {
-        as4,
+        as4: has_four_octets(profile, wide),
         revised: false,
         reflect: false,
+        v6: false,
+        second: false,
     };
-    match write_update(*out.allocator(), to, update)? {
+    match write_update(*out.allocator(), to, said)? {
         Some(octets) => out.extend_from_slice(octets.as_slice())?,
         None => {}
     }
@@ -62,7 +71,10 @@ pub(crate) fn push_written(
     requires { IsReadableMessage profile external message.now }
 {
     match message {
-        Message::Update(update) => push_update(out, profile, external, update, wide),
+        Message::Update(update) => {
+            push_said(out, profile, external, &update.first, wide)?;
+            push_said(out, profile, external, &update.second, wide)
+        }
         Message::Notify(notice) => push_notice(out, notice),
         _ => Ok(()),
     }

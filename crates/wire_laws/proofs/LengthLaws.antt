@@ -4,25 +4,26 @@ use Rattle.std.specs.Prelude.{filter, is_some}
 use Rattle.std.specs.List.{flat_map}
 use Rattle.std.specs.Option.{option_map_or}
 use Rattle.std.proofs.lemmas.Bool.{le-ltb, eqb-true}
-use Rattle.std.proofs.lemmas.List.{length-append}
+use Rattle.std.proofs.lemmas.List.{length-append, length-take}
 use Rattle.byteorder.specs.Endian.{big_number, big_bytes}
 use Rattle.byteorder.specs.Numbers.{length-bytes_high_first}
-use Rattle.addr4.specs.Families.{in_front}
+use Rattle.addr4.specs.Prefixes.{AddressPrefix}
+use Rattle.bgp_wire.specs.Prefixes.{octets_for, ArePrefixes}
+use Rattle.bgp_wire.specs.Multiprotocol.{HopLength, IsReach}
 use Rattle.bgp_attr.specs.declared.attrs.Aggregator.{Aggregator}
 use Rattle.bgp_attr.specs.Attributes.{Attrs}
 use Rattle.bgp_attr.specs.declared.path.Segment.{Segment}
 use Rattle.bgp_attr.specs.declared.speaker.Profile.{Profile}
 use Rattle.bgp_attr.specs.declared.unrecognized.Unrecognized.{Unrecognized}
-use Rattle.bgp_wire.proofs.JudgedTypes.{TypeRule, Verdict, each_verdict, fixed, fours, Place, first, middle, last}
+use Rattle.bgp_wire.proofs.JudgedTypes.{TypeRule, Verdict, each_verdict, fixed, fours, Place, first, middle, inner, last, Reach}
 use Rattle.bgp_wire.specs.Paths.{width_of, numbers_at, IsPath}
-use Rattle.bgp_wire.specs.Attributes.{Attribute, IsAttribute, AreAttributes, kept_by, rule_of, has_wrong_size}
-use Rattle.bgp_wire.specs.Routes.{kept_of, number_of, code_of_origin, aggregator_of, clusters_at, clusters_of, AreAttrs}
-use Rattle.bgp_wire.specs.Spelling.{segment_octets, path_octets, is_long, spelled, optional, aggregator_value, aggregator_flags, stands_in, unrecognized_attribute, unrecognized_attributes, mandatory_attributes, further_attributes, clusters_attributes, reflection_attributes, sent_attributes, octets_of}
-use Rattle.bgp_wire.specs.Lengths.{attributes_length}
+use Rattle.bgp_wire.specs.Attributes.{Attribute, IsAttribute, AreAttributes, hop_at, kept_by, rule_of, has_wrong_size}
+use Rattle.bgp_wire.specs.Routes.{kept_of, hop_of, number_of, code_of_origin, aggregator_of, clusters_at, clusters_of, AreAttrs}
+use Rattle.bgp_wire.specs.Spelling.{segment_octets, path_octets, is_long, spelled, optional, aggregator_value, aggregator_flags, stands_in, unrecognized_attribute, unrecognized_attributes, hop_attributes, reach_value, reach_attributes, mandatory_attributes, further_attributes, clusters_attributes, reflection_attributes, sent_attributes, octets_of, prefix_octets, prefixes_octets}
 use Rattle.bgp_wire.specs.Readable.{reads_reflection, IsReadable}
 use Rattle.bgp_wire.proofs.TestLemmas.{unequal, not_false, or_false_right}
-use Rattle.bgp_wire.proofs.SpelledLengths.{length-numbers, length-spelled}
-use Rattle.wire_laws.proofs.SpelledAttributes.{AreSound, FitLengths, rule_at_9, rule_at_10, sound_sent}
+use Rattle.bgp_wire.proofs.SpelledLengths.{length-numbers, length-spelled, length-reach-value, few_octets}
+use Rattle.wire_laws.proofs.SpelledAttributes.{AreSound, FitLengths, IsSpoken, rule_at_9, rule_at_10, sound_sent}
 use Rattle.bgp_wire.proofs.ReadableLaws.{Every, every_all, every_append, Octets, held, good, right_size, found_from, some_in, each_type, unrecognized_held}
 
 -- the fewest octets that an attribute has
@@ -49,6 +50,13 @@ Ascend n (x ∷ xs) = (n ≤ x.kind) × Ascend (suc x.kind) xs
 ascends : (p : Profile) (external : Bool) (from end : ℕ) (xs : List Attribute) → AreSound p external from end xs → Ascend from xs
 ascends p external from end [] sound = tt
 ascends p external from end (x ∷ xs) sound = (sound.0, ascends p external (suc x.kind) end xs sound.2)
+
+-- one prefix
+pub one_length : (n : AddressPrefix) → n.length ≤ 128 → length (prefixes_octets (n ∷ [])) ≡ 1 + octets_for n.length
+one_length n short = omega (arith, length-append (prefix_octets n) [], length-take (octets_for n.length) (big_bytes 16 n.address), length-bytes_high_first 16 n.address)
+
+pub one_announced : (v6 : Bool) (bytes : List ℕ) (n : AddressPrefix) → ArePrefixes v6 bytes (n ∷ []) → length bytes ≡ 1 + octets_for n.length
+one_announced v6 bytes n are = omega (arith, ap length are.2, length-append are.0 are.1, ap length are.3.spelled, are.3.fewest, ap length are.4)
 
 -- later types have the weights that they had
 same_weights : (n : ℕ) (xs : List Attribute) (b : Attribute) (kept : List Attribute) → Ascend n xs → b.kind < n → weights xs (b ∷ kept) ≡ weights xs kept
@@ -165,9 +173,9 @@ length-clusters_read value right =
     let even : length value % 4 ≡ 0 = eqb-true _ _ (not_false _ (or_false_right (eqb (length value) 0) (not (eqb (length value % 4) 0)) right)) in
     omega (arith, even, length-numbers 4 (clusters_at value), length-identifiers (length value / 4) value)
 
-clusters_held : (p : Profile) (external : Bool) (bytes : List ℕ) (steps : List (Attribute × Verdict)) (runs : Bool) (attrs : Attrs) → AreAttributes p external [] bytes steps runs → Octets bytes → AreAttrs p external (kept_by steps runs).0 attrs → IsReadable p external attrs
+clusters_held : (v6 : Bool) (p : Profile) (external : Bool) (bytes : List ℕ) (steps : List (Attribute × Verdict)) (runs : Bool) (hop : Option ℕ) (attrs : Attrs) → AreAttributes p external [] bytes steps runs → Octets bytes → AreAttrs p external (kept_by steps runs).0 hop attrs → IsReadable v6 p external attrs
     → (c : ℕ) (cs : List ℕ) → attrs.reflection.clusters ≡ c ∷ cs → (a : Attribute) × (kept_of 10 (kept_by steps runs).0 ≡ Some a) × (length a.value ≡ length (flat_map (big_bytes 4) (c ∷ cs)))
-clusters_held p external bytes steps runs attrs are octets is readable c cs e = by_reflect p.reflect (sym e ∙ is.clusters)
+clusters_held v6 p external bytes steps runs hop attrs are octets is readable c cs e = by_reflect p.reflect (sym e ∙ is.clusters)
   where
     reads : reads_reflection p external ≡ true
     reads = (readable.clusters 0 c (omega (arith, ap length e))).0
@@ -182,22 +190,33 @@ clusters_held p external bytes steps runs attrs are octets is readable c cs e = 
     by_reflect true same = by_kept (kept_of 10 (kept_by steps runs).0) refl same
     by_reflect false same = absurd (omega (arith, ap length same))
 
-sent_no_longer : (p : Profile) (external : Bool) (bytes : List ℕ) (steps : List (Attribute × Verdict)) (runs : Bool) (attrs : Attrs) → AreAttributes p external [] bytes steps runs → Octets bytes → AreAttrs p external (kept_by steps runs).0 attrs → IsReadable p external attrs
-    → Every (IsNoLonger (kept_by steps runs).0) (sent_attributes p.as4 attrs)
+-- what is said of the next hop and of the prefixes beside it: its attribute isn't shorter
+abbrev pub HopNoLonger : Bool → List Attribute → ℕ → List AddressPrefix → Type 0
+HopNoLonger v6 kept hop ps = Every (IsNoLonger kept) (hop_attributes v6 hop) × Every (IsNoLonger kept) (reach_attributes v6 hop ps)
+
+sent_no_longer : (v6 : Bool) (p : Profile) (external : Bool) (bytes : List ℕ) (steps : List (Attribute × Verdict)) (runs : Bool) (hop : Option ℕ) (attrs : Attrs) (ps : List AddressPrefix) → AreAttributes p external [] bytes steps runs → Octets bytes
+    → AreAttrs p external (kept_by steps runs).0 hop attrs → IsReadable v6 p external attrs → HopNoLonger v6 (kept_by steps runs).0 attrs.next_hop ps
+    → Every (IsNoLonger (kept_by steps runs).0) (sent_attributes v6 p.as4 attrs ps)
 unfolding rule_of
-sent_no_longer p external bytes steps runs attrs are octets is readable =
+sent_no_longer v6 p external bytes steps runs hop attrs ps are octets is readable hops =
     let P = IsNoLonger kept in
     let u = unrecognized_attributes first attrs.unrecognized in
-    let m = mandatory_attributes p.as4 attrs in
+    let m = mandatory_attributes v6 p.as4 attrs in
     let f = further_attributes p.as4 attrs in
     let v = unrecognized_attributes middle attrs.unrecognized in
     let r = reflection_attributes attrs.reflection in
+    let o = unrecognized_attributes inner attrs.unrecognized in
+    let x = reach_attributes v6 attrs.next_hop ps in
     let w = unrecognized_attributes last attrs.unrecognized in
     let placed : (place : Place) → Every P (unrecognized_attributes place attrs.unrecognized) = λ place. unrecognized_no_longer place kept attrs.unrecognized unrecognized in
-    every_append P (u ++ m ++ f ++ v ++ r) w
+    every_append P (u ++ m ++ f ++ v ++ r ++ o ++ x) w
+    (every_append P (u ++ m ++ f ++ v ++ r ++ o) x
+    (every_append P (u ++ m ++ f ++ v ++ r) o
     (every_append P (u ++ m ++ f ++ v) r
-    (every_append P (u ++ m ++ f) v (every_append P (u ++ m) f (every_append P u m (placed first) (origin, (path, (next_hop, tt)))) further) (placed middle))
+    (every_append P (u ++ m ++ f) v (every_append P (u ++ m) f (every_append P u m (placed first) (origin, (path, hops.0))) further) (placed middle))
     (every_append P (optional (λ n. spelled 128 9 (big_bytes 4 n)) attrs.reflection.originator) (clusters_attributes attrs.reflection.clusters) (every_optional P (λ n. spelled 128 9 (big_bytes 4 n)) attrs.reflection.originator originator) (clusters attrs.reflection.clusters refl)))
+    (placed inner))
+    hops.1)
     (placed last)
   where
     kept : List Attribute
@@ -223,11 +242,6 @@ sent_no_longer p external bytes steps runs attrs are octets is readable =
     path =
         let a = some_in (kept_of 2 (kept_by steps runs).0) (λ a. IsPath (width_of p.as4) a.value attrs.path) is.path in
         by_value (kept_by steps runs).0 64 2 (path_octets (width_of p.as4) attrs.path) a.0 a.1 (length-path p.as4 a.0.value attrs.path a.2)
-
-    next_hop : IsNoLonger (kept_by steps runs).0 (spelled 64 3 (big_bytes 4 (attrs.next_hop / 2 ^ 96)))
-    next_hop =
-        let a = found_from (λ (a : Attribute). in_front (big_number 4 a.value)) (kept_of 3 (kept_by steps runs).0) attrs.next_hop is.next_hop in
-        by_value (kept_by steps runs).0 64 3 (big_bytes 4 (attrs.next_hop / 2 ^ 96)) a.0 a.1 (sized 3 4 false true refl a.0 a.1)
 
     local_pref : (b : Bool) (o : Option ℕ) (n : ℕ) → cond b None o ≡ Some n → o ≡ Some n
     local_pref true o n e = absurd (cc)
@@ -257,7 +271,7 @@ sent_no_longer p external bytes steps runs attrs are octets is readable =
 
     clusters : (cs : List ℕ) → attrs.reflection.clusters ≡ cs → Every (IsNoLonger (kept_by steps runs).0) (clusters_attributes cs)
     clusters [] e = tt
-    clusters (c ∷ cs) e = let h = clusters_held p external bytes steps runs attrs are octets is readable c cs e in (by_value (kept_by steps runs).0 128 10 (flat_map (big_bytes 4) (c ∷ cs)) h.0 h.1 h.2, tt)
+    clusters (c ∷ cs) e = let h = clusters_held v6 p external bytes steps runs hop attrs are octets is readable c cs e in (by_value (kept_by steps runs).0 128 10 (flat_map (big_bytes 4) (c ∷ cs)) h.0 h.1 h.2, tt)
 
     unrecognized : Every (λ (u : Unrecognized). IsNoLonger (kept_by steps runs).0 (unrecognized_attribute u)) attrs.unrecognized
     unrecognized = each_type (λ (u : Unrecognized). IsNoLonger (kept_by steps runs).0 (unrecognized_attribute u)) 0 attrs.unrecognized is.unrecognized.order (λ u e.
@@ -279,9 +293,9 @@ value_within : (long : Bool) (n : ℕ) → n ≤ cond long 4 3 + n
 value_within long n = omega arith
 
 -- what was read fits the fields of the lengths
-lengths_fit : (p : Profile) (external : Bool) (bytes : List ℕ) (steps : List (Attribute × Verdict)) (runs : Bool) (attrs : Attrs) → AreAttributes p external [] bytes steps runs → Octets bytes → AreAttrs p external (kept_by steps runs).0 attrs
-    → IsReadable p external attrs → length bytes < 65536 → FitLengths p.as4 attrs
-lengths_fit p external bytes steps runs attrs are octets is readable fits =
+lengths_fit : (v6 : Bool) (p : Profile) (external : Bool) (bytes : List ℕ) (steps : List (Attribute × Verdict)) (runs : Bool) (hop : Option ℕ) (attrs : Attrs) → AreAttributes p external [] bytes steps runs → Octets bytes → AreAttrs p external (kept_by steps runs).0 hop attrs
+    → IsReadable v6 p external attrs → length bytes < 65536 → FitLengths p.as4 attrs
+lengths_fit v6 p external bytes steps runs hop attrs are octets is readable fits =
     let kept = (kept_by steps runs).0 in
     let whole = total_read p external [] bytes steps runs are octets in
     let s = some_in (kept_of 2 kept) (λ a. IsPath (width_of p.as4) a.value attrs.path) is.path in
@@ -297,20 +311,56 @@ lengths_fit p external bytes steps runs attrs are octets is readable fits =
     clusters : (cs : List ℕ) → attrs.reflection.clusters ≡ cs → total (kept_by steps runs).0 ≤ length bytes → length (flat_map (big_bytes 4) cs) < 65536
     clusters [] e whole = omega arith
     clusters (c ∷ cs) e whole =
-        let h = clusters_held p external bytes steps runs attrs are octets is readable c cs e in
+        let h = clusters_held v6 p external bytes steps runs hop attrs are octets is readable c cs e in
         omega (arith, weight_within 10 (kept_by steps runs).0 h.0 h.1, value_within (is_long h.0.value) (length h.0.value), h.2, whole, fits)
 
--- the attributes that are sent are no longer than those that were read
-pub attributes_no_longer : (p : Profile) (external : Bool) (bytes : List ℕ) (steps : List (Attribute × Verdict)) (runs : Bool) (attrs : Attrs) → AreAttributes p external [] bytes steps runs → Octets bytes → AreAttrs p external (kept_by steps runs).0 attrs
-    → IsReadable p external attrs → length bytes < 65536 → attributes_length p.as4 attrs ≤ length bytes
-unfolding attributes_length
-attributes_no_longer p external bytes steps runs attrs are octets is readable fits =
+-- NEXT_HOP has four octets as it was read, and MP_REACH_NLRI a next hop and a prefix
+pub first_hop_no_longer : (p : Profile) (external : Bool) (bytes : List ℕ) (steps : List (Attribute × Verdict)) (runs : Bool) → AreAttributes p external [] bytes steps runs → Octets bytes → (n : ℕ) (ps : List AddressPrefix) → hop_of (kept_by steps runs).0 ≡ Some n → HopNoLonger false (kept_by steps runs).0 n ps
+unfolding rule_of
+first_hop_no_longer p external bytes steps runs are octets n ps e =
     let kept = (kept_by steps runs).0 in
-    let sent = sent_attributes p.as4 attrs in
-    let sound = sound_sent p external attrs readable (lengths_fit p external bytes steps runs attrs are octets is readable fits) in
+    let r : TypeRule = record { optional = false; transitive = true; size = fixed 4 } in
+    let a = found_from (λ (a : Attribute). hop_at a.value) (kept_of 3 kept) n e in
+    let size = right_size p.as4 r a.0 4 refl (good p external 3 a.0 r refl (held p external bytes steps runs are octets 3 a.0 a.1)) in
+    ((by_value kept 64 3 (big_bytes 4 (n / 2 ^ 96)) a.0 a.1 size, tt), tt)
+
+-- an attribute whose value has at least so many octets
+by_longer : (kept : List Attribute) (flags kind : ℕ) (value : List ℕ) (a : Attribute) → kept_of kind kept ≡ Some a → length value ≤ length a.value → length value ≤ 255 → IsNoLonger kept (spelled flags kind value)
+by_longer kept flags kind value a found more few =
+    let weighs : weight kind kept ≡ least a = ap (λ o. option_map_or least o 0) found in
+    let short : ◌≡◌ {A = ℕ} (cond (is_long value) 4 3) 3 = ap (λ b. cond b 4 3) (le-ltb 255 (length value) few) in
+    omega (arith, weighs, short, three (is_long a.value), length-spelled (is_long value) flags kind value)
+  where
+    three : (b : Bool) → 3 ≤ cond b 4 3
+    three true = omega arith
+    three false = omega arith
+
+pub second_hop_no_longer : (kept : List Attribute) (a : Attribute) (r : Reach) (p : AddressPrefix) → kept_of 14 kept ≡ Some a → IsReach a.value r → r.announced ≡ p ∷ [] → HopNoLonger true kept r.next_hop (p ∷ [])
+second_hop_no_longer kept a r p found is one =
+    let are = subst (ArePrefixes true is.prefixes) one is.announces in
+    let prefix : length is.prefixes ≡ 1 + octets_for p.length = one_announced true is.prefixes p are in
+    let sent : length (prefixes_octets (p ∷ [])) ≡ 1 + octets_for p.length = one_length p (omega (arith, are.3.short)) in
+    let whole = length-reach-value r.next_hop (p ∷ []) in
+    let few : length (prefixes_octets (p ∷ [])) ≤ 17 = few_octets (p ∷ []) (omega arith) in
+    (tt, (by_longer kept 128 14 (reach_value r.next_hop (p ∷ [])) a found (omega (arith, whole, sent, prefix, ap length is.spelled, length-append is.hop (is.reserved ∷ is.prefixes), sixteen (length is.hop) is.size)) (omega (arith, whole, few)), tt))
+  where
+    sixteen : (n : ℕ) → HopLength n → 16 ≤ n
+    sixteen n size = elim size [
+      | inl e ↦ omega (arith, e)
+      | inr e ↦ omega (arith, e)
+    ]
+
+-- the attributes that are sent are no longer than those that were read
+pub attributes_no_longer : (v6 : Bool) (p : Profile) (external : Bool) (bytes : List ℕ) (steps : List (Attribute × Verdict)) (runs : Bool) (hop : Option ℕ) (attrs : Attrs) (ps : List AddressPrefix) → AreAttributes p external [] bytes steps runs → Octets bytes
+    → AreAttrs p external (kept_by steps runs).0 hop attrs → IsReadable v6 p external attrs → length bytes < 65536 → HopNoLonger v6 (kept_by steps runs).0 attrs.next_hop ps → IsSpoken p v6 ps
+    → length (octets_of (sent_attributes v6 p.as4 attrs ps)) ≤ length bytes
+attributes_no_longer v6 p external bytes steps runs hop attrs ps are octets is readable fits hops spoken =
+    let kept = (kept_by steps runs).0 in
+    let sent = sent_attributes v6 p.as4 attrs ps in
+    let sound = sound_sent p external v6 attrs readable (lengths_fit v6 p external bytes steps runs hop attrs are octets is readable fits) ps spoken in
     omega (
       arith,
-      no_longer sent kept (sent_no_longer p external bytes steps runs attrs are octets is readable),
+      no_longer sent kept (sent_no_longer v6 p external bytes steps runs hop attrs ps are octets is readable hops),
       within_total 0 sent kept (ascends p external 0 sound.0 sent sound.1),
       total_read p external [] bytes steps runs are octets,
     )

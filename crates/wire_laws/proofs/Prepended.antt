@@ -51,5 +51,5 @@ two_octets false n lt e = omega arith
 pub segment_fits : (as4 : Bool) (s : Segment) → IsReadableSegment as4 s → FitsSegment as4 s
 segment_fits as4 s is = record { some = is.some; few = is.few; numbers = λ k d lt. two_octets as4 _ (is.numbers k d lt) }
 
-pub readable_fits : (p : Profile) (external : Bool) (a : Attrs) → IsReadable p external a → FitsAttrs p.as4 a
-readable_fits p external a is = record { path = λ k d lt. segment_fits p.as4 _ (is.path k d lt); aggregator = λ g e. two_octets p.as4 g.asn (is.aggregator g e).0 }
+pub readable_fits : (v6 : Bool) (p : Profile) (external : Bool) (a : Attrs) → IsReadable v6 p external a → FitsAttrs p.as4 a
+readable_fits v6 p external a is = record { path = λ k d lt. segment_fits p.as4 _ (is.path k d lt); aggregator = λ g e. two_octets p.as4 g.asn (is.aggregator g e).0 }

@@ -2,12 +2,14 @@
 use Rattle.std.proofs.Common.{◌≡◌, ◌⊎◌, ℕ, suc, ◌+◌, ◌*◌, ◌/◌, ◌%◌, ◌^◌, ◌≤◌, ◌<◌, Bool, true, false, cond, eqb, ltb, not, ◌||◌, ◌&&◌, List, [], ◌∷◌, ◌++◌, length, map, Option, Some, None, Ok, Err, refl, sym, ap, subst, ◌∙◌, inl, inr, arith}
 use Rattle.std.specs.Prelude.{All, filter}
 use Rattle.std.specs.List.{list_any, flat_map}
-use Rattle.std.proofs.lemmas.List.{length-append}
-use Rattle.std.proofs.lemmas.Bool.{ltb-true, eqb-true, eqb-false, eq-eqb}
-use Rattle.std.proofs.lemmas.Nat.{shr-shr}
-use Rattle.byteorder.specs.Endian.{big_bytes}
-use Rattle.byteorder.specs.Numbers.{length-bytes_high_first}
-use Rattle.addr4.proofs.FrontLemmas.{front_below}
+use Rattle.std.proofs.lemmas.List.{length-append, append-nil}
+use Rattle.std.proofs.lemmas.Bool.{ltb-true, ltb-false, eqb-true, eqb-false, eq-eqb}
+use Rattle.byteorder.specs.Endian.{big_bytes, big_number}
+use Rattle.byteorder.specs.Numbers.{length-bytes_high_first, big_number-reads_back}
+use Rattle.addr4.proofs.FrontLemmas.{front_below, front_again}
+use Rattle.addr4.specs.Families.{in_front, IsAddress}
+use Rattle.addr4.specs.Hosts.{is_host}
+use Rattle.addr4.specs.Prefixes.{AddressPrefix}
 use Rattle.bgp_attr.specs.declared.attrs.Aggregator.{Aggregator}
 use Rattle.bgp_attr.specs.Attributes.{Attrs}
 use Rattle.bgp_attr.specs.declared.attrs.Origin.{Origin}
@@ -16,19 +18,22 @@ use Rattle.bgp_attr.specs.declared.path.Segment.{Segment}
 use Rattle.bgp_attr.specs.declared.speaker.Profile.{Profile}
 use Rattle.bgp_attr.specs.declared.unrecognized.Unrecognized.{Unrecognized}
 use Rattle.bgp_attr.specs.Reflections.{Reflected}
-use Rattle.bgp_wire.proofs.JudgedTypes.{TypeRule, Verdict, keep, discard, withdraw, any, fixed, fours, Place, first, middle, last}
+use Rattle.bgp_wire.proofs.JudgedTypes.{TypeRule, Verdict, keep, discard, withdraw, any, fixed, fours, Place, first, middle, inner, last}
 use Rattle.bgp_wire.specs.Faults.{notice, err_of}
 use Rattle.bgp_wire.specs.Paths.{width_of}
-use Rattle.bgp_wire.specs.Attributes.{Attribute, is_extended, IsAttribute, is_reflection, rule, rule_of, milder, is_no_host, is_old_form, value_fault, judge_value, has_wrong_size, has_wrong_flags, judge_by, judgement, AreAttributes, kept_by}
+use Rattle.bgp_wire.specs.Attributes.{Attribute, is_extended, IsAttribute, is_reflection, is_revised, hop_at, rule, reflection_rule, rule_of, milder, is_old_form, value_fault, judge_value, has_wrong_size, has_wrong_flags, judge_by, judgement, AreAttributes, kept_by}
 use Rattle.bgp_wire.specs.Routes.{code_of_origin, is_unrecognized, AscendsFrom}
-use Rattle.bgp_wire.specs.Spelling.{path_octets, is_long, spelled_octets, spelled, optional, aggregator_value, aggregator_flags, stands_in, unrecognized_attribute, unrecognized_attributes, mandatory_attributes, further_attributes, clusters_attributes, reflection_attributes, sent_attributes, octets_of}
-use Rattle.bgp_wire.specs.Readable.{IsReadableSegment, IsHost, reads_reflection, IsReadable}
-use Rattle.bgp_wire.proofs.TestLemmas.{unequal, and_left, not_both, not_true, or_false_left, or_false_right}
+use Rattle.bgp_wire.specs.Spelling.{path_octets, is_long, spelled_octets, spelled, optional, aggregator_value, aggregator_flags, stands_in, unrecognized_attribute, unrecognized_attributes, mandatory_attributes, further_attributes, clusters_attributes, reflection_attributes, hop_attributes, reach_value, reach_attributes, unreach_value, sent_attributes, prefixes_octets, octets_of}
+use Rattle.bgp_wire.specs.Readable.{IsReadableSegment, IsHost, reads_reflection, IsReadable, Speaks}
+use Rattle.bgp_wire.specs.Prefixes.{ArePrefixes, prefixes_at}
+use Rattle.bgp_wire.specs.Multiprotocol.{IsReach, IsUnreach, bad_value, reach_behind}
+use Rattle.bgp_wire.proofs.MultiprotocolLaws.{reads_again, reach_back, unreach_back}
+use Rattle.bgp_wire.proofs.TestLemmas.{unequal, and_left, and_right, not_both, not_true, or_false_left, or_false_right}
 use Rattle.bgp_wire.proofs.PathLaws.{path_again}
 use Rattle.bgp_wire.proofs.RouteLaws.{IsKept, IsGood}
 use Rattle.wire_laws.proofs.SpelledNumbers.{all_first, all_later, all_cons, spelled_path}
-use Rattle.bgp_wire.proofs.TypeLaws.{GoodType, no_reflection, no_rule}
-use Rattle.bgp_wire.proofs.SpelledLengths.{length-numbers}
+use Rattle.bgp_wire.proofs.TypeLaws.{GoodType, is_special, no_reflection, no_multiprotocol, no_rule, rule_spoken}
+use Rattle.bgp_wire.proofs.SpelledLengths.{length-numbers, length-reach-value, few_octets}
 
 -- ---- one attribute
 
@@ -54,10 +59,10 @@ spelled_is flags kind value short long fits = by_length flags kind value (is_lon
 good_is_kept : (p : Profile) (external : Bool) (a : Attribute) (r : TypeRule) → rule_of p external a.kind ≡ Some r → (p.revised && (external && eqb a.kind 5)) ≡ false → IsGood p.as4 r a → IsKept p external a
 good_is_kept p external a r ruled plain good =
     ap (judge_by p external a) ruled
-    ∙ ap (λ b. cond b (Ok discard) (cond (has_wrong_flags r a) (milder p withdraw (notice 3 4 a.octets)) (cond (has_wrong_size r.size a.value) (milder p (cond (eqb a.kind 6 || eqb a.kind 7) discard withdraw) (notice 3 5 a.octets)) (judge_value p (value_fault p.as4 a))))) plain
-    ∙ ap (λ b. cond b (milder p withdraw (notice 3 4 a.octets)) (cond (has_wrong_size r.size a.value) (milder p (cond (eqb a.kind 6 || eqb a.kind 7) discard withdraw) (notice 3 5 a.octets)) (judge_value p (value_fault p.as4 a)))) good.flags
-    ∙ ap (λ b. cond b (milder p (cond (eqb a.kind 6 || eqb a.kind 7) discard withdraw) (notice 3 5 a.octets)) (judge_value p (value_fault p.as4 a))) good.size
-    ∙ ap (judge_value p) good.value
+    ∙ ap (λ b. cond b (Ok discard) (cond (has_wrong_flags r a) (milder (is_revised p a.kind) withdraw (notice 3 4 a.octets)) (cond (has_wrong_size r.size a.value) (milder (is_revised p a.kind) (cond (eqb a.kind 6 || eqb a.kind 7) discard withdraw) (notice 3 5 a.octets)) (judge_value (is_revised p a.kind) (value_fault p.as4 a))))) plain
+    ∙ ap (λ b. cond b (milder (is_revised p a.kind) withdraw (notice 3 4 a.octets)) (cond (has_wrong_size r.size a.value) (milder (is_revised p a.kind) (cond (eqb a.kind 6 || eqb a.kind 7) discard withdraw) (notice 3 5 a.octets)) (judge_value (is_revised p a.kind) (value_fault p.as4 a)))) good.flags
+    ∙ ap (λ b. cond b (milder (is_revised p a.kind) (cond (eqb a.kind 6 || eqb a.kind 7) discard withdraw) (notice 3 5 a.octets)) (judge_value (is_revised p a.kind) (value_fault p.as4 a))) good.size
+    ∙ ap (judge_value (is_revised p a.kind)) good.value
 
 flags_right : (flags kind : ℕ) (value octets : List ℕ) (long : Bool) (r : TypeRule)
     → has_wrong_flags r (record { flags = flags; kind = kind; value = value; octets = octets }) ≡ false
@@ -75,6 +80,10 @@ not_five false b c e = refl
 pub record IsSound (p : Profile) (external : Bool) (a : Attribute) : Type 0 where
   pub is : IsAttribute a
   pub kept : IsKept p external a
+
+-- NEXT_HOP as it was
+pub hop_back : (n : ℕ) → IsAddress false n → hop_at (big_bytes 4 (n / 2 ^ 96)) ≡ n
+hop_back n is = ap in_front (big_number-reads_back 4 (n / 2 ^ 96) [] (front_below n is.0)) ∙ front_again n is.1
 
 abbrev pub Fits16 : List ℕ → Type 0
 Fits16 value = length value < 65536
@@ -104,18 +113,14 @@ sound_path p external path all fits =
       });
     }
 
--- the first octet of an address
-first_octet : (n : ℕ) → n < 2 ^ 32 → n / 16777216 % 256 ≡ n / 2 ^ 24
-first_octet n lt = omega arith
-
-sound_next_hop : (p : Profile) (external : Bool) (n : ℕ) → IsHost n → IsSound p external (spelled 64 3 (big_bytes 4 (n / 2 ^ 96)))
+pub sound_next_hop : (p : Profile) (external : Bool) (n : ℕ) → IsHost false n → IsSound p external (spelled 64 3 (big_bytes 4 (n / 2 ^ 96)))
 unfolding rule_of value_fault
 sound_next_hop p external n host = record {
   is = spelled_is 64 3 (big_bytes 4 (n / 2 ^ 96)) refl refl (omega arith);
   kept = good_is_kept p external (spelled 64 3 (big_bytes 4 (n / 2 ^ 96))) (record { optional = false; transitive = true; size = fixed 4 }) refl (not_five p.revised external false refl) (record {
     flags = refl;
     size = refl;
-    value = ap (λ b. cond b (Some (notice 3 8 (spelled_octets false 64 3 (big_bytes 4 (n / 2 ^ 96))))) None) (ap is_no_host (first_octet (n / 2 ^ 96) (front_below n host.ipv4.0) ∙ shr-shr n 96 24) ∙ host.first);
+    value = ap (λ b. cond b None (Some (notice 3 8 (spelled_octets false 64 3 (big_bytes 4 (n / 2 ^ 96)))))) (ap (is_host false) (hop_back n host.of) ∙ host.host);
   });
 }
 
@@ -191,13 +196,17 @@ reads_both true false e = refl
 reads_both true true e = absurd (cc)
 reads_both false external e = absurd (cc)
 
+pub not_spoken : (v6 : Bool) → (v6 && false) ≡ false
+not_spoken true = refl
+not_spoken false = refl
+
 pub rule_at_9 : (p : Profile) (external : Bool) → reads_reflection p external ≡ true → rule_of p external 9 ≡ Some (record { optional = true; transitive = false; size = fixed 4 })
 unfolding rule_of
-rule_at_9 p external reads = ap (λ b. cond b None (rule true false (fixed 4))) (reads_both p.reflect external reads)
+rule_at_9 p external reads = ap (λ b. cond b (rule true false any) (reflection_rule p external 9)) (not_spoken p.v6) ∙ ap (λ b. cond b None (rule true false (fixed 4))) (reads_both p.reflect external reads)
 
 pub rule_at_10 : (p : Profile) (external : Bool) → reads_reflection p external ≡ true → rule_of p external 10 ≡ Some (record { optional = true; transitive = false; size = fours })
 unfolding rule_of
-rule_at_10 p external reads = ap (λ b. cond b None (rule true false fours)) (reads_both p.reflect external reads)
+rule_at_10 p external reads = ap (λ b. cond b (rule true false any) (reflection_rule p external 10)) (not_spoken p.v6) ∙ ap (λ b. cond b None (rule true false fours)) (reads_both p.reflect external reads)
 
 sound_originator : (p : Profile) (external : Bool) (n : ℕ) → reads_reflection p external ≡ true → IsSound p external (spelled 128 9 (big_bytes 4 n))
 unfolding value_fault
@@ -222,6 +231,50 @@ sound_clusters p external c cs reads fits =
         value = refl;
       });
     }
+
+-- MP_REACH_NLRI and MP_UNREACH_NLRI, by their types and what is read of their values
+
+sound_spoken : (p : Profile) (external : Bool) (kind : ℕ) (value : List ℕ) → (eqb kind 14 || eqb kind 15) ≡ true → p.v6 ≡ true → Fits16 value → value_fault p.as4 (spelled 128 kind value) ≡ None → IsSound p external (spelled 128 kind value)
+sound_spoken p external kind value two v6 fits good =
+    let r : TypeRule = record { optional = true; transitive = false; size = any } in
+    let five : eqb kind 5 ≡ false = unequal kind 5 (λ e. never (ap (λ n. eqb n 14 || eqb n 15) (sym e) ∙ two)) in
+    record {
+      is = spelled_is 128 kind value refl refl fits;
+      kept = good_is_kept p external (spelled 128 kind value) r (rule_spoken p external kind (λ i. v6 i && two i)) (not_five p.revised external (eqb kind 5) five) (record {
+        flags = flags_right 128 kind value (spelled_octets (is_long value) 128 kind value) (is_long value) r refl refl;
+        size = refl;
+        value = good;
+      });
+    }
+  where
+    never : false ≡ true → ⊥
+    never e = absurd (cc)
+
+pub reach_is : (hop : ℕ) (ps : List AddressPrefix) → IsHost true hop → ArePrefixes true (prefixes_octets ps) ps → IsReach (reach_value hop ps) (record { next_hop = hop; announced = ps })
+reach_is hop ps host are = record {
+  hop = big_bytes 16 hop;
+  reserved = 0;
+  prefixes = prefixes_octets ps;
+  spelled = refl;
+  size = inl refl;
+  next_hop = sym (ap (big_number 16) (sym (append-nil (big_bytes 16 hop))) ∙ big_number-reads_back 16 hop [] host.of);
+  host = host.host;
+  announces = are;
+}
+
+sound_reach : (p : Profile) (external : Bool) (hop : ℕ) (ps : List AddressPrefix) → p.v6 ≡ true → IsHost true hop → ArePrefixes true (prefixes_octets ps) ps → Fits16 (reach_value hop ps) → IsSound p external (spelled 128 14 (reach_value hop ps))
+unfolding value_fault
+sound_reach p external hop ps v6 host are fits =
+    let value = reach_value hop ps in
+    let bad = bad_value (spelled_octets (is_long value) 128 14 value) in
+    sound_spoken p external 14 value refl v6 fits (ap err_of (reads_again bad (reach_behind bad) IsReach (reach_back bad) value (record { next_hop = hop; announced = ps }) (reach_is hop ps host are)))
+
+pub sound_unreach : (p : Profile) (external : Bool) (ps : List AddressPrefix) → p.v6 ≡ true → ArePrefixes true (prefixes_octets ps) ps → Fits16 (unreach_value ps) → IsSound p external (spelled 128 15 (unreach_value ps))
+unfolding value_fault
+sound_unreach p external ps v6 are fits =
+    let value = unreach_value ps in
+    let bad = bad_value (spelled_octets (is_long value) 128 15 value) in
+    sound_spoken p external 15 value refl v6 fits (ap err_of (reads_again bad (prefixes_at true bad) IsUnreach (unreach_back bad) value ps (record { prefixes = prefixes_octets ps; spelled = refl; withdraws = are })))
 
 -- ---- all that are sent
 
@@ -286,8 +339,8 @@ pub record FitLengths (as4 : Bool) (a : Attrs) : Type 0 where
   pub clusters : Fits16 (flat_map (big_bytes 4) a.reflection.clusters)
   pub unrecognized : AllFit16 a.unrecognized
 
-sound_further : (p : Profile) (external : Bool) (a : Attrs) → IsReadable p external a → AreSound p external 4 8 (further_attributes p.as4 a)
-sound_further p external a is =
+sound_further : (p : Profile) (external : Bool) (v6 : Bool) (a : Attrs) → IsReadable v6 p external a → AreSound p external 4 8 (further_attributes p.as4 a)
+sound_further p external v6 a is =
     sound_append p external 4 7 8 _ _
     (sound_append p external 4 6 7 _ _
     (sound_append p external 4 5 6 _ _
@@ -297,8 +350,8 @@ sound_further p external a is =
     (sound_optional p external 7 (λ g. spelled (aggregator_flags g.partial) 7 (aggregator_value p.as4 g)) a.aggregator (λ g e. (refl, sound_aggregator p external g)))
 
 -- what reflectors added is read by a route reflector alone
-pub nothing_added : (p : Profile) (external : Bool) (a : Attrs) → IsReadable p external a → p.reflect ≡ false → (a.reflection.originator ≡ None) × (a.reflection.clusters ≡ [])
-nothing_added p external a is plain = (no_originator a.reflection.originator refl, no_cluster a.reflection.clusters refl)
+pub nothing_added : (p : Profile) (external : Bool) (v6 : Bool) (a : Attrs) → IsReadable v6 p external a → p.reflect ≡ false → (a.reflection.originator ≡ None) × (a.reflection.clusters ≡ [])
+nothing_added p external v6 a is plain = (no_originator a.reflection.originator refl, no_cluster a.reflection.clusters refl)
   where
     never : reads_reflection p external ≡ true → ⊥
     never reads = not_both p.reflect (and_left p.reflect (not external) reads) plain
@@ -311,17 +364,17 @@ nothing_added p external a is plain = (no_originator a.reflection.originator ref
     no_cluster [] e = e
     no_cluster (c ∷ cs) e = absurd (never (all_first (λ n. (reads_reflection p external ≡ true) × (n < 2 ^ 32)) c cs (subst (All (λ n. (reads_reflection p external ≡ true) × (n < 2 ^ 32))) e is.clusters)).0)
 
-pub nothing_reflected : (p : Profile) (external : Bool) (a : Attrs) → IsReadable p external a → p.reflect ≡ false → reflection_attributes a.reflection ≡ []
-nothing_reflected p external a is plain =
-    let none = nothing_added p external a is plain in
+pub nothing_reflected : (p : Profile) (external : Bool) (v6 : Bool) (a : Attrs) → IsReadable v6 p external a → p.reflect ≡ false → reflection_attributes a.reflection ≡ []
+nothing_reflected p external v6 a is plain =
+    let none = nothing_added p external v6 a is plain in
     λ i. optional (λ n. spelled 128 9 (big_bytes 4 n)) (none.0 i) ++ clusters_attributes (none.1 i)
 
 -- behind what reflectors added, where a route reflector reads
 abbrev behind_reflection : Bool → ℕ
 behind_reflection reflect = cond reflect 11 9
 
-sound_reflection : (p : Profile) (external : Bool) (a : Attrs) → IsReadable p external a → Fits16 (flat_map (big_bytes 4) a.reflection.clusters) → AreSound p external 9 (behind_reflection p.reflect) (reflection_attributes a.reflection)
-sound_reflection p external a is fit = by_reflect p.reflect refl
+sound_reflection : (p : Profile) (external : Bool) (v6 : Bool) (a : Attrs) → IsReadable v6 p external a → Fits16 (flat_map (big_bytes 4) a.reflection.clusters) → AreSound p external 9 (behind_reflection p.reflect) (reflection_attributes a.reflection)
+sound_reflection p external v6 a is fit = by_reflect p.reflect refl
   where
     clusters : (cs : List ℕ) → All (λ n. (reads_reflection p external ≡ true) × (n < 2 ^ 32)) cs → Fits16 (flat_map (big_bytes 4) cs) → AreSound p external 10 11 (clusters_attributes cs)
     clusters [] read fit = omega arith
@@ -332,11 +385,11 @@ sound_reflection p external a is fit = by_reflect p.reflect refl
         sound_append p external 9 10 11 _ _
         (sound_optional p external 9 (λ n. spelled 128 9 (big_bytes 4 n)) a.reflection.originator (λ n e. (refl, sound_originator p external n (is.originator n e).0)))
         (clusters a.reflection.clusters is.clusters fit)
-    by_reflect false e = subst (AreSound p external 9 9) (sym (nothing_reflected p external a is e)) (omega arith)
+    by_reflect false e = subst (AreSound p external 9 9) (sym (nothing_reflected p external v6 a is e)) (omega arith)
 
--- an unrecognized type of the last place stands behind them
-last_above : (p : Profile) (kind : ℕ) → is_unrecognized p kind ≡ true → stands_in last kind ≡ true → behind_reflection p.reflect ≤ kind
-last_above p kind unknown stands = by_reflect p.reflect (no_reflection p kind unknown)
+-- an unrecognized type that is neither 0 nor 8 stands behind them
+others_above : (p : Profile) (kind : ℕ) → is_unrecognized p kind ≡ true → not (eqb kind 0 || eqb kind 8) ≡ true → behind_reflection p.reflect ≤ kind
+others_above p kind unknown stands = by_reflect p.reflect (no_reflection p kind unknown)
   where
     neither : (eqb kind 0 || eqb kind 8) ≡ false
     neither = not_true (eqb kind 0 || eqb kind 8) stands
@@ -344,36 +397,75 @@ last_above p kind unknown stands = by_reflect p.reflect (no_reflection p kind un
     no_zero : eqb kind 0 ≡ false
     no_zero = or_false_left (eqb kind 0) (eqb kind 8) neither
 
-    above_seven : (ltb 7 kind && not (is_reflection p kind)) ≡ true
-    above_seven = ap (λ b. b || (ltb 7 kind && not (is_reflection p kind))) (sym no_zero) ∙ unknown
+    above_seven : (ltb 7 kind && not (is_special p kind)) ≡ true
+    above_seven = ap (λ b. b || (ltb 7 kind && not (is_special p kind))) (sym no_zero) ∙ unknown
 
     nine : 9 ≤ kind
-    nine = omega (arith, ltb-true 7 kind (and_left (ltb 7 kind) (not (is_reflection p kind)) above_seven), eqb-false kind 8 (or_false_right (eqb kind 0) (eqb kind 8) neither))
+    nine = omega (arith, ltb-true 7 kind (and_left (ltb 7 kind) (not (is_special p kind)) above_seven), eqb-false kind 8 (or_false_right (eqb kind 0) (eqb kind 8) neither))
 
     by_reflect : (b : Bool) → (b && (eqb kind 9 || eqb kind 10)) ≡ false → behind_reflection b ≤ kind
     by_reflect true e = omega (arith, nine, eqb-false kind 9 (or_false_left (eqb kind 9) (eqb kind 10) e), eqb-false kind 10 (or_false_right (eqb kind 9) (eqb kind 10) e))
     by_reflect false e = nine
 
-pub sound_sent : (p : Profile) (external : Bool) (a : Attrs) → IsReadable p external a → FitLengths p.as4 a → (end : ℕ) × AreSound p external 0 end (sent_attributes p.as4 a)
-sound_sent p external a is fit =
+-- behind MP_REACH_NLRI
+abbrev behind_reach : Bool → ℕ
+behind_reach v6 = cond v6 15 14
+
+last_above : (p : Profile) (v6 : Bool) (kind : ℕ) → Speaks p v6 → is_unrecognized p kind ≡ true → stands_in last kind ≡ true → behind_reach v6 ≤ kind
+last_above p false kind speaks unknown stands = ltb-false kind 14 (not_true (ltb kind 14) (and_right (not (eqb kind 0 || eqb kind 8)) (not (ltb kind 14)) stands))
+last_above p true kind speaks unknown stands =
+    let from : 14 ≤ kind = ltb-false kind 14 (not_true (ltb kind 14) (and_right (not (eqb kind 0 || eqb kind 8)) (not (ltb kind 14)) stands)) in
+    let none : (eqb kind 14 || eqb kind 15) ≡ false = ap (λ b. b && (eqb kind 14 || eqb kind 15)) (sym (speaks refl)) ∙ no_multiprotocol p kind unknown in
+    omega (arith, from, eqb-false kind 14 (or_false_left (eqb kind 14) (eqb kind 15) none))
+
+-- prefixes that are announced in a family that is spoken, one at most
+pub record IsSpoken (p : Profile) (v6 : Bool) (ps : List AddressPrefix) : Type 0 where
+  pub speaks : Speaks p v6
+  pub are : ArePrefixes v6 (prefixes_octets ps) ps
+  pub few : length ps ≤ 1
+
+sound_hops : (p : Profile) (external : Bool) (v6 : Bool) (a : Attrs) → IsReadable v6 p external a → AreSound p external 3 4 (hop_attributes v6 a.next_hop)
+sound_hops p external false a is = (omega arith, sound_next_hop p external a.next_hop is.next_hop, omega arith)
+sound_hops p external true a is = omega arith
+
+sound_reaches : (p : Profile) (external : Bool) (v6 : Bool) (a : Attrs) → IsReadable v6 p external a → (ps : List AddressPrefix) → IsSpoken p v6 ps → AreSound p external 14 (behind_reach v6) (reach_attributes v6 a.next_hop ps)
+sound_reaches p external false a is ps spoken = omega arith
+sound_reaches p external true a is ps spoken =
+    (omega arith, sound_reach p external a.next_hop ps (spoken.speaks refl) is.next_hop spoken.are (omega (arith, length-reach-value a.next_hop ps, few_octets ps spoken.few)), omega arith)
+
+pub sound_sent : (p : Profile) (external : Bool) (v6 : Bool) (a : Attrs) → IsReadable v6 p external a → FitLengths p.as4 a → (ps : List AddressPrefix) → IsSpoken p v6 ps → (end : ℕ) × AreSound p external 0 end (sent_attributes v6 p.as4 a ps)
+sound_sent p external v6 a is fit ps spoken =
     let us = a.unrecognized in
     let between = behind_reflection p.reflect in
-    let end = between + top us in
+    let later = behind_reach v6 in
+    let end = later + top us in
     let before : AreSound p external 0 1 (unrecognized_attributes first us) = sound_place p external first 0 1 0 us is.order is.types fit.unrecognized (omega arith) (λ kind le unknown stands. omega arith) (λ k d lt here. omega (arith, eqb-true _ 0 here)) in
-    let mandatory : AreSound p external 1 4 (mandatory_attributes p.as4 a) = (
+    let mandatory : AreSound p external 1 4 (mandatory_attributes v6 p.as4 a) = (
       omega arith,
       sound_origin p external a.origin,
-      (omega arith, sound_path p external a.path is.path fit.path, (omega arith, sound_next_hop p external a.next_hop is.next_hop, omega arith)),
+      (omega arith, sound_path p external a.path is.path fit.path, sound_hops p external v6 a is),
     ) in
     let eighth : AreSound p external 8 9 (unrecognized_attributes middle us) = sound_place p external middle 8 9 0 us is.order is.types fit.unrecognized (omega arith) (λ kind le unknown stands. omega (arith, eqb-true kind 8 stands)) (λ k d lt here. omega (arith, eqb-true _ 8 here)) in
-    let behind : AreSound p external between end (unrecognized_attributes last us) = sound_place p external last between end 0 us is.order is.types fit.unrecognized (omega arith) (λ kind le unknown stands. last_above p kind unknown stands) (below_top (λ (u : Unrecognized). stands_in last u.kind ≡ true) end us (omega arith)) in (
+    let others : AreSound p external between 14 (unrecognized_attributes inner us) =
+    sound_place p external inner between 14 0 us is.order is.types fit.unrecognized (few p.reflect)
+    (λ kind le unknown stands. others_above p kind unknown (and_left (not (eqb kind 0 || eqb kind 8)) (ltb kind 14) stands))
+    (λ k d lt here. ltb-true _ 14 (and_right _ (ltb _ 14) here)) in
+    let behind : AreSound p external later end (unrecognized_attributes last us) = sound_place p external last later end 0 us is.order is.types fit.unrecognized (omega arith) (λ kind le unknown stands. last_above p v6 kind spoken.speaks unknown stands) (below_top (λ (u : Unrecognized). stands_in last u.kind ≡ true) end us (omega arith)) in (
       end,
-      sound_append p external 0 between end _ _
+      sound_append p external 0 later end _ _
+          (sound_append p external 0 14 later _ _
+          (sound_append p external 0 between 14 _ _
           (sound_append p external 0 9 between _ _
-          (sound_append p external 0 8 9 _ _ (sound_append p external 0 4 8 _ _ (sound_append p external 0 1 4 _ _ before mandatory) (sound_further p external a is)) eighth)
-          (sound_reflection p external a is fit.clusters))
+          (sound_append p external 0 8 9 _ _ (sound_append p external 0 4 8 _ _ (sound_append p external 0 1 4 _ _ before mandatory) (sound_further p external v6 a is)) eighth)
+          (sound_reflection p external v6 a is fit.clusters))
+          others)
+          (sound_reaches p external v6 a is ps spoken))
           behind,
     )
+  where
+    few : (b : Bool) → behind_reflection b ≤ 14
+    few true = omega arith
+    few false = omega arith
 
 -- ---- they are read one after the other
 
@@ -392,7 +484,7 @@ still_behind n m seen behind le kind above =
 
 judged : (p : Profile) (external : Bool) (seen : List ℕ) (a : Attribute) → list_any (λ k. eqb k a.kind) seen ≡ false → IsKept p external a → judgement p external seen a ≡ Ok keep
 unfolding judgement
-judged p external seen a new kept = ap (λ b. cond b (milder p discard (notice 3 1 [])) (judge_by p external a (rule_of p external a.kind))) new ∙ kept
+judged p external seen a new kept = ap (λ b. cond b (milder (is_revised p a.kind) discard (notice 3 1 [])) (judge_by p external a (rule_of p external a.kind))) new ∙ kept
 
 abbrev pub all_kept : List Attribute → List (Attribute × Verdict)
 all_kept xs = map (λ a. (a, keep)) xs

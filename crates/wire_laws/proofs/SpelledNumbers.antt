@@ -1,20 +1,22 @@
 -- What is written of numbers, prefixes and paths is read as it was.
-use Rattle.std.proofs.Common.{◌≡◌, ℕ, zero, suc, ◌-◌, ◌*◌, ◌/◌, ◌%◌, ◌^◌, ◌≤◌, ◌<◌, Bool, List, [], ◌∷◌, ◌++◌, length, take, drop, refl, sym, ap, subst, ◌∙◌, arith}
+use Rattle.std.proofs.Common.{◌≡◌, ℕ, zero, suc, ◌+◌, ◌-◌, ◌*◌, ◌/◌, ◌%◌, ◌^◌, ◌≤◌, ◌<◌, Bool, List, [], ◌∷◌, ◌++◌, length, take, drop, refl, sym, ap, subst, ◌∙◌, arith}
 use Rattle.std.specs.Prelude.{All}
 use Rattle.std.specs.List.{flat_map}
+use Rattle.std.specs.Int.{byte_at}
+use Rattle.std.proofs.Math.Nat.{mod-eq_of_lt, pow-succ'}
 use Rattle.std.proofs.lemmas.List.{length-take, drop_at}
-use Rattle.byteorder.specs.Endian.{big_number, big_bytes}
-use Rattle.byteorder.specs.Numbers.{big_number-reads_back, length-bytes_high_first}
+use Rattle.std.proofs.lemmas.Nat.{pow-add}
+use Rattle.byteorder.specs.Endian.{big_from, big_number, big_bytes}
+use Rattle.byteorder.specs.Numbers.{big_from-bytes, big_from-cons, big_number-reads_back, length-bytes_high_first}
 use Rattle.addr4.specs.Blocks.{width, size_of_length, masked_to}
 use Rattle.addr4.specs.Prefixes.{AddressPrefix}
-use Rattle.addr4.proofs.FrontLemmas.{front_again, front_below, front_prefix, front_behind}
 use Rattle.addr4.proofs.BlockLemmas.{finer, size_splits, size_pos}
 use Rattle.bgp_attr.specs.declared.path.Segment.{Segment}
 use Rattle.bgp_wire.specs.Prefixes.{octets_for, IsPrefix, ArePrefixes}
 use Rattle.bgp_wire.specs.Paths.{width_of, numbers_at, IsSegment, IsPath}
 use Rattle.bgp_wire.specs.Spelling.{prefix_octets, prefixes_octets, segment_octets, path_octets}
 use Rattle.bgp_wire.proofs.SpelledLengths.{length-numbers}
-use Rattle.addr4.specs.Families.{in_front, IsIpv4Prefix}
+use Rattle.addr4.specs.Families.{IsPrefixOf}
 use Rattle.bgp_wire.specs.Readable.{IsReadableSegment}
 
 pub all_first : {A : Type 0} (P : A → Type 0) (x : A) (xs : List A) → All P (x ∷ xs) → P x
@@ -30,55 +32,54 @@ all_cons P x xs first later (suc k) d lt = later k d (omega arith)
 -- ---- prefixes
 
 -- the low octets of a masked number are zero
-low_zeros : (n length k : ℕ) → n % size_of_length 32 length ≡ 0 → length ≤ 8 * k → k ≤ 4 → n % size_of_length 32 (8 * k) ≡ 0
+low_zeros : (n length k : ℕ) → n % size_of_length width length ≡ 0 → length ≤ 8 * k → k ≤ 16 → n % 256 ^ (16 - k) ≡ 0
 low_zeros n length k is le top =
-    finer (2 ^ (8 * k - length)) (size_of_length 32 (8 * k)) n (size_pos 32 (8 * k))
-    (subst (λ s. n % s ≡ 0) (size_splits 32 length (8 * k) le (omega arith)) is)
+    let e : 8 * (16 - k) ≡ 128 - 8 * k = omega arith in
+    let low : n % size_of_length width (8 * k) ≡ 0 = finer (2 ^ (8 * k - length)) (size_of_length width (8 * k)) n (size_pos width (8 * k)) (subst (λ s. n % s ≡ 0) (size_splits width length (8 * k) le (omega arith)) is) in
+    ap (λ m. n % m) (octets_pow (16 - k) ∙ ap (λ i. 2 ^ i) e) ∙ low
+  where
+    octets_pow : (j : ℕ) → 256 ^ j ≡ 2 ^ (8 * j)
+    octets_pow zero = refl
+    octets_pow (suc j) =
+        let e : 8 * suc j ≡ 8 + 8 * j = omega arith in
+        pow-succ' 256 j ∙ ap (λ x. 256 * x) (octets_pow j) ∙ sym (ap (λ i. 2 ^ i) e ∙ pow-add 2 8 (8 * j))
 
-back_0 : (n : ℕ) → n < 2 ^ 32 → n % 2 ^ 32 ≡ 0 → big_number 4 [] ≡ n
-back_0 n fits e = omega arith
+no_octets : (i m : ℕ) → big_from i m [] ≡ 0
+no_octets i zero = refl
+no_octets i (suc m) = omega (arith, no_octets (suc i) m)
 
-back_1 : (n : ℕ) → n < 2 ^ 32 → n % 16777216 ≡ 0 → big_number 4 (n / 16777216 % 256 ∷ []) ≡ n
-back_1 n fits e = omega arith
+-- the highest octet, and the others
+octets_split : (m n : ℕ) → byte_at m n * 256 ^ m + n % 256 ^ m ≡ n % 256 ^ suc m
+octets_split m n =
+    sym (ap (λ y. byte_at m n * 256 ^ m + y) (big_from-cons 0 m (byte_at m n) (big_bytes m n ++ []) ∙ big_from-bytes m n []))
+    ∙ big_from-bytes (suc m) n []
 
-back_2 : (n : ℕ) → n < 2 ^ 32 → n % 65536 ≡ 0 → big_number 4 (n / 16777216 % 256 ∷ n / 65536 % 256 ∷ []) ≡ n
-back_2 n fits e = omega arith
+-- the first octets of a number whose low ones are zero
+back : (m k n : ℕ) → k ≤ m → n % 256 ^ (m - k) ≡ 0 → big_number m (take k (big_bytes m n)) ≡ n % 256 ^ m
+back m zero n le e = let same : m - 0 ≡ m = omega arith in no_octets 0 m ∙ sym e ∙ ap (λ i. n % 256 ^ i) same
+back zero (suc k) n le e = absurd (omega arith)
+back (suc m) (suc k) n le e =
+    let same : m - k ≡ suc m - suc k = omega arith in
+    ap (λ y. byte_at m n * 256 ^ m + y) (big_from-cons 0 m (byte_at m n) (take k (big_bytes m n)) ∙ back m k n (omega arith) (ap (λ i. n % 256 ^ i) same ∙ e))
+    ∙ octets_split m n
 
-back_3 : (n : ℕ) → n < 2 ^ 32 → n % 256 ≡ 0 → big_number 4 (n / 16777216 % 256 ∷ n / 65536 % 256 ∷ n / 256 % 256 ∷ []) ≡ n
-back_3 n fits e = omega arith
-
-back_4 : (n : ℕ) → n < 2 ^ 32 → big_number 4 (n / 16777216 % 256 ∷ n / 65536 % 256 ∷ n / 256 % 256 ∷ n % 256 ∷ []) ≡ n
-back_4 n fits = omega arith
-
--- the octets of a number whose low ones are zero
-back : (n k : ℕ) → n < 2 ^ 32 → k ≤ 4 → n % size_of_length 32 (8 * k) ≡ 0 → big_number 4 (take k (big_bytes 4 n)) ≡ n
-back n zero fits le e = back_0 n fits e
-back n (suc zero) fits le e = back_1 n fits e
-back n (suc (suc zero)) fits le e = back_2 n fits e
-back n (suc (suc (suc zero))) fits le e = back_3 n fits e
-back n (suc (suc (suc (suc zero)))) fits le e = back_4 n fits
-back n (suc (suc (suc (suc (suc k))))) fits le e = absurd (omega arith)
-
-pub spelled_prefix : (p : AddressPrefix) → IsIpv4Prefix p → IsPrefix (prefix_octets p) p
-spelled_prefix p is =
+pub spelled_prefix : (v6 : Bool) (p : AddressPrefix) → IsPrefixOf v6 p → IsPrefix v6 (prefix_octets p) p
+spelled_prefix v6 p is =
     let k = octets_for p.length in
-    let n = p.address / 2 ^ 96 in
-    let top : k ≤ 4 = omega (arith, is.short) in
-    let le : p.length ≤ 8 * k = omega arith in
-    let front : in_front n ≡ p.address = front_again p.address (front_prefix p is).1 in
-    let zeros : n % size_of_length 32 p.length ≡ 0 = front_behind n p.length is.short (ap (λ a. a % size_of_length width p.length) front ∙ is.masked.1) in
-    let whole : big_number 4 (take k (big_bytes 4 n)) ≡ n = back n k (front_below p.address is.fits) top (low_zeros n p.length k zeros le top) in
-    let value : p.address ≡ masked_to width p.address p.length = omega (arith, is.masked.1) in
+    let n = p.address in
+    let top : k ≤ 16 = omega (arith, is.masked.0) in
+    let whole : big_number 16 (take k (big_bytes 16 n)) ≡ n = back 16 k n top (low_zeros n p.length k is.masked.1 (omega arith) top) ∙ mod-eq_of_lt is.fits in
+    let value : n ≡ masked_to width n p.length = omega (arith, is.masked.1) in
     record {
-      bits = take k (big_bytes 4 n);
+      bits = take k (big_bytes 16 n);
       spelled = refl;
       short = is.short;
-      fewest = omega (arith, length-take k (big_bytes 4 n));
-      value = λ i. record { address = (value ∙ ap (λ a. masked_to width a p.length) (sym (ap in_front whole ∙ front))) i; length = p.length };
+      fewest = omega (arith, length-take k (big_bytes 16 n), length-bytes_high_first 16 n);
+      value = λ i. record { address = (value ∙ ap (λ a. masked_to width a p.length) (sym whole)) i; length = p.length };
     }
 
-pub spelled_prefixes : (p : AddressPrefix) → IsIpv4Prefix p → ArePrefixes (prefixes_octets (p ∷ [])) (p ∷ [])
-spelled_prefixes p is = (prefix_octets p, [], refl, spelled_prefix p is, refl)
+pub spelled_prefixes : (v6 : Bool) (p : AddressPrefix) → IsPrefixOf v6 p → ArePrefixes v6 (prefixes_octets (p ∷ [])) (p ∷ [])
+spelled_prefixes v6 p is = (prefix_octets p, [], refl, spelled_prefix v6 p is, refl)
 
 -- ---- paths
 

@@ -1,5 +1,5 @@
 -- What is written of a route's attributes says of the route what they are.
-use Rattle.std.proofs.Common.{◌≡◌, ℕ, ◌+◌, ◌/◌, ◌%◌, ◌^◌, ◌<◌, Bool, true, false, cond, eqb, not, ◌||◌, ◌&&◌, List, [], ◌∷◌, ◌++◌, length, drop, map, get_or, Option, Some, None, refl, sym, ap, subst, ◌∙◌, arith}
+use Rattle.std.proofs.Common.{◌≡◌, ℕ, ◌+◌, ◌/◌, ◌%◌, ◌^◌, ◌<◌, Bool, true, false, cond, eqb, ltb, not, ◌||◌, ◌&&◌, List, [], ◌∷◌, ◌++◌, length, drop, map, get_or, Option, Some, None, refl, sym, ap, subst, ◌∙◌, arith}
 use Rattle.std.specs.Prelude.{All, filter, is_some, option_map, IsSomeAnd}
 use Rattle.std.specs.List.{flat_map}
 use Rattle.std.specs.Option.{ForSome}
@@ -7,23 +7,22 @@ use Rattle.std.proofs.lemmas.Bool.{eqb-true}
 use Rattle.std.proofs.lemmas.List.{drop_at}
 use Rattle.byteorder.specs.Endian.{big_number, big_bytes}
 use Rattle.byteorder.specs.Numbers.{big_number-reads_back, length-bytes_high_first}
-use Rattle.addr4.specs.Families.{in_front}
-use Rattle.addr4.proofs.FrontLemmas.{front_below, front_again}
+use Rattle.addr4.specs.Prefixes.{AddressPrefix}
 use Rattle.bgp_attr.specs.declared.attrs.Aggregator.{Aggregator}
 use Rattle.bgp_attr.specs.Attributes.{Attrs}
 use Rattle.bgp_attr.specs.declared.speaker.Profile.{Profile}
 use Rattle.bgp_attr.specs.declared.unrecognized.Unrecognized.{Unrecognized}
 use Rattle.bgp_attr.specs.Reflections.{Reflected}
-use Rattle.bgp_wire.proofs.JudgedTypes.{Place, first, middle, last}
+use Rattle.bgp_wire.proofs.JudgedTypes.{Place, first, middle, inner, last}
 use Rattle.bgp_wire.specs.Paths.{width_of, numbers_at, IsPath}
-use Rattle.bgp_wire.specs.Attributes.{Attribute}
-use Rattle.bgp_wire.specs.Routes.{kept_of, code_of_origin, aggregator_of, clusters_of, is_unrecognized, value_of, AreUnrecognized, AreAttrs}
+use Rattle.bgp_wire.specs.Attributes.{Attribute, hop_at, is_reflection}
+use Rattle.bgp_wire.specs.Routes.{kept_of, hop_of, code_of_origin, aggregator_of, clusters_of, is_unrecognized, value_of, AreUnrecognized, AreAttrs}
 use Rattle.bgp_wire.specs.Updates.{has_kind}
-use Rattle.bgp_wire.specs.Spelling.{path_octets, is_long, spelled, optional, aggregator_value, aggregator_flags, stands_in, unrecognized_attribute, unrecognized_attributes, mandatory_attributes, further_attributes, clusters_attributes, reflection_attributes, sent_attributes}
-use Rattle.bgp_wire.specs.Readable.{IsReadable}
+use Rattle.bgp_wire.specs.Spelling.{path_octets, is_long, spelled, optional, aggregator_value, aggregator_flags, stands_in, unrecognized_attribute, unrecognized_attributes, mandatory_attributes, further_attributes, clusters_attributes, reflection_attributes, hop_attributes, reach_value, reach_attributes, sent_attributes}
+use Rattle.bgp_wire.specs.Readable.{IsReadable, Speaks}
 use Rattle.bgp_wire.proofs.TestLemmas.{unequal, not_both}
 use Rattle.wire_laws.proofs.SpelledNumbers.{all_first, all_later, numbers_again, spelled_path}
-use Rattle.wire_laws.proofs.SpelledAttributes.{nothing_added, nothing_reflected}
+use Rattle.wire_laws.proofs.SpelledAttributes.{hop_back, not_spoken, nothing_added, nothing_reflected}
 use Rattle.bgp_wire.proofs.SpelledLengths.{length-numbers}
 use Rattle.bgp_wire.proofs.TypeLaws.{GoodType, other_type}
 
@@ -52,6 +51,22 @@ skip_right kind xs ys none = kept_append kind xs ys ∙ ap (first_some (kept_of 
 
 skip_both : (kind : ℕ) (xs ys : List Attribute) → kept_of kind xs ≡ None → kept_of kind ys ≡ None → kept_of kind (xs ++ ys) ≡ None
 skip_both kind xs ys none also = skip_left kind xs ys none ∙ also
+
+-- the first of four
+abbrev pub Pieces : Option Attribute → Option Attribute → Option Attribute → Option Attribute → Option Attribute
+Pieces a b c d = first_some (first_some (first_some a b) c) d
+
+only_first : (a b c d : Option Attribute) → b ≡ None → c ≡ None → d ≡ None → Pieces a b c d ≡ a
+only_first a b c d eb ec ed = ap (λ o. Pieces a o c d) eb ∙ ap (λ o. Pieces a None o d) ec ∙ ap (λ o. Pieces a None None o) ed ∙ none_right _ ∙ none_right _ ∙ none_right _
+
+only_second : (a b c d : Option Attribute) → a ≡ None → c ≡ None → d ≡ None → Pieces a b c d ≡ b
+only_second a b c d ea ec ed = ap (λ o. Pieces o b c d) ea ∙ ap (λ o. Pieces None b o d) ec ∙ ap (λ o. Pieces None b None o) ed ∙ none_right _ ∙ none_right _
+
+only_third : (a b c d : Option Attribute) → a ≡ None → b ≡ None → d ≡ None → Pieces a b c d ≡ c
+only_third a b c d ea eb ed = ap (λ o. Pieces o b c d) ea ∙ ap (λ o. Pieces None o c d) eb ∙ ap (λ o. Pieces None None c o) ed ∙ none_right _
+
+only_fourth : (a b c d : Option Attribute) → a ≡ None → b ≡ None → c ≡ None → Pieces a b c d ≡ d
+only_fourth a b c d ea eb ec = ap (λ o. Pieces o b c d) ea ∙ ap (λ o. Pieces None o c d) eb ∙ ap (λ o. Pieces None None o d) ec
 
 -- ---- the unrecognized ones
 
@@ -96,39 +111,35 @@ same_place place kind (u ∷ us) here = by_place (stands_in place u.kind) refl (
         let apart = unequal u.kind kind (λ e. not_both (stands_in place u.kind) (ap (stands_in place) e ∙ here) stands) in
         same ∙ sym (ap (λ b. cond b (Some u.value) (value_of kind us)) apart)
 
+-- what the places have of a type
+abbrev pub in_places : ℕ → List Unrecognized → Option Attribute
+in_places kind us =
+    Pieces (kept_of kind (unrecognized_attributes first us)) (kept_of kind (unrecognized_attributes middle us)) (kept_of kind (unrecognized_attributes inner us)) (kept_of kind (unrecognized_attributes last us))
+
 -- the value of a type, in whichever place it stands
-one_place : (kind : ℕ) (us : List Unrecognized)
-    → option_map (λ a. a.value) (first_some (first_some (kept_of kind (unrecognized_attributes first us)) (kept_of kind (unrecognized_attributes middle us))) (kept_of kind (unrecognized_attributes last us))) ≡ value_of kind us
-one_place kind us = by_tests (eqb kind 0) refl (eqb kind 8) refl
+one_place : (kind : ℕ) (us : List Unrecognized) → option_map (λ a. a.value) (in_places kind us) ≡ value_of kind us
+one_place kind us = by_tests (eqb kind 0) refl (eqb kind 8) refl (ltb kind 14) refl
   where
     value : Option Attribute → Option (List ℕ)
     value o = option_map (λ a. a.value) o
 
-    f : Option Attribute
-    f = kept_of kind (unrecognized_attributes first us)
+    others : (b c : Bool) → (eqb kind 0 || eqb kind 8) ≡ b → ltb kind 14 ≡ c → (stands_in inner kind ≡ (not b && c)) × (stands_in last kind ≡ (not b && not c))
+    others b c e f = (λ i. not (e i) && f i, λ i. not (e i) && not (f i))
 
-    m : Option Attribute
-    m = kept_of kind (unrecognized_attributes middle us)
-
-    l : Option Attribute
-    l = kept_of kind (unrecognized_attributes last us)
-
-    by_tests : (a : Bool) → eqb kind 0 ≡ a → (b : Bool) → eqb kind 8 ≡ b → value (first_some (first_some f m) l) ≡ value_of kind us
-    by_tests true e true g = absurd (omega (arith, eqb-true _ _ e, eqb-true _ _ g))
-    by_tests true e false g =
-        ap (λ o. value (first_some (first_some f o) l)) (other_place middle kind us g)
-        ∙ ap (λ o. value (first_some (first_some f None) o)) (other_place last kind us (ap (λ b. not (b || eqb kind 8)) e))
-        ∙ ap value (none_right (first_some f None) ∙ none_right f)
-        ∙ same_place first kind us e
-    by_tests false e true g =
-        ap (λ o. value (first_some (first_some o m) l)) (other_place first kind us e)
-        ∙ ap (λ o. value (first_some m o)) (other_place last kind us (λ i. not (e i || g i)))
-        ∙ ap value (none_right m)
-        ∙ same_place middle kind us g
-    by_tests false e false g =
-        ap (λ o. value (first_some (first_some o m) l)) (other_place first kind us e)
-        ∙ ap (λ o. value (first_some o l)) (other_place middle kind us g)
-        ∙ same_place last kind us (λ i. not (e i || g i))
+    by_tests : (a : Bool) → eqb kind 0 ≡ a → (b : Bool) → eqb kind 8 ≡ b → (c : Bool) → ltb kind 14 ≡ c → value (in_places kind us) ≡ value_of kind us
+    by_tests true e true g c h = absurd (omega (arith, eqb-true _ _ e, eqb-true _ _ g))
+    by_tests true e false g c h =
+        let o = others true c (λ i. e i || g i) h in
+        ap value (only_first _ _ _ _ (other_place middle kind us g) (other_place inner kind us o.0) (other_place last kind us o.1)) ∙ same_place first kind us e
+    by_tests false e true g c h =
+        let o = others true c (λ i. e i || g i) h in
+        ap value (only_second _ _ _ _ (other_place first kind us e) (other_place inner kind us o.0) (other_place last kind us o.1)) ∙ same_place middle kind us g
+    by_tests false e false g true h =
+        let o = others false true (λ i. e i || g i) h in
+        ap value (only_third _ _ _ _ (other_place first kind us e) (other_place middle kind us g) (other_place last kind us o.1)) ∙ same_place inner kind us o.0
+    by_tests false e false g false h =
+        let o = others false false (λ i. e i || g i) h in
+        ap value (only_fourth _ _ _ _ (other_place first kind us e) (other_place middle kind us g) (other_place inner kind us o.0)) ∙ same_place last kind us o.1
 
 -- ---- the recognized ones
 
@@ -156,9 +167,6 @@ atomic_one = spelled 64 6 []
 abbrev pub aggregator_by : Bool → Aggregator → Attribute
 aggregator_by as4 g = spelled (aggregator_flags g.partial) 7 (aggregator_value as4 g)
 
-abbrev pub Pieces : Option Attribute → Option Attribute → Option Attribute → Option Attribute → Option Attribute
-Pieces a b c d = first_some (first_some (first_some a b) c) d
-
 further_pieces : (as4 : Bool) (kind : ℕ) (a : Attrs) → kept_of kind (further_attributes as4 a)
     ≡ Pieces (kept_of kind (optional med_of a.med)) (kept_of kind (optional local_pref_of a.local_pref)) (kept_of kind (cond a.atomic (atomic_one ∷ []) [])) (kept_of kind (optional (aggregator_by as4) a.aggregator))
 further_pieces as4 kind a =
@@ -168,18 +176,6 @@ further_pieces as4 kind a =
     let g = optional (aggregator_by as4) a.aggregator in
     kept_append kind ((m ++ l) ++ t) g
     ∙ ap (λ o. first_some o (kept_of kind g)) (kept_append kind (m ++ l) t ∙ ap (λ o. first_some o (kept_of kind t)) (kept_append kind m l))
-
-only_first : (a b c d : Option Attribute) → b ≡ None → c ≡ None → d ≡ None → Pieces a b c d ≡ a
-only_first a b c d eb ec ed = ap (λ o. Pieces a o c d) eb ∙ ap (λ o. Pieces a None o d) ec ∙ ap (λ o. Pieces a None None o) ed ∙ none_right _ ∙ none_right _ ∙ none_right _
-
-only_second : (a b c d : Option Attribute) → a ≡ None → c ≡ None → d ≡ None → Pieces a b c d ≡ b
-only_second a b c d ea ec ed = ap (λ o. Pieces o b c d) ea ∙ ap (λ o. Pieces None b o d) ec ∙ ap (λ o. Pieces None b None o) ed ∙ none_right _ ∙ none_right _
-
-only_third : (a b c d : Option Attribute) → a ≡ None → b ≡ None → d ≡ None → Pieces a b c d ≡ c
-only_third a b c d ea eb ed = ap (λ o. Pieces o b c d) ea ∙ ap (λ o. Pieces None o c d) eb ∙ ap (λ o. Pieces None None c o) ed ∙ none_right _
-
-only_fourth : (a b c d : Option Attribute) → a ≡ None → b ≡ None → c ≡ None → Pieces a b c d ≡ d
-only_fourth a b c d ea eb ec = ap (λ o. Pieces o b c d) ea ∙ ap (λ o. Pieces None o c d) eb ∙ ap (λ o. Pieces None None o d) ec
 
 further_4 : (as4 : Bool) (a : Attrs) → kept_of 4 (further_attributes as4 a) ≡ option_map med_of a.med
 further_4 as4 a =
@@ -229,36 +225,72 @@ reflected_10 r = skip_left 10 (optional originator_of r.originator) (clusters_at
 
 -- ---- the parts of all
 
--- those of a recognized type, but for what reflectors added
-recognized_at : (p : Profile) (kind : ℕ) (a : Attrs) → All (GoodType p) a.unrecognized → is_unrecognized p kind ≡ false → eqb 9 kind ≡ false → eqb 10 kind ≡ false
-    → kept_of kind (sent_attributes p.as4 a) ≡ first_some (kept_of kind (mandatory_attributes p.as4 a)) (kept_of kind (further_attributes p.as4 a))
-recognized_at p kind a good known nine ten =
+-- what has the next hop
+no_hop : (v6 : Bool) (kind hop : ℕ) → eqb 3 kind ≡ false → kept_of kind (hop_attributes v6 hop) ≡ None
+no_hop true kind hop other = refl
+no_hop false kind hop other = ap (λ b. cond b (Some (spelled 64 3 (big_bytes 4 (hop / 2 ^ 96)))) None) other
+
+no_reach : (v6 : Bool) (kind hop : ℕ) (ps : List AddressPrefix) → eqb 14 kind ≡ false → kept_of kind (reach_attributes v6 hop ps) ≡ None
+no_reach false kind hop ps other = refl
+no_reach true kind hop ps other = ap (λ b. cond b (Some (spelled 128 14 (reach_value hop ps))) None) other
+
+-- those of a recognized type, but for what reflectors added, and MP_REACH_NLRI
+recognized_at : (p : Profile) (v6 : Bool) (kind : ℕ) (a : Attrs) (ps : List AddressPrefix) → All (GoodType p) a.unrecognized → is_unrecognized p kind ≡ false → eqb 9 kind ≡ false → eqb 10 kind ≡ false → eqb 14 kind ≡ false
+    → kept_of kind (sent_attributes v6 p.as4 a ps) ≡ first_some (kept_of kind (mandatory_attributes v6 p.as4 a)) (kept_of kind (further_attributes p.as4 a))
+recognized_at p v6 kind a ps good known nine ten fourteen =
     let u = unrecognized_attributes first a.unrecognized in
-    let m = mandatory_attributes p.as4 a in
+    let m = mandatory_attributes v6 p.as4 a in
     let f = further_attributes p.as4 a in
     let v = unrecognized_attributes middle a.unrecognized in
     let r = reflection_attributes a.reflection in
+    let o = unrecognized_attributes inner a.unrecognized in
+    let x = reach_attributes v6 a.next_hop ps in
     let w = unrecognized_attributes last a.unrecognized in
     let none : (place : Place) → kept_of kind (unrecognized_attributes place a.unrecognized) ≡ None = λ place. no_recognized p place kind a.unrecognized good known in
-    skip_right kind (u ++ m ++ f ++ v ++ r) w (none last)
+    skip_right kind (u ++ m ++ f ++ v ++ r ++ o ++ x) w (none last)
+    ∙ skip_right kind (u ++ m ++ f ++ v ++ r ++ o) x (no_reach v6 kind a.next_hop ps fourteen)
+    ∙ skip_right kind (u ++ m ++ f ++ v ++ r) o (none inner)
     ∙ skip_right kind (u ++ m ++ f ++ v) r (no_reflected kind a.reflection nine ten)
     ∙ skip_right kind (u ++ m ++ f) v (none middle)
     ∙ kept_append kind (u ++ m) f
     ∙ ap (λ o. first_some o (kept_of kind f)) (skip_left kind u m (none first))
 
 -- and what these added, where it is recognized
-reflected_at : (p : Profile) (kind : ℕ) (a : Attrs) → All (GoodType p) a.unrecognized → is_unrecognized p kind ≡ false → kept_of kind (mandatory_attributes p.as4 a) ≡ None → kept_of kind (further_attributes p.as4 a) ≡ None
-    → kept_of kind (sent_attributes p.as4 a) ≡ kept_of kind (reflection_attributes a.reflection)
-reflected_at p kind a good known no_first no_more =
+reflected_at : (p : Profile) (v6 : Bool) (kind : ℕ) (a : Attrs) (ps : List AddressPrefix) → All (GoodType p) a.unrecognized → is_unrecognized p kind ≡ false → eqb 14 kind ≡ false → kept_of kind (mandatory_attributes v6 p.as4 a) ≡ None → kept_of kind (further_attributes p.as4 a) ≡ None
+    → kept_of kind (sent_attributes v6 p.as4 a ps) ≡ kept_of kind (reflection_attributes a.reflection)
+reflected_at p v6 kind a ps good known fourteen no_first no_more =
     let u = unrecognized_attributes first a.unrecognized in
-    let m = mandatory_attributes p.as4 a in
+    let m = mandatory_attributes v6 p.as4 a in
     let f = further_attributes p.as4 a in
     let v = unrecognized_attributes middle a.unrecognized in
     let r = reflection_attributes a.reflection in
+    let o = unrecognized_attributes inner a.unrecognized in
+    let x = reach_attributes v6 a.next_hop ps in
     let w = unrecognized_attributes last a.unrecognized in
     let none : (place : Place) → kept_of kind (unrecognized_attributes place a.unrecognized) ≡ None = λ place. no_recognized p place kind a.unrecognized good known in
-    skip_right kind (u ++ m ++ f ++ v ++ r) w (none last)
+    skip_right kind (u ++ m ++ f ++ v ++ r ++ o ++ x) w (none last)
+    ∙ skip_right kind (u ++ m ++ f ++ v ++ r ++ o) x (no_reach v6 kind a.next_hop ps fourteen)
+    ∙ skip_right kind (u ++ m ++ f ++ v ++ r) o (none inner)
     ∙ skip_left kind (u ++ m ++ f ++ v) r (skip_both kind (u ++ m ++ f) v (skip_both kind (u ++ m) f (skip_both kind u m (none first) no_first) no_more) (none middle))
+
+-- and MP_REACH_NLRI and MP_UNREACH_NLRI, where they are recognized
+spoken_at : (p : Profile) (v6 : Bool) (kind : ℕ) (a : Attrs) (ps : List AddressPrefix) → All (GoodType p) a.unrecognized → is_unrecognized p kind ≡ false → eqb 9 kind ≡ false → eqb 10 kind ≡ false → kept_of kind (mandatory_attributes v6 p.as4 a) ≡ None → kept_of kind (further_attributes p.as4 a) ≡ None
+    → kept_of kind (sent_attributes v6 p.as4 a ps) ≡ kept_of kind (reach_attributes v6 a.next_hop ps)
+spoken_at p v6 kind a ps good known nine ten no_first no_more =
+    let u = unrecognized_attributes first a.unrecognized in
+    let m = mandatory_attributes v6 p.as4 a in
+    let f = further_attributes p.as4 a in
+    let v = unrecognized_attributes middle a.unrecognized in
+    let r = reflection_attributes a.reflection in
+    let o = unrecognized_attributes inner a.unrecognized in
+    let x = reach_attributes v6 a.next_hop ps in
+    let w = unrecognized_attributes last a.unrecognized in
+    let none : (place : Place) → kept_of kind (unrecognized_attributes place a.unrecognized) ≡ None = λ place. no_recognized p place kind a.unrecognized good known in
+    skip_right kind (u ++ m ++ f ++ v ++ r ++ o ++ x) w (none last)
+    ∙ skip_left kind (u ++ m ++ f ++ v ++ r ++ o) x
+    (skip_both kind (u ++ m ++ f ++ v ++ r) o
+    (skip_both kind (u ++ m ++ f ++ v) r (skip_both kind (u ++ m ++ f) v (skip_both kind (u ++ m) f (skip_both kind u m (none first) no_first) no_more) (none middle)) (no_reflected kind a.reflection nine ten))
+    (none inner))
 
 no_further : (as4 : Bool) (kind : ℕ) (a : Attrs) → eqb 4 kind ≡ false → eqb 5 kind ≡ false → eqb 6 kind ≡ false → eqb 7 kind ≡ false → kept_of kind (further_attributes as4 a) ≡ None
 no_further as4 kind a four five six seven =
@@ -266,45 +298,70 @@ no_further as4 kind a four five six seven =
     ∙ only_first _ _ _ _ (no_optional kind local_pref_of a.local_pref (λ x. five)) (no_if kind atomic_one a.atomic six) (no_optional kind (aggregator_by as4) a.aggregator (λ x. seven))
     ∙ no_optional kind med_of a.med (λ x. four)
 
+-- the types of IPv6 are recognized where it is spoken
+known_spoken : (p : Profile) (kind : ℕ) → eqb kind 0 ≡ false → (eqb kind 14 || eqb kind 15) ≡ true → (is_reflection p kind ≡ false) → p.v6 ≡ true → is_unrecognized p kind ≡ false
+known_spoken p kind some two plain v6 = (λ i. some i || (ltb 7 kind && not (plain i || (v6 i && two i)))) ∙ none (ltb 7 kind)
+  where
+    none : (b : Bool) → (b && false) ≡ false
+    none true = refl
+    none false = refl
+
+known_14 : (p : Profile) → p.v6 ≡ true → is_unrecognized p 14 ≡ false
+known_14 p v6 = known_spoken p 14 refl refl (not_spoken p.reflect) v6
+
+known_15 : (p : Profile) → p.v6 ≡ true → is_unrecognized p 15 ≡ false
+known_15 p v6 = known_spoken p 15 refl refl (not_spoken p.reflect) v6
+
 -- those of an unrecognized type
-unrecognized_at : (p : Profile) (external : Bool) (kind : ℕ) (a : Attrs) → IsReadable p external a → is_unrecognized p kind ≡ true
-    → kept_of kind (sent_attributes p.as4 a) ≡ first_some (first_some (kept_of kind (unrecognized_attributes first a.unrecognized)) (kept_of kind (unrecognized_attributes middle a.unrecognized))) (kept_of kind (unrecognized_attributes last a.unrecognized))
-unrecognized_at p external kind a is unknown =
+unrecognized_at : (p : Profile) (external : Bool) (v6 : Bool) (kind : ℕ) (a : Attrs) (ps : List AddressPrefix) → IsReadable v6 p external a → Speaks p v6 → is_unrecognized p kind ≡ true → kept_of kind (sent_attributes v6 p.as4 a ps) ≡ in_places kind a.unrecognized
+unrecognized_at p external v6 kind a ps is speaks unknown =
     let u = unrecognized_attributes first a.unrecognized in
-    let m = mandatory_attributes p.as4 a in
+    let m = mandatory_attributes v6 p.as4 a in
     let f = further_attributes p.as4 a in
     let v = unrecognized_attributes middle a.unrecognized in
     let r = reflection_attributes a.reflection in
+    let o = unrecognized_attributes inner a.unrecognized in
+    let x = reach_attributes v6 a.next_hop ps in
     let w = unrecognized_attributes last a.unrecognized in
-    kept_append kind (u ++ m ++ f ++ v ++ r) w
-    ∙ ap (λ o. first_some o (kept_of kind w)) (skip_right kind (u ++ m ++ f ++ v) r (no_added p.reflect refl)
+    kept_append kind (u ++ m ++ f ++ v ++ r ++ o ++ x) w
+    ∙ ap (λ y. first_some y (kept_of kind w)) (skip_right kind (u ++ m ++ f ++ v ++ r ++ o) x (none_reached v6 speaks)
+    ∙ kept_append kind (u ++ m ++ f ++ v ++ r) o
+    ∙ ap (λ y. first_some y (kept_of kind o)) (skip_right kind (u ++ m ++ f ++ v) r (no_added p.reflect refl)
     ∙ kept_append kind (u ++ m ++ f) v
-    ∙ ap (λ o. first_some o (kept_of kind v)) (skip_right kind (u ++ m) f (no_further p.as4 kind a (other 4 refl) (other 5 refl) (other 6 refl) (other 7 refl)) ∙ skip_right kind u m no_mandatory))
+    ∙ ap (λ y. first_some y (kept_of kind v)) (skip_right kind (u ++ m) f (no_further p.as4 kind a (other 4 refl) (other 5 refl) (other 6 refl) (other 7 refl)) ∙ skip_right kind u m (no_mandatory v6))))
   where
     other : (k : ℕ) → is_unrecognized p k ≡ false → eqb k kind ≡ false
     other k known = unequal k kind (λ e. not_both (is_unrecognized p k) (ap (is_unrecognized p) e ∙ unknown) known)
 
-    no_mandatory : kept_of kind (mandatory_attributes p.as4 a) ≡ None
-    no_mandatory = rw (other 1 refl, other 2 refl, other 3 refl) refl
+    none_reached : (v6 : Bool) → Speaks p v6 → kept_of kind (reach_attributes v6 a.next_hop ps) ≡ None
+    none_reached false speaks = refl
+    none_reached true speaks = no_reach true kind a.next_hop ps (other 14 (known_14 p (speaks refl)))
+
+    no_mandatory : (v6 : Bool) → kept_of kind (mandatory_attributes v6 p.as4 a) ≡ None
+    no_mandatory false = rw (other 1 refl, other 2 refl, other 3 refl) refl
+    no_mandatory true = rw (other 1 refl, other 2 refl) refl
 
     no_added : (b : Bool) → p.reflect ≡ b → kept_of kind (reflection_attributes a.reflection) ≡ None
-    no_added true e = no_reflected kind a.reflection (other 9 (ap (λ b. not (b && true)) e)) (other 10 (ap (λ b. not (b && true)) e))
-    no_added false e = ap (kept_of kind) (nothing_reflected p external a is e)
+    no_added true e = no_reflected kind a.reflection (other 9 (known_reflected 9 e)) (other 10 (known_reflected 10 e))
+      where
+        known_reflected : (k : ℕ) → p.reflect ≡ true → not ((p.reflect && true) || (p.v6 && false)) ≡ false
+        known_reflected k e = λ i. not ((e i && true) || not_spoken p.v6 i)
+    no_added false e = ap (kept_of kind) (nothing_reflected p external v6 a is e)
 
 no_value : (p : Profile) (kind : ℕ) (us : List Unrecognized) → All (GoodType p) us → is_unrecognized p kind ≡ false → value_of kind us ≡ None
 no_value p kind us good known =
     let none : (place : Place) → kept_of kind (unrecognized_attributes place us) ≡ None = λ place. no_recognized p place kind us good known in
-    sym (one_place kind us) ∙ (λ i. option_map (λ (a : Attribute). a.value) (first_some (first_some (none first i) (none middle i)) (none last i)))
+    sym (one_place kind us) ∙ (λ i. option_map (λ (a : Attribute). a.value) (Pieces (none first i) (none middle i) (none inner i) (none last i)))
 
-pub unrecognized_are : (p : Profile) (external : Bool) (a : Attrs) → IsReadable p external a → AreUnrecognized p (sent_attributes p.as4 a) a.unrecognized
-unrecognized_are p external a is = record { order = is.order; values = λ kind. by_test kind (is_unrecognized p kind) refl }
+pub unrecognized_are : (p : Profile) (external : Bool) (v6 : Bool) (a : Attrs) (ps : List AddressPrefix) → IsReadable v6 p external a → Speaks p v6 → AreUnrecognized p (sent_attributes v6 p.as4 a ps) a.unrecognized
+unrecognized_are p external v6 a ps is speaks = record { order = is.order; values = λ kind. by_test kind (is_unrecognized p kind) refl }
   where
-    by_test : (kind : ℕ) (b : Bool) → is_unrecognized p kind ≡ b → value_of kind a.unrecognized ≡ cond (is_unrecognized p kind) (option_map (λ a. a.value) (kept_of kind (sent_attributes p.as4 a))) None
+    by_test : (kind : ℕ) (b : Bool) → is_unrecognized p kind ≡ b → value_of kind a.unrecognized ≡ cond (is_unrecognized p kind) (option_map (λ a. a.value) (kept_of kind (sent_attributes v6 p.as4 a ps))) None
     by_test kind true unknown =
-        sym (one_place kind a.unrecognized) ∙ ap (option_map (λ (a : Attribute). a.value)) (sym (unrecognized_at p external kind a is unknown))
-        ∙ sym (ap (λ b. cond b (option_map (λ a. a.value) (kept_of kind (sent_attributes p.as4 a))) None) unknown)
+        sym (one_place kind a.unrecognized) ∙ ap (option_map (λ (a : Attribute). a.value)) (sym (unrecognized_at p external v6 kind a ps is speaks unknown))
+        ∙ sym (ap (λ b. cond b (option_map (λ a. a.value) (kept_of kind (sent_attributes v6 p.as4 a ps))) None) unknown)
     by_test kind false known =
-        no_value p kind a.unrecognized is.types known ∙ sym (ap (λ b. cond b (option_map (λ a. a.value) (kept_of kind (sent_attributes p.as4 a))) None) known)
+        no_value p kind a.unrecognized is.types known ∙ sym (ap (λ b. cond b (option_map (λ a. a.value) (kept_of kind (sent_attributes v6 p.as4 a ps))) None) known)
 
 -- ---- all of the route
 
@@ -349,44 +406,62 @@ identifiers_back (c ∷ cs) fit =
     numbers_again 4 (c ∷ cs) fit ∙ ap (λ n. numbers_at 4 n value) count
 
 -- what reflectors added is said, where it is read
-originator_back : (p : Profile) (external : Bool) (a : Attrs) → IsReadable p external a → (b : Bool) → p.reflect ≡ b → a.reflection.originator ≡ cond b (option_map (λ a. big_number 4 a.value) (kept_of 9 (sent_attributes p.as4 a))) None
-originator_back p external a is true e =
-    let at_9 = reflected_at p 9 a is.types (ap (λ b. not (b && true)) e) refl (no_further p.as4 9 a refl refl refl refl) ∙ reflected_9 a.reflection in
+known_reflected : (p : Profile) → p.reflect ≡ true → not ((p.reflect && true) || (p.v6 && false)) ≡ false
+known_reflected p e = λ i. not ((e i && true) || not_spoken p.v6 i)
+
+originator_back : (p : Profile) (external : Bool) (v6 : Bool) (a : Attrs) (ps : List AddressPrefix) → IsReadable v6 p external a → (b : Bool) → p.reflect ≡ b → a.reflection.originator ≡ cond b (option_map (λ a. big_number 4 a.value) (kept_of 9 (sent_attributes v6 p.as4 a ps))) None
+originator_back p external v6 a ps is true e =
+    let at_9 = reflected_at p v6 9 a ps is.types (known_reflected p e) refl (no_hop v6 9 a.next_hop refl) (no_further p.as4 9 a refl refl refl refl) ∙ reflected_9 a.reflection in
     number_back a.reflection.originator originator_of (λ n. refl) (λ n e. (is.originator n e).1) ∙ ap (option_map (λ (a : Attribute). big_number 4 a.value)) (sym at_9)
-originator_back p external a is false e = (nothing_added p external a is e).0
+originator_back p external v6 a ps is false e = (nothing_added p external v6 a is e).0
 
-clusters_back : (p : Profile) (external : Bool) (a : Attrs) → IsReadable p external a → (b : Bool) → p.reflect ≡ b → a.reflection.clusters ≡ cond b (clusters_of (kept_of 10 (sent_attributes p.as4 a))) []
-clusters_back p external a is true e =
-    let at_10 = reflected_at p 10 a is.types (ap (λ b. not (b && true)) e) refl (no_further p.as4 10 a refl refl refl refl) ∙ reflected_10 a.reflection in
+clusters_back : (p : Profile) (external : Bool) (v6 : Bool) (a : Attrs) (ps : List AddressPrefix) → IsReadable v6 p external a → (b : Bool) → p.reflect ≡ b → a.reflection.clusters ≡ cond b (clusters_of (kept_of 10 (sent_attributes v6 p.as4 a ps))) []
+clusters_back p external v6 a ps is true e =
+    let at_10 = reflected_at p v6 10 a ps is.types (known_reflected p e) refl (no_hop v6 10 a.next_hop refl) (no_further p.as4 10 a refl refl refl refl) ∙ reflected_10 a.reflection in
     identifiers_back a.reflection.clusters (λ k d lt. (is.clusters k d lt).1) ∙ ap clusters_of (sym at_10)
-clusters_back p external a is false e = (nothing_added p external a is e).1
+clusters_back p external v6 a ps is false e = (nothing_added p external v6 a is e).1
 
-pub attrs_are : (p : Profile) (external : Bool) (a : Attrs) → IsReadable p external a → AreAttrs p external (sent_attributes p.as4 a) a
-attrs_are p external a is =
-    let sent = sent_attributes p.as4 a in
-    let at_1 : kept_of 1 sent ≡ Some (spelled 64 1 (code_of_origin a.origin ∷ [])) = recognized_at p 1 a is.types refl refl refl in
-    let at_2 : kept_of 2 sent ≡ Some (spelled 64 2 (path_octets (width_of p.as4) a.path)) = recognized_at p 2 a is.types refl refl refl in
-    let at_3 : kept_of 3 sent ≡ Some (spelled 64 3 (big_bytes 4 (a.next_hop / 2 ^ 96))) = recognized_at p 3 a is.types refl refl refl in
-    let at_4 : kept_of 4 sent ≡ option_map med_of a.med = recognized_at p 4 a is.types refl refl refl ∙ further_4 p.as4 a in
-    let at_5 : kept_of 5 sent ≡ option_map local_pref_of a.local_pref = recognized_at p 5 a is.types refl refl refl ∙ further_5 p.as4 a in
-    let at_6 : is_some (kept_of 6 sent) ≡ a.atomic = ap is_some (recognized_at p 6 a is.types refl refl refl) ∙ further_6 p.as4 a in
-    let at_7 : kept_of 7 sent ≡ option_map (aggregator_by p.as4) a.aggregator = recognized_at p 7 a is.types refl refl refl ∙ further_7 p.as4 a in
+pub attrs_are : (p : Profile) (external : Bool) (v6 : Bool) (a : Attrs) (ps : List AddressPrefix) → IsReadable v6 p external a → Speaks p v6 → (hop : Option ℕ) → hop ≡ Some a.next_hop → AreAttrs p external (sent_attributes v6 p.as4 a ps) hop a
+attrs_are p external v6 a ps is speaks hop hop_is =
+    let sent = sent_attributes v6 p.as4 a ps in
+    let at_1 : kept_of 1 sent ≡ Some (spelled 64 1 (code_of_origin a.origin ∷ [])) = recognized_at p v6 1 a ps is.types refl refl refl refl in
+    let at_2 : kept_of 2 sent ≡ Some (spelled 64 2 (path_octets (width_of p.as4) a.path)) = recognized_at p v6 2 a ps is.types refl refl refl refl in
+    let at_4 : kept_of 4 sent ≡ option_map med_of a.med = further 4 refl refl refl refl refl refl ∙ further_4 p.as4 a in
+    let at_5 : kept_of 5 sent ≡ option_map local_pref_of a.local_pref = further 5 refl refl refl refl refl refl ∙ further_5 p.as4 a in
+    let at_6 : is_some (kept_of 6 sent) ≡ a.atomic = ap is_some (further 6 refl refl refl refl refl refl) ∙ further_6 p.as4 a in
+    let at_7 : kept_of 7 sent ≡ option_map (aggregator_by p.as4) a.aggregator = further 7 refl refl refl refl refl refl ∙ further_7 p.as4 a in
     record {
       origin = ap (option_map (λ (a : Attribute). get_or a.value 0 0)) at_1;
       path = some_and (kept_of 2 sent) (spelled 64 2 (path_octets (width_of p.as4) a.path)) (λ x. IsPath (width_of p.as4) x.value a.path) at_2 (spelled_path p.as4 a.path is.path);
-      next_hop =
-          let ipv4 = is.next_hop.ipv4 in
-          ap (option_map (λ (a : Attribute). in_front (big_number 4 a.value))) at_3 ∙ ap (λ n. Some n) (ap in_front (four_back (a.next_hop / 2 ^ 96) (front_below a.next_hop ipv4.0)) ∙ front_again a.next_hop ipv4.1);
+      next_hop = hop_is;
       med = number_back a.med med_of (λ n. refl) is.med ∙ ap (option_map (λ (a : Attribute). big_number 4 a.value)) (sym at_4);
       local_pref = local_pref_back external a.local_pref is.local_pref ∙ ap (λ o. cond external None (option_map (λ (a : Attribute). big_number 4 a.value) o)) (sym at_5);
       atomic = sym at_6;
       aggregator = aggregator_back p.as4 a.aggregator is.aggregator ∙ ap (option_map (aggregator_of p.as4)) (sym at_7);
-      originator = originator_back p external a is p.reflect refl;
-      clusters = clusters_back p external a is p.reflect refl;
-      unrecognized = unrecognized_are p external a is;
+      originator = originator_back p external v6 a ps is p.reflect refl;
+      clusters = clusters_back p external v6 a ps is p.reflect refl;
+      unrecognized = unrecognized_are p external v6 a ps is speaks;
     }
+  where
+    further : (kind : ℕ) → is_unrecognized p kind ≡ false → eqb 9 kind ≡ false → eqb 10 kind ≡ false → eqb 14 kind ≡ false → kept_of kind (mandatory_attributes v6 p.as4 a) ≡ kept_of kind (hop_attributes v6 a.next_hop) → eqb 3 kind ≡ false
+        → kept_of kind (sent_attributes v6 p.as4 a ps) ≡ kept_of kind (further_attributes p.as4 a)
+    further kind known nine ten fourteen none three =
+        recognized_at p v6 kind a ps is.types known nine ten fourteen ∙ ap (λ o. first_some o (kept_of kind (further_attributes p.as4 a))) (none ∙ no_hop v6 kind a.next_hop three)
 
--- ORIGIN, AS_PATH and NEXT_HOP are among them
+-- the next hop of IPv4's routes
+pub first_hop_is : (p : Profile) (external : Bool) (a : Attrs) (ps : List AddressPrefix) → IsReadable false p external a → hop_of (sent_attributes false p.as4 a ps) ≡ Some a.next_hop
+first_hop_is p external a ps is =
+    ap (option_map (λ (a : Attribute). hop_at a.value)) (recognized_at p false 3 a ps is.types refl refl refl refl) ∙ ap (λ n. Some n) (hop_back a.next_hop is.next_hop.of)
+
+-- what is said of IPv6
+pub reach_sent : (p : Profile) (external : Bool) (v6 : Bool) (a : Attrs) (ps : List AddressPrefix) → IsReadable v6 p external a → p.v6 ≡ true → kept_of 14 (sent_attributes v6 p.as4 a ps) ≡ kept_of 14 (reach_attributes v6 a.next_hop ps)
+reach_sent p external v6 a ps is speaks = spoken_at p v6 14 a ps is.types (known_14 p speaks) refl refl (no_hop v6 14 a.next_hop refl) (no_further p.as4 14 a refl refl refl refl)
+
+pub unreach_sent : (p : Profile) (external : Bool) (v6 : Bool) (a : Attrs) (ps : List AddressPrefix) → IsReadable v6 p external a → p.v6 ≡ true → kept_of 15 (sent_attributes v6 p.as4 a ps) ≡ None
+unreach_sent p external v6 a ps is speaks =
+    spoken_at p v6 15 a ps is.types (known_15 p speaks) refl refl (no_hop v6 15 a.next_hop refl) (no_further p.as4 15 a refl refl refl refl) ∙ no_reach v6 15 a.next_hop ps refl
+
+-- ORIGIN, AS_PATH and, for prefixes of IPv4, NEXT_HOP are among them
 has_from_kept : (kind : ℕ) (xs : List Attribute) (a : Attribute) → kept_of kind xs ≡ Some a → has_kind kind xs ≡ true
 has_from_kept kind [] a e = absurd (cc)
 has_from_kept kind (x ∷ xs) a e = by_test (eqb x.kind kind) (has_from_kept kind xs a) e
@@ -395,9 +470,14 @@ has_from_kept kind (x ∷ xs) a e = by_test (eqb x.kind kind) (has_from_kept kin
     by_test true later e = refl
     by_test false later e = later e
 
-pub has_mandatory : (p : Profile) (external : Bool) (a : Attrs) → IsReadable p external a → (has_kind 1 (sent_attributes p.as4 a) ≡ true) × (has_kind 2 (sent_attributes p.as4 a) ≡ true) × (has_kind 3 (sent_attributes p.as4 a) ≡ true)
-has_mandatory p external a is = (
-  has_from_kept 1 (sent_attributes p.as4 a) _ (recognized_at p 1 a is.types refl refl refl),
-  has_from_kept 2 (sent_attributes p.as4 a) _ (recognized_at p 2 a is.types refl refl refl),
-  has_from_kept 3 (sent_attributes p.as4 a) _ (recognized_at p 3 a is.types refl refl refl),
+pub has_mandatory : (p : Profile) (external : Bool) (v6 : Bool) (a : Attrs) (ps : List AddressPrefix) → IsReadable v6 p external a
+    → (has_kind 1 (sent_attributes v6 p.as4 a ps) ≡ true) × (has_kind 2 (sent_attributes v6 p.as4 a ps) ≡ true) × (v6 ≡ false → has_kind 3 (sent_attributes v6 p.as4 a ps) ≡ true)
+has_mandatory p external v6 a ps is = (
+  has_from_kept 1 (sent_attributes v6 p.as4 a ps) _ (recognized_at p v6 1 a ps is.types refl refl refl refl),
+  has_from_kept 2 (sent_attributes v6 p.as4 a ps) _ (recognized_at p v6 2 a ps is.types refl refl refl refl),
+  λ e. has_from_kept 3 (sent_attributes v6 p.as4 a ps) (spelled 64 3 (big_bytes 4 (a.next_hop / 2 ^ 96))) (recognized_at p v6 3 a ps is.types refl refl refl refl ∙ hop_there v6 e),
 )
+  where
+    hop_there : (v6 : Bool) → v6 ≡ false → first_some (kept_of 3 (mandatory_attributes v6 p.as4 a)) (kept_of 3 (further_attributes p.as4 a)) ≡ Some (spelled 64 3 (big_bytes 4 (a.next_hop / 2 ^ 96)))
+    hop_there false e = refl
+    hop_there true e = absurd (cc)

@@ -19,43 +19,51 @@ ghost use Rattle.bgp_wire.specs.Paths.{width_of};
 ghost use Rattle.bgp_wire.specs.Spelling.{FitsAttrs, update_octets};
 ghost use Rattle.bgp_wire.specs.Prefixes.{octets_for};
 ghost use Rattle.bgp_wire.specs.Lengths.{attributes_length, announcement_length};
-ghost use Rattle.addr4.specs.Families.{IsIpv4Prefix};
-ghost use Rattle.bgp_wire.specs.Readable.{IsReadableSegment, IsReadable, IsReadableUpdate, AreOctets, HasOnePrefix, withdrawal, announcement};
+ghost use Rattle.addr4.specs.Families.{bits_of, IsPrefixOf};
+ghost use Rattle.bgp_wire.specs.Said.{Said, nothing_said};
+ghost use Rattle.bgp_wire.specs.Readable.{IsReadableSegment, IsReadable, IsReadableUpdate, AreOctets, HasOnePrefix, Speaks, said_in, withdrawing, withdrawal, announcing, announcement};
 
 /// What a peer said in an UPDATE of one prefix, a peer that is as external reads in its one spelling as it was said: the
 /// spelling has at most 4,096 octets too.
 pub fn what_was_read_is_written_and_read_again()
-    ensures { (p : Profile) (external : Bool) (bytes : List ℕ) (u : Update) → AreOctets bytes → Reads p external bytes (messages.Update u) → HasOnePrefix u → Reads p external (update_octets p.as4 u) (messages.Update u) }
+    ensures { (p : Profile) (external : Bool) (v6 : Bool) (bytes : List ℕ) (s : Said) → AreOctets bytes → Reads p external bytes (messages.Update (said_in v6 s)) → HasOnePrefix s
+        → Reads p external (update_octets v6 p.as4 s) (messages.Update (said_in v6 s)) }
 {}
 
-/// What a peer said in an UPDATE is such that it can be said again.
+/// What a peer said in an UPDATE, of either family, is such that it can be said again.
 pub fn what_was_read_is_readable()
     ensures { (p : Profile) (external : Bool) (bytes : List ℕ) (u : Update) → AreOctets bytes → Reads p external bytes (messages.Update u) → IsReadableUpdate p external u }
 {}
 
-/// Each withdrawal of one prefix is read as it is written.
-pub fn withdrawals_are_read()
-    ensures { (p : Profile) (external : Bool) (n : AddressPrefix) → IsIpv4Prefix n → Reads p external (update_octets p.as4 (withdrawal n)) (messages.Update (withdrawal n)) }
+/// Where IPv6 isn't spoken, an UPDATE says nothing of it.
+pub fn nothing_is_said_of_ipv6_where_it_is_not_spoken()
+    ensures { (p : Profile) (external : Bool) (bytes : List ℕ) (u : Update) → p.v6 ≡ false → Reads p external bytes (messages.Update u) → u.second ≡ nothing_said }
 {}
 
-/// Each announcement of one prefix that isn't too long is read as it is written.
+/// Each withdrawal of one prefix is read as it is written, and says nothing of the other family.
+pub fn withdrawals_are_read()
+    ensures { (p : Profile) (external : Bool) (v6 : Bool) (n : AddressPrefix) → Speaks p v6 → IsPrefixOf v6 n → Reads p external (update_octets v6 p.as4 (withdrawing n)) (messages.Update (withdrawal v6 n)) }
+{}
+
+/// Each announcement of one prefix that isn't too long is read as it is written, and says nothing of the other family.
 pub fn announcements_are_read()
-    ensures { (p : Profile) (external : Bool) (n : AddressPrefix) (a : Attrs) → IsIpv4Prefix n → IsReadable p external a → announcement_length p.as4 n a ≤ 4096 → Reads p external (update_octets p.as4 (announcement n a)) (messages.Update (announcement n a)) }
+    ensures { (p : Profile) (external : Bool) (v6 : Bool) (n : AddressPrefix) (a : Attrs) → Speaks p v6 → IsPrefixOf v6 n → IsReadable v6 p external a → announcement_length v6 p.as4 n a ≤ 4096
+        → Reads p external (update_octets v6 p.as4 (announcing n a)) (messages.Update (announcement v6 n a)) }
 {}
 
 /// An announcement of one prefix has 24 octets, those of the prefix and those of the attributes.
 pub fn announcements_are_so_long()
-    ensures { (as4 : Bool) (n : AddressPrefix) (a : Attrs) → n.length ≤ 32 → announcement_length as4 n a ≡ 24 + attributes_length as4 a + octets_for n.length }
+    ensures { (v6 as4 : Bool) (n : AddressPrefix) (a : Attrs) → n.length ≤ bits_of v6 → announcement_length v6 as4 n a ≡ 24 + attributes_length v6 as4 a + octets_for n.length }
 {}
 
 /// What can be read from an external peer can be read from an internal one.
 pub fn internal_peers_read_as_much()
-    ensures { (p : Profile) (external : Bool) (a : Attrs) → IsReadable p external a → IsReadable p false a }
+    ensures { (v6 : Bool) (p : Profile) (external : Bool) (a : Attrs) → IsReadable v6 p external a → IsReadable v6 p false a }
 {}
 
 /// What a peer can read can be written.
 pub fn what_is_readable_fits()
-    ensures { (p : Profile) (external : Bool) (a : Attrs) → IsReadable p external a → FitsAttrs p.as4 a }
+    ensures { (v6 : Bool) (p : Profile) (external : Bool) (a : Attrs) → IsReadable v6 p external a → FitsAttrs p.as4 a }
 {}
 
 /// A path stays readable where an AS is put in front.

@@ -18,6 +18,8 @@ const PROFILE: Profile = Profile {
     as4: false,
     revised: false,
     reflect: false,
+    v6: false,
+    second: false,
 };
 
 fn speaker() -> Speaker

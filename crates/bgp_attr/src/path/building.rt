@@ -4,25 +4,28 @@ ghost use Rattle.std.specs.Prelude.{◌≡◌, ◌+◌, ◌<◌, ℕ, List, ◌+
 ghost use Rattle.bgp_attr.specs.declared.path.Segment.{Segment};
 ghost use Rattle.bgp_attr.specs.declared.path.SegmentKind.{SegmentKind};
 
-use super::{AsPath, SegmentKind};
+use super::{AsPath, MOST_WORDS, SegmentKind};
 use crate::words::head_of;
 use addr4::Memory;
 use std::alloc::Global;
 use std::marker::Model;
 
 /// A path that is built segment by segment, and each segment number by number. Contracts see the segments so far, and how
-/// many numbers the last one still lacks. After a want of memory it is of no more use.
+/// many numbers the last one still lacks. After a want of memory, which a path of 2^32 words is as well, it is of no more use.
 #[derive(Drop)]
 pub struct PathBuilder {
     words: Vec<u32>,
 }
 
 impl Model for PathBuilder {
+    ghost use Rattle.std.specs.Prelude.{◌<◌, ◌^◌, length};
     ghost use Rattle.bgp_attr.specs.Words.{Unfinished, segments_after, missing_after};
 
     ghost Value = { Unfinished };
 
     ghost view = { λ p. record { segments = segments_after 0 p.words.items; missing = missing_after 0 p.words.items } };
+
+    ghost invariant = { λ p. length p.words.items < 2 ^ 32 };
 }
 
 impl PathBuilder {
@@ -42,6 +45,9 @@ impl PathBuilder {
         ensures segments { OnOk result (self.new.segments ≡ self.old.segments ++ record { kind = kind; numbers = [] } ∷ []) }
         ensures missing { OnOk result (self.new.missing ≡ count) }
     {
+        if self.words.len() >= MOST_WORDS {
+            return Err(Memory);
+        }
         self.words.reserve_exact(usize::from(count) + 1)?;
         self.words.push(head_of(kind, count))?;
         Ok(())
@@ -55,6 +61,9 @@ impl PathBuilder {
             → self.new.segments ≡ front ++ record { kind = kind; numbers = numbers ++ asn ∷ [] } ∷ []) }
         ensures missing { OnOk result (self.new.missing + 1 ≡ self.old.missing) }
     {
+        if self.words.len() >= MOST_WORDS {
+            return Err(Memory);
+        }
         self.words.push(asn)?;
         Ok(())
     }

@@ -5,7 +5,7 @@ ghost use Rattle.bgp_attr.specs.declared.path.SegmentKind.TheVariants.{Sequence}
 ghost use Rattle.bgp_attr.specs.Paths.{in_front, times_in_front};
 ghost use Rattle.bgp_attr.specs.Words.{head_of, segments_after, missing_after};
 
-use super::{AsPath, MOST, SegmentKind};
+use super::{AsPath, MOST, MOST_WORDS, SegmentKind};
 use crate::words::{count_in, head_of, kind_in};
 use addr4::Memory;
 
@@ -39,11 +39,14 @@ fn push_repeated(words: &mut Vec<u32>, count: u8, times: u8, asn: u32) -> Result
 
 impl AsPath {
     /// A path with the AS put in front once and `prepend` times more, as a speaker does before it sends a route to an
-    /// external peer (RFC 4271, section 5.1.2 b). This path stays as it is.
+    /// external peer (RFC 4271, section 5.1.2 b). This path stays as it is. Memory also where 2^32 words wouldn't do.
     pub fn prepended(&self, asn: u32, prepend: u8) -> Result<AsPath, Memory>
         ensures { IfOk result (λ path. path ≡ times_in_front (1 + prepend) asn self.now) }
     {
         let words = self.prepended_words(asn, prepend)?;
+        if words.len() > MOST_WORDS {
+            return Err(Memory);
+        }
         Ok(AsPath::from_words(words))
     }
 

@@ -5,12 +5,12 @@ ghost use Rattle.byteorder.specs.Endian.{big_bytes};
 ghost use Rattle.bgp_attr.specs.Attributes.{Attrs as Route};
 ghost use Rattle.bgp_wire.specs.Paths.{width_of};
 ghost use Rattle.bgp_wire.specs.Lengths.{spelled_length, attributes_length, announcement_length};
-ghost use Rattle.bgp_wire.specs.Spelling.{segment_octets, path_octets, prefix_octets, prefixes_octets, spelled, optional, aggregator_value, aggregator_flags, unrecognized_attribute, mandatory_attributes, further_attributes, clusters_attributes, reflection_attributes, octets_of};
+ghost use Rattle.bgp_wire.specs.Spelling.{segment_octets, path_octets, prefix_octets, listed, prefixes_octets, spelled, optional, aggregator_value, aggregator_flags, unrecognized_attribute, hop_attributes, own_octets, reach_attributes, unreach_octets, mandatory_attributes, further_attributes, clusters_attributes, reflection_attributes, octets_of};
 
 use crate::header::LONGEST;
 use crate::numbers::width;
 use crate::prefixes::octets_for;
-use addr4::{Prefix, RouterId};
+use addr4::{Family, Prefix, RouterId};
 use bgp_attr::{
     Aggregator, LentAttrs, LentPath, LentReflection, LentSegment, Profile, Unrecognized,
 };
@@ -120,16 +120,24 @@ fn unrecognized_length(items: &[Unrecognized]) -> u128
     total
 }
 
-/// The octets of ORIGIN, AS_PATH and NEXT_HOP.
-fn mandatory_length(as4: bool, attrs: &LentAttrs<'_>) -> u128
-    ensures value { result ≡ length (octets_of (mandatory_attributes as4 attrs.now)) }
+/// The octets of NEXT_HOP, or of MP_REACH_NLRI without its prefixes.
+fn hop_length<F: Family>() -> u128
+    ensures value { (hop : ℕ) → result ≡ length (octets_of (hop_attributes F.V6 hop)) + length (octets_of (reach_attributes F.V6 hop [])) }
+    ensures small { result ≤ 24 }
+{
+    if F::V6 { 24 } else { 7 }
+}
+
+/// The octets of ORIGIN, AS_PATH and what has the next hop.
+fn mandatory_length<F: Family>(as4: bool, attrs: &LentAttrs<'_, F>) -> u128
+    ensures value { result ≡ length (octets_of (mandatory_attributes F.V6 as4 attrs.now)) + length (octets_of (reach_attributes F.V6 attrs.now.next_hop [])) }
     ensures small { result < 2 ^ 127 + 2 ^ 10 }
 {
-    4 + spelled_length(path_length(as4, &attrs.path)) + 7
+    4 + spelled_length(path_length(as4, &attrs.path)) + hop_length::<F>()
 }
 
 /// The octets of MULTI_EXIT_DISC, LOCAL_PREF, ATOMIC_AGGREGATE and AGGREGATOR, of those that are there.
-fn further_length(as4: bool, attrs: &LentAttrs<'_>) -> u128
+fn further_length<F: Family>(as4: bool, attrs: &LentAttrs<'_, F>) -> u128
     ensures value { result ≡ length (octets_of (further_attributes as4 attrs.now)) }
     ensures small { result ≤ 28 }
 {
@@ -139,30 +147,57 @@ fn further_length(as4: bool, attrs: &LentAttrs<'_>) -> u128
         + aggregator_length(as4, attrs.aggregator)
 }
 
-fn prefix_length(prefix: Prefix) -> usize
+fn prefix_length<F: Family>(prefix: Prefix<F>) -> usize
     ensures value { result ≡ length (prefix_octets prefix) }
-    ensures small { result ≤ 5 }
+    ensures small { result ≤ 17 }
 {
     1 + octets_for(prefix.length())
 }
 
-/// The octets of one prefix at most.
-pub(crate) fn prefixes_length(prefixes: &[Prefix]) -> usize
-    requires { length prefixes.now ≤ 1 }
-    ensures value { result ≡ length (prefixes_octets prefixes.now) }
-    ensures small { result ≤ 5 }
+/// The octets of a prefix, if it is there.
+pub(crate) fn listed_length<F: Family>(prefix: Option<Prefix<F>>) -> usize
+    ensures value { result ≡ length (prefixes_octets (listed prefix)) }
+    ensures small { result ≤ 17 }
 {
-    match prefixes {
-        [] => 0,
-        [prefix, ..] => prefix_length(*prefix),
+    match prefix {
+        None => 0,
+        Some(prefix) => prefix_length(prefix),
     }
 }
 
-/// How many octets a route's attributes have when they are written.
+/// The octets of one in a field of its own.
+pub(crate) fn own_length<F: Family>(prefix: Option<Prefix<F>>) -> usize
+    ensures value { result ≡ length (own_octets F.V6 (listed prefix)) }
+    ensures small { result ≤ 17 }
+{
+    if F::V6 { 0 } else { listed_length(prefix) }
+}
+
+/// The octets of MP_UNREACH_NLRI, where prefixes of IPv6 are withdrawn.
+pub(crate) fn unreach_length<F: Family>(prefix: Option<Prefix<F>>) -> usize
+    ensures value { result ≡ length (unreach_octets F.V6 (listed prefix)) }
+    ensures small { result ≤ 23 }
+{
+    if !F::V6 || prefix.is_none() {
+        0
+    } else {
+        6 + listed_length(prefix)
+    }
+}
+
+/// The octets of the prefixes in MP_REACH_NLRI.
+pub(crate) fn reach_length<F: Family>(prefix: Option<Prefix<F>>) -> usize
+    ensures value { (hop : ℕ) → result + length (octets_of (reach_attributes F.V6 hop [])) ≡ length (octets_of (reach_attributes F.V6 hop (listed prefix))) }
+    ensures small { result ≤ 17 }
+{
+    if F::V6 { listed_length(prefix) } else { 0 }
+}
+
+/// How many octets a route's attributes have when they are written, but for the prefixes in MP_REACH_NLRI.
 #[tactic(auto, unfolding(crate::specs::Lengths::attributes_length))]
-pub fn attributes_length(profile: Profile, attrs: &LentAttrs<'_>) -> u128
-    ensures value { result ≡ attributes_length profile.as4 attrs.now }
-    ensures small { result + 28 < 2 ^ 128 }
+pub fn attributes_length<F: Family>(profile: Profile, attrs: &LentAttrs<'_, F>) -> u128
+    ensures value { result ≡ attributes_length F.V6 profile.as4 attrs.now }
+    ensures small { result + 64 < 2 ^ 128 }
 {
     unrecognized_length(attrs.unrecognized)
         + mandatory_length(profile.as4, attrs)
@@ -171,17 +206,21 @@ pub fn attributes_length(profile: Profile, attrs: &LentAttrs<'_>) -> u128
 }
 
 /// How many octets the UPDATE has that announces one prefix with these attributes, whether or not it fits into a message.
-pub fn announcement_length(profile: Profile, prefix: Prefix, attrs: &LentAttrs<'_>) -> u128
-    ensures { result ≡ announcement_length profile.as4 prefix attrs.now }
+pub fn announcement_length<F: Family>(
+    profile: Profile,
+    prefix: Prefix<F>,
+    attrs: &LentAttrs<'_, F>,
+) -> u128
+    ensures { result ≡ announcement_length F.V6 profile.as4 prefix attrs.now }
 {
     23 + prefix_length(prefix) as u128 + attributes_length(profile, attrs)
 }
 
 /// Whether an announcement of the prefix with attributes of so many octets ([`attributes_length`]) fits into a message, which
 /// has at most 4,096 octets (RFC 4271, section 4.1).
-pub fn announcement_fits(prefix: Prefix, attributes: u128) -> bool
+pub fn announcement_fits<F: Family>(prefix: Prefix<F>, attributes: u128) -> bool
     ensures room { result ≡ nat_le (23 + length (prefix_octets prefix) + attributes) 4096 }
-    ensures fits { (as4 : Bool) (a : Route) → attributes_length as4 a ≡ attributes → result ≡ nat_le (announcement_length as4 prefix a) 4096 }
+    ensures fits { (as4 : Bool) (a : Route) → attributes_length F.V6 as4 a ≡ attributes → result ≡ nat_le (announcement_length F.V6 as4 prefix a) 4096 }
 {
     attributes <= (LONGEST - 23 - prefix_length(prefix)) as u128
 }

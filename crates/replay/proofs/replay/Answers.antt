@@ -1,4 +1,4 @@
-use Rattle.std.proofs.Common.{Option, ⊎_elim, subst}
+use Rattle.std.proofs.Common.{Option, ⊎_elim, subst, false}
 use Rattle.command_line.specs.declared.words.Command.{Command}
 use Rattle.replay.specs.Answers.{HasLawful}
 use Rattle.replay.proofs.Checked.{done_lawful, refusal_lawful}
@@ -6,7 +6,7 @@ use Rattle.replay.proofs.Endings.{no_words}
 use Rattle.replay.proofs.replay.Goals as goal
 
 pub returns-in_default-clause-memory : goal.returns-in_default-clause-memory
-returns-in_default-clause-memory g c = λ is. no_words c.first_moment_stands.ensures _ _ _
+returns-in_default-clause-memory g c = λ is. no_words (c.first_moment_stands.ensures false) _ _ _
 
 pub returns-clause-lawful : goal.returns-clause-lawful
 returns-clause-lawful g c = λ is.

@@ -1,6 +1,6 @@
 use Rattle.std.proofs.Common.{◌≡◌, ℕ, Option, None, Some, ◌∙◌, sym, ap, true≢false, refl}
 use Rattle.std.specs.Net.Addr.{ipv6_bits, ipv6_segments}
-use Rattle.addr6.specs.Texts.{addr6_of}
+use Rattle.addr4.specs.Texts.{addr6_of}
 use Rattle.addr6.proofs.AddrLemmas.{told, spelled, eight_groups, bits_same}
 use Rattle.addr6.proofs.texts.read_bits.Goals as goal
 

@@ -4,4 +4,4 @@ use Rattle.peer_out.proofs.writes.announce.Goals as goal
 
 pub unwrap-requires : goal.unwrap-requires
 unfolding announcement_length
-unwrap-requires c = is_there c.in_ok-octets.octets _ _ c.in_ok-octets.ensures c.requires.short
+unwrap-requires g c = is_there c.in_ok-octets.octets _ _ c.in_ok-octets.ensures c.requires.short

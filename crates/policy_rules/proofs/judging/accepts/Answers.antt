@@ -1,4 +1,4 @@
-use Rattle.std.proofs.Common.{◌≡◌, ◌∙◌, refl, true, false, arith}
+use Rattle.std.proofs.Common.{◌∙◌, true, false}
 use Rattle.policy_rules.specs.declared.rule.Verdict.TheVariants.{Accept, Reject, Next}
 use Rattle.policy_rules.proofs.AcceptLemmas.{passes, decides, answer, at_end}
 use Rattle.policy_rules.proofs.judging.accepts.Goals as goal

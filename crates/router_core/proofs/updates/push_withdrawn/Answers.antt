@@ -5,7 +5,7 @@ use Rattle.router_core.proofs.updates.push_withdrawn.Goals as goal
 use Rattle.router_core.proofs.updates.push_withdrawn.Goals.{then-not-contains+in_ok-push, else-not-contains}
 
 pub loop-prefix-preserved : goal.loop-prefix-preserved
-loop-prefix-preserved c =
+loop-prefix-preserved g c =
     let p = c.prefix-item.result in
     let has = sym (set_has c.args.announced.now c.in_ok-staying.staying p c.in_ok-staying.ensures) ∙ sym c.contains.ensures in
     let more = one_more c.args.announced.now c.args.withdrawn.now c.loop-prefix.prefix-index p in

@@ -6,7 +6,7 @@ use Rattle.bgp_wire.proofs.SpelledLengths.{length-four}
 use Rattle.bgp_wire.proofs.writing.lengths.further_length.Goals as goal
 
 pub returns-clause-value : goal.returns-clause-value
-returns-clause-value c =
+returns-clause-value g c =
     let a = c.attrs.inside in
     omega (
       arith,

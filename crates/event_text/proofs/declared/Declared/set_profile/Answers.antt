@@ -8,4 +8,4 @@ returns-clause-kept g c =
     λ declared none.
     let before = subst IsDeclaration (sym c.self.view_is) declared in
     let undeclared = subst (λ d. d.speaker ≡ None) (sym c.self.view_is) none in
-    profile_kept (record { profile = c.self.inside.profile; speaker = c.self.inside.speaker; peers = c.self.inside.peers.items }) c.args.profile before undeclared
+    profile_kept (record { v6 = g.F.Family.V6; profile = c.self.inside.profile; speaker = c.self.inside.speaker; peers = c.self.inside.peers.items }) c.args.profile before undeclared

@@ -10,5 +10,5 @@ returns-clause-kept g c =
     λ declared refused ok.
     let before = subst IsDeclaration (sym c.self.view_is) declared in
     let may = subst (λ d. refusal d (events.Local c.args.words) ≡ None) (sym c.self.view_is) refused in
-    let words = subst (λ d. IsSpeaker d.profile.as4 c.args.words) (sym c.self.view_is) ok in
-    speaker_kept (record { profile = c.self.inside.profile; speaker = c.self.inside.speaker; peers = c.self.inside.peers.items }) c.args.words before may words
+    let words = subst (λ d. IsSpeaker d.v6 d.profile.as4 c.args.words) (sym c.self.view_is) ok in
+    speaker_kept (record { v6 = g.F.Family.V6; profile = c.self.inside.profile; speaker = c.self.inside.speaker; peers = c.self.inside.peers.items }) c.args.words before may words

@@ -7,6 +7,7 @@ use Rattle.journal_text.proofs.journal.Journal.push_line.Goals as goal
 
 pub returns : goal.returns
 returns g c =
-    let J : List ℕ → Journaled = λ pending. record { text = chars c.self.inside.text; pending = pending; quiet = c.self.inside.quiet } in
-    ap J (ap (text_of c.self.inside.quiet) c.in_ok-push.ensures.items ∙ text_of_append c.self.inside.quiet c.self.inside.pending.items (c.args.line ∷ []))
+    let v6 = g.F.Family.V6 in
+    let J : List ℕ → Journaled = λ pending. record { text = chars c.self.inside.text; pending = pending; quiet = c.self.inside.quiet; v6 = v6 } in
+    ap J (ap (text_of v6 c.self.inside.quiet) c.in_ok-push.ensures.items ∙ text_of_append v6 c.self.inside.quiet c.self.inside.pending.items (c.args.line ∷ []))
     ∙ ap (λ (j : Journaled). with_lines j (c.args.line ∷ [])) c.self.view_is

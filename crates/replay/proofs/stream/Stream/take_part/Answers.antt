@@ -8,7 +8,7 @@ use Rattle.replay.proofs.stream.Stream.take_part.Goals as goal
 pub returns-then-part-len-clause-goes_on : goal.returns-then-part-len-clause-goes_on
 returns-then-part-len-clause-goes_on c = λ read taken was.
     refused_long c.args.journal.now.quiet read taken _ _ _ c.args.self.now.pending.items _ _ c.args.part.now c.requires.part (omega (arith, c.args.self.now.short, c.if-part-len.true, c.len.ensures)) was
-    (ap made c.in_ok-push_line.ensures ∙ made_refused c.args.journal.now c.args.self.now.number E1)
+    (ap made c.in_ok-push_line.ensures ∙ made_refused c.args.journal.now c.args.self.now.number E1 c.known.ensures)
 
 pub returns-clause-goes_on : goal.returns-clause-goes_on
 returns-clause-goes_on c = λ read taken was.

@@ -16,25 +16,25 @@ step-requires-clause-exits c = moment_exits c.args.self.now c.self.inside.networ
 
 pub returns-clause-acts : goal.returns-clause-acts
 returns-clause-acts c =
-    core_acts c.args.self.now c.self.inside.network c.self.inside.events c.self.inside.failed c.self.view_is c.if-self.false c.requires.stands c.args.event c.in_ok-turns.turns c.step.new.self
+    core_acts c.args.self.now c.self.inside.network c.self.inside.events c.self.inside.failed c.self.view_is c.if-self.false c.requires.stands c.args.event c.in_ok-turns.turns c.step.new.network
     c.args.journal.now c.step.new.journal c.requires.few c.requires.admitted c.requires.formed c.declarations_follow.ensures c.in_ok-turns.ensures.steps
 
 pub returns-clause-stands : goal.returns-clause-stands
 returns-clause-stands c =
-    core_stepped c.args.self.now c.self.inside.network c.self.inside.events c.self.inside.failed c.self.view_is c.if-self.false c.requires.stands c.args.event c.in_ok-turns.turns c.step.new.self
+    core_stepped c.args.self.now c.self.inside.network c.self.inside.events c.self.inside.failed c.self.view_is c.if-self.false c.requires.stands c.args.event c.in_ok-turns.turns c.step.new.network
     c.args.journal.now c.step.new.journal c.requires.few c.requires.admitted c.requires.formed c.declarations_follow.ensures c.in_ok-turns.ensures.steps
 
 pub returns-clause-exact : goal.returns-clause-exact
 returns-clause-exact c =
-    exact_after c.rows_at_rest_are_exact.ensures c.step.new.self (c.self.inside.events + 1)
-    (core_stepped c.args.self.now c.self.inside.network c.self.inside.events c.self.inside.failed c.self.view_is c.if-self.false c.requires.stands c.args.event c.in_ok-turns.turns c.step.new.self
+    exact_after c.rows_at_rest_are_exact.ensures c.step.new.network (c.self.inside.events + 1)
+    (core_stepped c.args.self.now c.self.inside.network c.self.inside.events c.self.inside.failed c.self.view_is c.if-self.false c.requires.stands c.args.event c.in_ok-turns.turns c.step.new.network
     c.args.journal.now c.step.new.journal c.requires.few c.requires.admitted c.requires.formed c.declarations_follow.ensures c.in_ok-turns.ensures.steps)
 
 pub invariant_of-self-2 : goal.invariant_of-self-2
 invariant_of-self-2 c =
     λ _. (
-      readers_of c.step.new.self
-          (core_stepped c.args.self.now c.self.inside.network c.self.inside.events c.self.inside.failed c.self.view_is c.if-self.false c.requires.stands c.args.event c.in_ok-turns.turns c.step.new.self
+      readers_of c.step.new.network
+          (core_stepped c.args.self.now c.self.inside.network c.self.inside.events c.self.inside.failed c.self.view_is c.if-self.false c.requires.stands c.args.event c.in_ok-turns.turns c.step.new.network
           c.args.journal.now c.step.new.journal c.requires.few c.requires.admitted c.requires.formed c.declarations_follow.ensures c.in_ok-turns.ensures.steps).stands,
       c.in_ok-turns.ensures.informed,
     )

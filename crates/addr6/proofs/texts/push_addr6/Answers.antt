@@ -1,6 +1,0 @@
-use Rattle.addr6.proofs.TextLemmas.{printed}
-use Rattle.addr6.proofs.texts.push_addr6.Goals as goal
-
-pub returns : goal.returns
-returns c =
-    printed _ _ _ _ _ _ _ _ _ _ _ c.bits-number.ensures c.in_ok-push_group.ensures c.in_ok-push_next_group.ensures c.in_ok-push_next_group-2.ensures c.in_ok-push_next_group-3.ensures c.in_ok-push_next_group-4.ensures c.in_ok-push_next_group-5.ensures c.in_ok-push_next_group-6.ensures c.in_ok-push_next_group-7.ensures

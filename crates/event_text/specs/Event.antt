@@ -1,0 +1,8 @@
+-- Events, whatever the family of their network.
+use Rattle.std.specs.Prelude.{ℕ, List}
+use Rattle.addr4.specs.Prefixes.{AddressPrefix}
+use Rattle.policy_rules.specs.Rules.{Rule}
+use Rattle.event_text.specs.declared.event.Event as declared
+
+abbrev pub Event : Type 0
+Event = declared.Event ℕ AddressPrefix (List Rule)

@@ -1,5 +1,0 @@
-use Rattle.router_core.proofs.StepLemmas.{idle_stepped}
-use Rattle.router_core.proofs.network.Network.idle_turns.Goals as goal
-
-pub returns-clause-steps : goal.returns-clause-steps
-returns-clause-steps g c = idle_stepped c.args.self.now c.idle.new.self c.in_ok-idle.idle c.args.journal.now c.idle.new.journal c.in_ok-idle.ensures.idles

@@ -1,0 +1,15 @@
+use Rattle.router_moments.proofs.Common.{◌+◌, ◌-◌, key_of, router_links}
+use Rattle.std.proofs.Common.{◌^◌}
+use Rattle.addr4.specs.Places.{beyond}
+use Rattle.rib_exit.proofs.LentLemmas.{IsPlaced}
+use Rattle.router_network.proofs.ShownRows.{AreGiven}
+use Rattle.router_network.proofs.network.Network.show_rows.Given as goal
+
+abbrev pub invariant-rows : goal.invariant-rows
+invariant-rows g l = record {
+  placed : IsPlaced (key_of l.place);
+  given : AreGiven l.link (router_links l.self l.link) (key_of l.place) l.count l.fn.journal l.journal;
+}
+
+abbrev pub decreases-rows : goal.decreases-rows
+decreases-rows g l = 2 ^ 136 + 1 - beyond (key_of l.place)

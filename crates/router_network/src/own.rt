@@ -1,0 +1,108 @@
+//! Redistribution: the interior routes that this speaker announces as its own (RFC 4271, section 9.4).
+
+ghost use Rattle.std.specs.Prelude.{◌≡◌, [], None, IfOk, OnOk, IsSome};
+ghost use Rattle.journal_text.specs.declared.link.Task.TheVariants as tasks;
+ghost use Rattle.journal_text.specs.Journals.{Adds};
+ghost use Rattle.event_text.specs.declared.event.Event.TheVariants as events;
+ghost use Rattle.event_text.specs.Declarations.{refusal};
+ghost use Rattle.exit_side.specs.Exits.{IsExits};
+ghost use Rattle.router_moments.specs.declared.tasks.Phase.TheVariants as phases;
+ghost use Rattle.router_moments.specs.Stands.{Stands};
+ghost use Rattle.router_moments.specs.Turns.{next_task};
+ghost use Rattle.router_moments.specs.Works.{TakesTurn, HasStepped, Redistributes, SendsOwn};
+ghost use Rattle.decision.specs.Contests.{Knows};
+ghost use Rattle.router_network.specs.Informed.{Informed, KnowsBut, KnowsOver, KeepsCounts, branch_rows};
+
+use crate::hops::sent_of;
+use crate::network::Network;
+use addr4::{Addr, Memory, Prefix};
+use bgp_attr::{Route, SharedAttrs};
+use decision::Contests;
+use journal_text::{Journal, Link, Task};
+use link_change::{Change, Turn};
+use peer_out::Writes;
+use rib_route::{Interior, Proto};
+use router_moments::Done;
+
+impl<F: Writes> Network<F> {
+    /// A protocol's routes are redistributed from now on, or aren't; a walk brings that into force. Takes no memory.
+    pub(crate) fn edit_own(&mut self, proto: Proto, on: bool)
+        requires admitted { refusal self.old.declared (events.Redist proto on) ≡ None }
+        requires stands { Stands self.old }
+        ensures { HasStepped self.old (events.Redist proto on) 0 self.new [] }
+    {
+        self.redist.edit(proto, on);
+    }
+
+    /// A change of `int` goes on through redistribution; where `red` changes, the best route is decided anew.
+    pub(crate) fn redistribute(
+        &mut self,
+        change: &Change<Interior<Addr<F>>, Prefix<F>>,
+        contests: &mut Contests<F>,
+        journal: &mut Journal<F>,
+    ) -> Result<(), Memory>
+        requires exits { IsExits self.old.exits }
+        requires since { IsSome self.old.declared.speaker }
+        requires known { KnowsOver change.now contests.old self.old }
+        ensures redistributes { OnOk result (Adds (Redistributes change.now self.old self.new) journal.old journal.new) }
+        ensures known { OnOk result (Knows contests.new (branch_rows self.new)) }
+        ensures counts { OnOk result (KeepsCounts contests.old contests.new) }
+    {
+        let Some(me) = self.declared.speaker() else {
+            unreachable!()
+        };
+        let sent = self.redist.take_in(change.copy()?, &me)?;
+        self.send_own(sent, contests, journal)
+    }
+
+    /// What redistribution sends, if it sends something: its entry is pushed, and the best route is decided anew.
+    fn send_own(
+        &mut self,
+        sent: Option<Change<Route<SharedAttrs<F>>, Prefix<F>>>,
+        contests: &mut Contests<F>,
+        journal: &mut Journal<F>,
+    ) -> Result<(), Memory>
+        requires exits { IsExits self.old.exits }
+        requires known { KnowsBut 0 sent contests.old self.old }
+        ensures sends { OnOk result (Adds (SendsOwn sent self.old self.new) journal.old journal.new) }
+        ensures known { OnOk result (Knows contests.new (branch_rows self.new)) }
+        ensures counts { OnOk result (KeepsCounts contests.old contests.new) }
+    {
+        journal.push_sent(Link::Red, &sent)?;
+        self.decide(0, sent, contests, journal)
+    }
+
+    /// One turn of the walk of redistribution, and the text of its lines.
+    #[inline(never)]
+    pub(crate) fn turn_own(
+        &mut self,
+        contests: &mut Contests<F>,
+        journal: &mut Journal<F>,
+    ) -> Result<Done, Memory>
+        requires stands { Stands self.old }
+        requires informed { Informed contests.old self.old }
+        ensures taken { IfOk result (TakesTurn tasks.Red self.old self.new journal.old journal.new) }
+        ensures informed { OnOk result (Informed contests.new self.new) }
+    {
+        let Some(me) = self.declared.speaker() else {
+            return Ok(Done::Nothing);
+        };
+        let turn = self.redist.unit(&self.tree, &me)?;
+        if let Turn::Nothing = turn {
+            return Ok(Done::Nothing);
+        }
+        self.send_own(sent_of(turn), contests, journal)?;
+        journal.flush()?;
+        Ok(Done::Taken)
+    }
+
+    /// The task of redistribution, where a walk is on.
+    pub(crate) fn next_own(&self) -> Option<Task>
+        ensures { result ≡ next_task phases.Red self.now }
+    {
+        if self.redist.busy() {
+            return Some(Task::Red);
+        }
+        None
+    }
+}

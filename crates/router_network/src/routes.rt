@@ -1,0 +1,337 @@
+//! Interior routes: they come, go and are lost with their protocol; and the register's answers.
+
+ghost use Rattle.std.specs.Prelude.{◌≡◌, OnOk, IfOk, IfSome, IsSome, Some, None};
+ghost use Rattle.event_text.specs.declared.event.Event.TheVariants as events;
+ghost use Rattle.event_text.specs.Declarations.{refusal};
+ghost use Rattle.journal_text.specs.declared.link.Task.TheVariants as tasks;
+ghost use Rattle.register_interest.specs.Covers.{matched};
+ghost use Rattle.register_interest.specs.Matches.{lent_match};
+ghost use Rattle.rib_tree.specs.Trees.{branch_of, int_rows, AreNumbered, IsTree, IsFullBut};
+ghost use Rattle.rib_tree.specs.Steps.{fed_tree, tree_overdue};
+ghost use Rattle.rib_tree.specs.Falls.{way_of_route};
+ghost use Rattle.hop_side.specs.Resolvers.{IsHops};
+ghost use Rattle.rib_exit.specs.Exits.{IsExit};
+ghost use Rattle.journal_text.specs.Journals.{Adds};
+ghost use Rattle.router_moments.specs.Moments.{Gives};
+ghost use Rattle.loss_chain.specs.Steps.{live_after};
+ghost use Rattle.live_state.specs.Lives.{interior_fed};
+ghost use Rattle.router_moments.specs.Lives.{live_state};
+ghost use Rattle.router_moments.specs.Stands.{Stands, HaveReaders};
+ghost use Rattle.router_moments.specs.Turns.{Registers};
+ghost use Rattle.router_moments.specs.Works.{TakesTurn, Informs, MayFollow, Follows, Settles, Turned, SetsRoute, HasProtocolRoom, EndsProtocol, HasStepped, Pushes};
+ghost use Rattle.router_network.specs.Informed.{Informed, InformedOver};
+ghost use Rattle.router_network.specs.Reads.{TakesInto};
+
+use crate::candidates::{enter, leave};
+use crate::network::Network;
+use crate::steps::ignored;
+use addr4::{Addr, Family, Memory, Prefix};
+use decision::Contests;
+use journal_text::{Journal, Line, Task};
+use link_change::{Change, Turn};
+use peer_out::Writes;
+use register_interest::{Interest, Register};
+use rib_route::{Interior, Proto};
+use router_moments::Done;
+use std::alloc::Global;
+
+impl<F: Writes> Network<F> {
+    /// `route add`: the protocol's route at the prefix is this one from now on.
+    pub fn route_add(
+        &mut self,
+        p: Prefix<F>,
+        row: Interior<Addr<F>>,
+        contests: &mut Contests<F>,
+        journal: &mut Journal<F>,
+    ) -> Result<u128, Memory>
+        requires admitted { refusal self.old.declared (events.RouteAdd p row) ≡ None }
+        requires stands { Stands self.old }
+        requires informed { Informed contests.old self.old }
+        ensures steps { IfOk result (λ turns. Gives (HasStepped self.old (events.RouteAdd p row) turns self.new) journal.old journal.new) }
+        ensures informed { OnOk result (Informed contests.new self.new) }
+    {
+        self.route(row.proto, p, Some(row), contests, journal)?;
+        journal.flush()?;
+        Ok(0)
+    }
+
+    /// `route del`: the protocol's route at the prefix goes; `ignored` where it has none.
+    pub fn route_del(
+        &mut self,
+        proto: Proto,
+        p: Prefix<F>,
+        contests: &mut Contests<F>,
+        journal: &mut Journal<F>,
+    ) -> Result<u128, Memory>
+        requires admitted { refusal self.old.declared (events.RouteDel proto p) ≡ None }
+        requires stands { Stands self.old }
+        requires informed { Informed contests.old self.old }
+        ensures steps { IfOk result (λ turns. Gives (HasStepped self.old (events.RouteDel proto p) turns self.new) journal.old journal.new) }
+        ensures informed { OnOk result (Informed contests.new self.new) }
+    {
+        if !self.tree.has(proto, p) {
+            return ignored(journal);
+        }
+        self.route(proto, p, None, contests, journal)?;
+        journal.flush()?;
+        Ok(0)
+    }
+
+    /// `lost`: the protocol's routes go to a deletion stage of their own. Where 16 stand and it has routes, the oldest runs
+    /// to its end first (NSDI 2005, section 5.1.2).
+    pub fn lose_protocol(
+        &mut self,
+        proto: Proto,
+        contests: &mut Contests<F>,
+        journal: &mut Journal<F>,
+    ) -> Result<u128, Memory>
+        requires admitted { refusal self.old.declared (events.Lose proto) ≡ None }
+        requires few { AreNumbered 4294967294 self.old.tree }
+        requires stands { Stands self.old }
+        requires informed { Informed contests.old self.old }
+        ensures steps { IfOk result (λ turns. Gives (HasStepped self.old (events.Lose proto) turns self.new) journal.old journal.new) }
+        ensures informed { OnOk result (Informed contests.new self.new) }
+    {
+        self.make_protocol_room(proto, contests, journal)?;
+        self.lose_protocol_with_room(proto, journal)?;
+        journal.flush()?;
+        Ok(0)
+    }
+
+    /// `cover`: the longest interior route that holds an address, and the largest subnet with that answer (NSDI 2005, section
+    /// 5.2.1).
+    pub fn cover(&mut self, address: Addr<F>, journal: &mut Journal<F>) -> Result<u128, Memory>
+        requires { Stands self.old }
+        ensures { IfOk result (λ turns. Gives (HasStepped self.old (events.Cover address) turns self.new) journal.old journal.new) }
+    {
+        let (found, subnet) = self.registry.peek(address);
+        journal.push_line(Line::Cover(address, prefix_of(&found), subnet))?;
+        journal.flush()?;
+        Ok(0)
+    }
+
+    /// Makes room for one more deletion stage of a protocol.
+    fn make_protocol_room(
+        &mut self,
+        proto: Proto,
+        contests: &mut Contests<F>,
+        journal: &mut Journal<F>,
+    ) -> Result<(), Memory>
+        requires stands { Stands self.old }
+        requires informed { Informed contests.old self.old }
+        ensures makes { OnOk result (Gives (HasProtocolRoom proto self.old self.new) journal.old journal.new) }
+        ensures informed { OnOk result (Informed contests.new self.new) }
+    {
+        match self.tree.overdue(proto) {
+            Some(task) => {
+                self.drain_task(task, contests, journal)?;
+                Ok(())
+            }
+            None => journal.flush(),
+        }
+    }
+
+    fn lose_protocol_with_room(
+        &mut self,
+        proto: Proto,
+        journal: &mut Journal<F>,
+    ) -> Result<(), Memory>
+        requires stands { Stands self.old }
+        requires free { tree_overdue proto self.old.tree ≡ None }
+        requires few { AreNumbered 4294967294 self.old.tree }
+        requires since { IsSome self.old.declared.speaker }
+        ensures ends { OnOk result (Pushes (EndsProtocol proto self.old self.new) journal.old journal.new) }
+        ensures rows { OnOk result (int_rows self.new.tree ≡ int_rows self.old.tree) }
+    {
+        self.tree.lose(proto, journal)?;
+        Ok(())
+    }
+
+    /// A protocol's route at a prefix is this one from now on, or gone.
+    fn route(
+        &mut self,
+        proto: Proto,
+        p: Prefix<F>,
+        new: Option<Interior<Addr<F>>>,
+        contests: &mut Contests<F>,
+        journal: &mut Journal<F>,
+    ) -> Result<(), Memory>
+        requires stands { Stands self.old }
+        requires own { IfSome new (λ row. row.proto ≡ proto) }
+        requires since { IsSome self.old.declared.speaker }
+        requires informed { Informed contests.old self.old }
+        ensures sets { OnOk result (Pushes (λ said. SetsRoute self.old proto p new said self.new) journal.old journal.new) }
+        ensures informed { OnOk result (Informed contests.new self.new) }
+    {
+        // By cases: the prover asks for a route in sight where one is passed on.
+        match new {
+            None => {
+                let sent = self.tree.feed(proto, p, None, journal)?;
+                self.settle(proto, sent, contests, journal)
+            }
+            Some(row) => {
+                let sent = self.tree.feed(proto, p, Some(row), journal)?;
+                self.settle(proto, sent, contests, journal)
+            }
+        }
+    }
+
+    /// What follows a change in a protocol's branch, by what came out on `int`; behind it the stage that it emptied goes.
+    fn settle(
+        &mut self,
+        proto: Proto,
+        sent: Option<Change<Interior<Addr<F>>, Prefix<F>>>,
+        contests: &mut Contests<F>,
+        journal: &mut Journal<F>,
+    ) -> Result<(), Memory>
+        requires tree { IsTree self.old.tree }
+        requires full { IsFullBut proto self.old.tree }
+        requires follow { MayFollow self.old }
+        requires informed { InformedOver sent contests.old self.old }
+        ensures settles { OnOk result (Adds (Settles proto sent self.old self.new) journal.old journal.new) }
+        ensures informed { OnOk result (Informed contests.new self.new) }
+    {
+        self.follow(sent, contests, journal)?;
+        self.tree.weld(proto, journal)?;
+        Ok(())
+    }
+
+    /// What follows a change of `int`, if one came out: the register takes it over, and each client hears of its interests that
+    /// were given up, the resolvers and the RIB's exit; then redistribution and all that it causes follow, and then `fib`.
+    fn follow(
+        &mut self,
+        sent: Option<Change<Interior<Addr<F>>, Prefix<F>>>,
+        contests: &mut Contests<F>,
+        journal: &mut Journal<F>,
+    ) -> Result<(), Memory>
+        requires follow { MayFollow self.old }
+        requires informed { InformedOver sent contests.old self.old }
+        ensures follows { OnOk result (Adds (Follows sent self.old self.new) journal.old journal.new) }
+        ensures informed { OnOk result (Informed contests.new self.new) }
+    {
+        match sent {
+            None => Ok(()),
+            Some(change) => self.pass_on(&change, contests, journal),
+        }
+    }
+
+    /// What follows a change that came out on `int`, in its order.
+    fn pass_on(
+        &mut self,
+        change: &Change<Interior<Addr<F>>, Prefix<F>>,
+        contests: &mut Contests<F>,
+        journal: &mut Journal<F>,
+    ) -> Result<(), Memory>
+        requires follow { MayFollow self.old }
+        requires informed { InformedOver (Some change.now) contests.old self.old }
+        ensures follows { OnOk result (Adds (Follows (Some change.now) self.old self.new) journal.old journal.new) }
+        ensures informed { OnOk result (Informed contests.new self.new) }
+    {
+        let had = change.before.is_some();
+        let has = change.after.is_some();
+        enter(contests, change.prefix, had, has)?;
+        self.inform(change)?;
+        self.redistribute(change, contests, journal)?;
+        leave(contests, change.prefix, had, has)?;
+        self.prepare()?;
+        self.take_interior(change, contests, journal)
+    }
+
+    /// A change of the interior routes comes out on `fib`, beside the row of `ext` at its prefix.
+    fn take_interior(
+        &self,
+        change: &Change<Interior<Addr<F>>, Prefix<F>>,
+        contests: &Contests<F>,
+        journal: &mut Journal<F>,
+    ) -> Result<(), Memory>
+        requires readers { HaveReaders self.now }
+        requires informed { Informed contests.now self.now }
+        ensures { OnOk result (TakesInto change.now self.now journal.old journal.new) }
+    {
+        let lent = self.lent();
+        let best = contests.best(&lent);
+        let read = self.read_routes(&best);
+        // By cases: rattle's borrow checker can't plan a `?` on a value that holds a forwarding row.
+        match self.rib.take_interior(change, &read, journal) {
+            Ok(_) => Ok(()),
+            Err(error) => Err(error),
+        }
+    }
+
+    /// The register takes a change of `int` over, and each client hears of its interests that were given up. Nothing is said.
+    fn inform(&mut self, change: &Change<Interior<Addr<F>>, Prefix<F>>) -> Result<(), Memory>
+        requires hops { IsHops self.old.hops }
+        requires rib { IsExit self.old.rib }
+        ensures { OnOk result (Informs change.now self.old self.new) }
+    {
+        let reached = register(&mut self.registry, self.alloc, change)?;
+        self.hops.reach(reached.as_slice())?;
+        self.rib.reach(reached.as_slice())?;
+        Ok(())
+    }
+
+    /// One turn of the stage of a protocol's loss, and the text of its lines.
+    #[inline(never)]
+    pub(crate) fn turn_route(
+        &mut self,
+        proto: Proto,
+        loss: u32,
+        contests: &mut Contests<F>,
+        journal: &mut Journal<F>,
+    ) -> Result<Done, Memory>
+        requires stands { Stands self.old }
+        requires informed { Informed contests.old self.old }
+        ensures taken { IfOk result (TakesTurn (tasks.Rdel proto loss) self.old self.new journal.old journal.new) }
+        ensures informed { OnOk result (Informed contests.new self.new) }
+    {
+        match self.tree.unit(Task::Rdel(proto, loss), journal)? {
+            Turn::Nothing => Ok(Done::Nothing),
+            Turn::Quiet => self.turned(proto, None, contests, journal),
+            Turn::Sent(change) => self.turned(proto, Some(change), contests, journal),
+        }
+    }
+
+    /// What follows a turn that was taken, and the text of its lines.
+    fn turned(
+        &mut self,
+        proto: Proto,
+        sent: Option<Change<Interior<Addr<F>>, Prefix<F>>>,
+        contests: &mut Contests<F>,
+        journal: &mut Journal<F>,
+    ) -> Result<Done, Memory>
+        requires tree { IsTree self.old.tree }
+        requires full { IsFullBut proto self.old.tree }
+        requires follow { MayFollow self.old }
+        requires informed { InformedOver sent contests.old self.old }
+        ensures turned { IfOk result (Turned proto sent self.old self.new journal.old journal.new) }
+        ensures informed { OnOk result (Informed contests.new self.new) }
+    {
+        self.settle(proto, sent, contests, journal)?;
+        journal.flush()?;
+        Ok(Done::Taken)
+    }
+}
+
+/// The prefix of a match.
+fn prefix_of<F: Family>(found: &Option<(Prefix<F>, &Interior<Addr<F>>)>) -> Option<Prefix<F>>
+    ensures { result ≡ matched (lent_match found.now) }
+{
+    match found {
+        None => None,
+        Some(found) => Some(found.0),
+    }
+}
+
+/// The register takes a change over, and gives up the interests that it reaches.
+fn register<F: Family>(
+    registry: &mut Register<Interior<Addr<F>>, F>,
+    alloc: Global,
+    change: &Change<Interior<Addr<F>>, Prefix<F>>,
+) -> Result<Vec<Interest<Prefix<F>>>, Memory>
+    ensures { IfOk result (λ reached. Registers change.now reached.items registry.old registry.new) }
+{
+    match change.after {
+        None => registry.changed(alloc, change.prefix, None),
+        Some(row) => registry.changed(alloc, change.prefix, Some(row)),
+    }
+}
