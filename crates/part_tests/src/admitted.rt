@@ -8,7 +8,7 @@ use std::alloc::Global;
 use std::test::Fail;
 
 /// Does an event, unless it is refused.
-fn step(event: &Event, declared: &mut Declared) -> Result<Option<Code>, Memory> {
+pub(crate) fn step(event: &Event, declared: &mut Declared) -> Result<Option<Code>, Memory> {
     if let Some(code) = admit(event, declared) {
         return Ok(Some(code));
     }
@@ -152,7 +152,7 @@ E2 peer 3 65000 192.0.2.3 192.0.2.3 client client\n\
 - peer 3 65000 192.0.2.3 192.0.2.3 client";
 
 /// The code of a word; none of any other.
-fn code_named(word: &str) -> Option<Code> {
+pub(crate) fn code_named(word: &str) -> Option<Code> {
     match word {
         "E2" => Some(Code::E2),
         "E3" => Some(Code::E3),
@@ -161,6 +161,7 @@ fn code_named(word: &str) -> Option<Code> {
         "E6" => Some(Code::E6),
         "E7" => Some(Code::E7),
         "E8" => Some(Code::E8),
+        "E9" => Some(Code::E9),
         _ => None,
     }
 }

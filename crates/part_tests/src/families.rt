@@ -3,6 +3,7 @@
 use crate::prefixes::{address6, prefix6};
 use addr4::{Addr, Memory, Place, Prefix};
 use addr6::V6;
+use nibble_trie::Trie;
 use register_interest::Register;
 use rib_route::External;
 use safe_table::Table;
@@ -131,5 +132,58 @@ fn finds_in_new(alloc: Global) -> Result<bool, Memory> {
 #[test]
 fn the_longest_row_of_ipv6_is_found(rt: HostRuntime) -> Result<(), Fail> {
     assert!(rt; finds_in_new(rt.alloc())?);
+    Ok(())
+}
+
+/// Puts a value at a prefix of a trie.
+fn put(trie: &mut Trie<u32, V6>, at: Prefix<V6>, value: u32) -> Result<Option<u32>, Memory> {
+    match trie.insert(at, value) {
+        Ok(before) => Ok(before),
+        Err(_) => Err(Memory),
+    }
+}
+
+/// The row of a trie behind a prefix, found by a descent and from the prefix's own leaf.
+fn next(trie: &Trie<u32, V6>, at: Prefix<V6>) -> [Option<(Prefix<V6>, u32)>; 2] {
+    let near = match trie.find(at) {
+        Some((_, key)) => key,
+        None => 0,
+    };
+    let found = match trie.next_row(Place::At(at)) {
+        Some((prefix, value)) => Some((prefix, *value)),
+        None => None,
+    };
+    match trie.next_near(near, Place::At(at)) {
+        Some((prefix, value, _)) => [found, Some((prefix, *value))],
+        None => [found, None],
+    }
+}
+
+/// Whether a trie finds rows at nested prefixes, changes one and takes one out.
+fn keeps(trie: &mut Trie<u32, V6>) -> Result<bool, Memory> {
+    let subnet = prefix6(FRONT, 32);
+    let own = host(FRONT, 1);
+    put(trie, own, 2)?;
+    put(trie, subnet, 1)?;
+    let replaced = put(trie, own, 3)? == Some(2);
+    if let Some(value) = trie.get_mut(subnet) {
+        *value = 4;
+    }
+    let there = trie.get(subnet).copied() == Some(4) && trie.get(prefix6(FRONT, 33)).is_none();
+    let behind = next(trie, subnet) == [Some((own, 3)), Some((own, 3))];
+    let taken = trie.remove(own) == Some(3);
+    Ok(replaced && there && behind && taken && next(trie, subnet) == [None, None])
+}
+
+fn keeps_in_new(alloc: Global) -> Result<bool, Memory> {
+    let mut trie = Trie::new(alloc);
+    let kept = keeps(&mut trie);
+    drop(trie);
+    kept
+}
+
+#[test]
+fn a_trie_of_ipv6_keeps_rows(rt: HostRuntime) -> Result<(), Fail> {
+    assert!(rt; keeps_in_new(rt.alloc())?);
     Ok(())
 }

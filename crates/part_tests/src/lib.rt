@@ -25,11 +25,23 @@ mod events;
 #[cfg(test)]
 mod families;
 #[cfg(test)]
+mod file_events;
+#[cfg(test)]
+mod file_lines;
+#[cfg(test)]
 mod prefixes;
 #[cfg(test)]
 mod queues;
 #[cfg(test)]
 mod rules;
+#[cfg(test)]
+mod second_chain;
+#[cfg(test)]
+mod second_exits;
+#[cfg(test)]
+mod second_family;
+#[cfg(test)]
+mod second_octets;
 #[cfg(test)]
 mod streams;
 #[cfg(test)]
