@@ -223,7 +223,7 @@ def present():
 
 
 @contextlib.contextmanager
-def namespaces(wanted):
+def placed(wanted):
     """The daemons' namespaces while they are needed; this process is in that of the speakers from then on."""
     if not wanted:
         yield
@@ -244,7 +244,7 @@ def collect(asked, folder):
         if not os.path.exists(path):
             print('not built: %s' % path, file=sys.stderr)
     beside = [known for known in present() if known[0] in asked.daemons]
-    with namespaces(beside):
+    with placed(beside):
         for name, size, who, seen in work_of_event_files(asked, files, beside):
             rows.setdefault(name, {}).setdefault(size, {})[who] = seen
     for names, program, work in PARTS:
