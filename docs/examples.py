@@ -18,7 +18,7 @@ PAGE = 'docs/EXAMPLES.md'
 WIDTH = 100
 TOPICS = [
     ('To begin with', 'Small, one thing each.',
-     'first two_peers never_sent filter interior loss settled to_the_forwarding_table four_octets captured_by_bird'),
+     'first two_peers never_sent filter interior loss settled to_the_forwarding_table four_octets ipv6 captured_by_bird'),
     ('Sessions that come and go', 'docs/LANGUAGE.md, "Sessions and losses".',
      'return equal_routes flap_storm later_loss_first half_a_walk fall_in_a_walk lost_links sixteen_losses '
      'seventeenth_loss two_readers comes_in_the_middle'),
@@ -68,6 +68,36 @@ TOPICS = [
      'attributes_twice aggregators_discarded missing_attributes local_pref_from_outside a_later_fault_ends_the_session '
      'four_octets_revised faults_in_messages_revised faults_in_messages_of_four_revised cut_after_each_octet_revised '
      'cut_with_its_length_revised'),
+    ('IPv6: two networks', 'docs/LANGUAGE.md, "IPv6".',
+     'both_families local6_behind_routes lost_in_both lost_in_one ended_in_both seventeenth_loss_in_one '
+     'seventeenth_loss_in_both idle_of_both settled_by_family asked_by_family covers_of_ipv6 filter6_in_a_walk '
+     'filter6_judges_routes filter6_out_of_a_down_peer redist6 own_route_over_a_peers merged_in_ipv6 lost6 '
+     'seventeenth_loss6 next_hops_of_ipv6 own_next_hops_of_ipv6 each_step_in_ipv6 refreshed_by_family reflected_in_both '
+     'both_with_four_octets local6_like_a_peer local6_lowest local6_highest sixty_four_peers_in_both'),
+    ('IPv6 in messages', 'RFC 4760; docs/BGP.md, "IPv6".',
+     'families_in_one_update both_fields_of_ipv6 next_hop_beside_type_14 next_hops_of_16_and_32 prefixes_of_128_bits '
+     'multicast_of_ipv6 nothing_is_said_of_ipv6 types_14_and_15_of_others faults_of_ipv6 faults_of_ipv6_revised '
+     'types_14_and_15_cut types_14_and_15_cut_revised ipv6_attributes_cut ipv6_attributes_cut_revised '
+     'ipv6_cut_with_its_length withdrawn_from_both sent_in_ipv6 one_octet_too_long_of_ipv6 ipv6_unspoken '
+     'ipv6_unspoken_revised refresh_of_ipv6_unspoken'),
+    ('Words of IPv6', 'docs/LANGUAGE.md, "IPv6" and "Refusals".',
+     'texts_of_ipv6 ipv6_nine_groups ipv6_seven_groups ipv6_five_digits ipv6_no_hex_digit ipv6_sign_in_a_group '
+     'ipv6_dotted_tail ipv6_two_double_colons ipv6_three_colons ipv6_double_colon_beside_eight '
+     'ipv6_double_colon_behind_eight ipv6_colon_at_the_front ipv6_colon_at_the_end ipv6_colon_behind_double_colon '
+     'ipv6_zone_of_an_address ipv6_address_in_brackets ipv6_prefix_for_an_address ipv6_129_bits ipv6_no_length '
+     'ipv6_zero_in_front_of_a_length ipv6_two_lengths cover_of_a_word ask_ipv6_on_ipv4s_link ask_ipv4_on_ipv6s_link '
+     'gateway_of_ipv4 gateway_of_ipv6 filter_with_ipv6 filter6_with_ipv4 filter6_ge_129 filter6_le_129 '
+     'filter6_of_neither_side peer_of_ipv6 local_of_ipv6 link_marked_twice link_of_ipv4_marked mark_alone '
+     'task_marked_twice event_marked lost6_of_a_prefix redist6_without_a_switch local6_twice local6_before_local '
+     'local6_behind_a_peer local6_twice_behind_a_peer local6_unspecified local6_loopback local6_multicast '
+     'local6_first_of_multicast local6_of_ipv4 local6_with_an_as local6_without_a_word local6_of_a_prefix '
+     'wrong_local6_before_local wrong_local6_behind_a_peer local_behind_local6 revised_behind_local6 unspoken_route_add '
+     'unspoken_route_via unspoken_route_del unspoken_filter6 unspoken_filter6_out unspoken_lost6 unspoken_redist6 '
+     'unspoken_cover unspoken_settled unspoken_ask unspoken_show unspoken_work unspoken_before_local filter6_before_local '
+     'unspoken_and_no_rule unspoken_and_no_link unspoken_and_no_task unspoken_and_no_text unspoken_ask_of_two_families '
+     'unspoken_route_of_two_families unspoken_and_undeclared unspoken_filter6_of_nobody unspoken_task_of_nobody '
+     'unspoken_65_rules undeclared_link6 undeclared_task6 undeclared_adv6 undeclared_filter6 rules6_65 '
+     'rules6_65_of_no_peer'),
     ('Captures', 'MRT files, RFC 6396; docs/CAPTURES.md.',
      'captured_by_frr captured_by_openbgpd eight_peers_of_bird eight_peers_of_frr eight_peers_of_openbgpd dumped_by_bird '
      'dumped_by_frr dumped_by_openbgpd captured_session captured_with_as4 captured_with_microseconds captured_beside '
@@ -91,7 +121,12 @@ TOPICS = [
     ('Journals that `check` judges', 'docs/OUTPUT.md.',
      'skipped_lines joined_stages both_line_ends added_twice answer_without_a_row wrong_answer begun_twice unequal_weld '
      'dropped_line no_journal no_journal_first empty_line two_spaces host_bits no_value return_at_the_end '
-     'longest_journal_line journal_line_too_long'),
+     'longest_journal_line journal_line_too_long '
+     'journal_of_both broken_in_ipv6 wrong_answer_of_ipv6 link_of_ipv6_not_begun link_of_ipv6_begun_twice '
+     'unequal_weld_of_ipv6 link_of_ipv6_ended_twice inherited_across inherited_across_back welded_across '
+     'ipv4_on_a_link_of_ipv6 ipv6_on_a_link_of_ipv4 ipv6_not_as_printed ipv6_in_capitals ipv6_with_zeros_in_front '
+     'ipv6_with_host_bits ipv6_of_129_bits journal_link_marked_twice journal_link_of_a_number_too_large '
+     'skipped_lines_of_ipv6'),
     ('Command lines', 'docs/LANGUAGE.md.', 'generated words'),
 ]
 TOLD = {
@@ -148,6 +183,26 @@ TOLD = {
     'unequal_weld': 'A stage is taken out that still has a row: rule 3.',
     'unprintable_byte': 'A tab is no byte of an event file.',
     'unprintable_byte_in_a_comment': 'Nor in a comment are bytes beyond those that can be printed.',
+    'journal_of_both': 'Entries of two networks, whose links have the same names but for the mark, between each other.',
+    'broken_in_ipv6': "What IPv4's network says is lawful, and IPv6's adds a row where one stands: rule 1.",
+    'wrong_answer_of_ipv6': "A lookup of IPv6 answers what its link of the same name in IPv4's network has: rule 2.",
+    'link_of_ipv6_not_begun': "A link of IPv6's network is live only where it began itself: rule 1.",
+    'link_of_ipv6_begun_twice': "A link of IPv6's network begins that is live: rule 3.",
+    'unequal_weld_of_ipv6': "A stage of IPv6's network is taken out that still has a row: rule 3.",
+    'link_of_ipv6_ended_twice': 'A link ends in one network, and once more: rule 3.',
+    'inherited_across': "A link of IPv6's network begins with the rows of one of IPv4's: no line of a journal is of both.",
+    'inherited_across_back': "A link of IPv4's network begins with the rows of one of IPv6's, live or not: no line of a journal is of both.",
+    'welded_across': "A stage of IPv6's network is welded into a link of IPv4's: no line of a journal is of both.",
+    'ipv4_on_a_link_of_ipv6': "A prefix of IPv4 on a link of IPv6's network.",
+    'ipv6_on_a_link_of_ipv4': "A prefix of IPv6 on a link of IPv4's network.",
+    'ipv6_not_as_printed': 'A prefix of IPv6 stands as it is printed, with all its groups.',
+    'ipv6_in_capitals': 'A prefix of IPv6 stands as it is printed, in small letters.',
+    'ipv6_with_zeros_in_front': 'A prefix of IPv6 stands as it is printed, without zeros in front.',
+    'ipv6_with_host_bits': 'A prefix of IPv6 stands as it is printed, with no bits beyond its length.',
+    'ipv6_of_129_bits': 'A prefix of IPv6 has 128 bits at most, in a journal, too.',
+    'journal_link_marked_twice': 'A link of a journal has one mark in front.',
+    'journal_link_of_a_number_too_large': "Numbers in names of links are below 2^32 in IPv6's network, too.",
+    'skipped_lines_of_ipv6': "Lines of IPv6's network that are none of the journal's own are skipped, too.",
     'words': 'Words that are commands, and words that are none.',
     'wrong_answer': 'A lookup finds no row where one stands: rule 2.',
 }

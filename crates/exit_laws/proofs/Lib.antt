@@ -6,3 +6,4 @@ pub mod KeptLemmas
 pub mod PrintLemmas
 pub mod ServedLemmas
 pub mod ResendLemmas
+pub mod SpokenExits

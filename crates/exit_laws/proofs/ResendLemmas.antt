@@ -8,7 +8,6 @@ use Rattle.addr4.specs.Prefixes.{AddressPrefix}
 use Rattle.addr4.proofs.PrefixOrder.{prefixes_total, by_prefix, exact_prefixes}
 use Rattle.addr4.specs.Hosts.{is_host_prefix}
 use Rattle.bgp_attr.specs.Attributes.{Attrs}
-use Rattle.bgp_attr.specs.declared.speaker.Neighbour.{Neighbour}
 use Rattle.bgp_attr.specs.declared.speaker.Profile.{Profile}
 use Rattle.bgp_wire.specs.Lengths.{announcement_length}
 use Rattle.bgp_wire.specs.Readable.{IsReadableSegment}
@@ -16,6 +15,7 @@ use Rattle.link_change.specs.Rows.{Rows}
 use Rattle.link_change.specs.Changes.{Change}
 use Rattle.pass_core.specs.Passed.{function_at}
 use Rattle.fanout_queue.specs.Readers.{read_rows}
+use Rattle.journal_laws.specs.Printed.{Printing}
 use Rattle.journal_text.specs.Names.{IsNamed}
 use Rattle.journal_text.specs.Lines.{Line}
 use Rattle.journal_text.specs.declared.link.Link.TheVariants.{Adv}
@@ -74,17 +74,17 @@ resend_is_heard profile peers j best e e' said declared sound stand resends =
 
 -- ---- what is printed
 pub refresh_is_printed : RefreshIsPrinted
-refresh_is_printed profile peers j e are = by_chain (chain_at j e) refl
+refresh_is_printed profile printing j e are = by_chain (chain_at j e) refl
   where
-    by_chain : (o : Option OutChained) → chain_at j e ≡ o → ArePrintableExits profile peers (refreshed_by j o e)
+    by_chain : (o : Option OutChained) → chain_at j e ≡ o → ArePrintableExits profile printing (refreshed_by j o e)
     by_chain None at = are
     by_chain (Some c) at =
         let own = are.each j c at in
-        record { first = are.first; unread = are.unread; each = each_put profile peers j (refreshed c) e.queue e (record { named = own.named; sent = own.sent }) are.each }
+        record { family = are.family; unread = are.unread; each = each_put profile printing j (refreshed c) e.queue e (record { named = own.named; sent = own.sent }) are.each }
 
 -- what is sent of a route that may be heard can be spelled, where it can be printed
-spelled_of : (peers : ℕ → Option Neighbour) (profile : Profile) (external : Bool) (p : AddressPrefix) (a : Attrs) → IsSentOf profile external p a → IsPrintableSent peers p a → CanBeSpelled a
-spelled_of peers profile external p a of printed =
+spelled_of : (printing : Printing) (profile : Profile) (external : Bool) (p : AddressPrefix) (a : Attrs) → IsSentOf profile external p a → IsPrintableSent printing p a → CanBeSpelled a
+spelled_of printing profile external p a of printed =
     let exit : Exit = record { profile = profile; me = of.me; external = external } in
     let form : IsFormOfOne exit of.row a = of_fitting exit p of.row a of.row (nat_le (announcement_length profile.second profile.as4 p (sent_form profile of.me external of.row)) 4096) refl of.sent in
     let r = form.route in
@@ -92,26 +92,26 @@ spelled_of peers profile external p a of printed =
     record { path = subst (λ (x : Attrs). AllByRecursion HasFewNumbers x.path) (sym form.is) few; unrecognized = printed.printed.well_told.ranges.unrecognized }
 
 pub resend_is_printed : ResendIsPrinted
-resend_is_printed profile peers j best e e' said sound stand are resends =
+resend_is_printed profile printing j best e e' said sound stand are resends =
     let c = resends.chain in
     let r = resends.resends in
     let change = announcing r.prefix r.attrs in
     let own = are.each j c resends.there in
     let names : IsNamed (Adv c.peer.number c.session) = subst (λ (n : ℕ). IsNamed (Adv n c.session)) (sym (sound.each j c resends.there).number) own.named in
-    let printed : IsPrintableSent peers r.prefix r.attrs = own.sent r.prefix r.attrs r.row in
-    let can : CanBeSpelled r.attrs = spelled_of peers c.exit.profile c.exit.external r.prefix r.attrs ((stand j c resends.there).chain.sayable r.prefix r.attrs r.row) printed in
-    let is : IsSayable peers change = record {
+    let printed : IsPrintableSent printing r.prefix r.attrs = own.sent r.prefix r.attrs r.row in
+    let can : CanBeSpelled r.attrs = spelled_of printing c.exit.profile c.exit.external r.prefix r.attrs ((stand j c resends.there).chain.sayable r.prefix r.attrs r.row) printed in
+    let is : IsSayable printing change = record {
       prefix = printed.prefix;
       before = λ a none. absurd (let clash : ◌≡◌ {A = Option Attrs} None (Some a) = none in cc);
-      after = λ a there. subst (IsPrintableSent peers r.prefix) (let same : r.attrs ≡ a = (let both : Some r.attrs ≡ Some a = there in cc) in same) printed;
-      octets = λ v6 as4. octets_small v6 as4 r.prefix (Some r.attrs) printed.prefix (λ a there. subst CanBeSpelled (let same : r.attrs ≡ a = (let both : Some r.attrs ≡ Some a = there in cc) in same) can);
+      after = λ a there. subst (IsPrintableSent printing r.prefix) (let same : r.attrs ≡ a = (let both : Some r.attrs ≡ Some a = there in cc) in same) printed;
+      octets = λ v6 as4. octets_small v6 as4 r.prefix (Some r.attrs) printed.prefix.masked.0 (λ a there. subst CanBeSpelled (let same : r.attrs ≡ a = (let both : Some r.attrs ≡ Some a = there in cc) in same) can);
     } in
-    let lines : ArePrinted peers (message_lines c (Some change)) = message_printed peers c (Some change) names.0.1 (λ x there. subst (IsTold c.exit) (same_change change x there) r.told) (λ x there. subst (IsSayable peers) (same_change change x there) is) in
+    let lines : ArePrinted printing (message_lines c (Some change)) = message_printed printing c (Some change) names.0.1 (λ x there. subst (IsTold c.exit) (same_change change x there) r.told) (λ x there. subst (IsSayable printing) (same_change change x there) is) in
     record {
-      lines = subst (ArePrinted peers) (sym r.line) lines;
-      exits = subst (ArePrintableExits profile peers) (sym resends.after) (record {
-        first = are.first;
+      lines = subst (ArePrinted printing) (sym r.line) lines;
+      exits = subst (ArePrintableExits profile printing) (sym resends.after) (record {
+        family = are.family;
         unread = are.unread;
-        each = each_put profile peers j resends.taken e.queue e (subst (IsPrintableExit peers j) (sym r.after) (record { named = own.named; sent = own.sent })) are.each;
+        each = each_put profile printing j resends.taken e.queue e (subst (IsPrintableExit printing j) (sym r.after) (record { named = own.named; sent = own.sent })) are.each;
       });
     }

@@ -127,7 +127,7 @@ told_routes v6 routes p None hosts = refl
 told_routes v6 routes p (Some a) hosts = ap (λ (b : Bool). routes_after routes (map (λ (q : AddressPrefix). (q, Some a)) (cond b (p ∷ []) []))) (hosts a refl)
 
 -- what is said of a family, an UPDATE that says it says of it
-said_back : (v6 : Bool) (s : Said) → said_of v6 (said_in v6 s) ≡ s
+pub said_back : (v6 : Bool) (s : Said) → said_of v6 (said_in v6 s) ≡ s
 said_back false s = refl
 said_back true s = refl
 

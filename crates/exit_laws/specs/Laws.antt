@@ -21,8 +21,8 @@ use Rattle.journal_text.specs.declared.link.Link.{Link}
 use Rattle.journal_text.specs.declared.link.Link.TheVariants.{Adv}
 use Rattle.journal_text.specs.Lines.{Line}
 use Rattle.journal_text.specs.Lines.{Value}
-use Rattle.journal_laws.specs.Printed.{IsPrinted}
-use Rattle.journal_laws.specs.Peers.{neighbours, KeepsPeers}
+use Rattle.journal_laws.specs.Printed.{Printing, IsPrinted}
+use Rattle.journal_laws.specs.Peers.{neighbours, printing, KeepsPeers}
 use Rattle.event_text.specs.Declarations.{Declaration}
 use Rattle.link_region.specs.declared.regions.Region.{Region}
 use Rattle.link_region.specs.declared.regions.Region.TheVariants.{Outward}
@@ -120,74 +120,75 @@ ResendIsHeard =
     → ResendsExit j e e' said → Hears profile peers (views_of e) said (views_of e')
 
 -- ---- what is printed
-abbrev pub ArePrinted : (ℕ → Option Neighbour) → List Line → Type 0
-ArePrinted peers said = AllByRecursion (IsPrinted peers) said
+abbrev pub ArePrinted : Printing → List Line → Type 0
+ArePrinted printing said = AllByRecursion (IsPrinted printing) said
 
 -- the lines can be printed, and so can what stands in the exits then
-pub record PrintsOn (profile : Profile) (peers : ℕ → Option Neighbour) (e' : Exited) (said : List Line) : Type 0 where
-  pub lines : ArePrinted peers said
-  pub exits : ArePrintableExits profile peers e'
+pub record PrintsOn (profile : Profile) (printing : Printing) (e' : Exited) (said : List Line) : Type 0 where
+  pub lines : ArePrinted printing said
+  pub exits : ArePrintableExits profile printing e'
 
 -- Where a session begins, whose links can be named; where it ends; and with each turn, where the rows of `best` can be printed:
 abbrev pub BeginningIsPrinted : Type 0
 BeginningIsPrinted =
-    (profile : Profile) (peers : ℕ → Option Neighbour) (me : Speaker) (peer : Neighbour) (session : ℕ) (rules : List Rule) (e e' : Exited) (entries : List (Entry Value))
-    → IsNamed (Adv peer.number session) → ArePrintableExits profile peers e → BeginsExit me peer session rules e e' entries
-    → PrintsOn profile peers e' (entry_lines entries)
+    (profile : Profile) (printing : Printing) (me : Speaker) (peer : Neighbour) (session : ℕ) (rules : List Rule) (e e' : Exited) (entries : List (Entry Value))
+    → IsNamed (Adv peer.number session) → ArePrintableExits profile printing e → BeginsExit me peer session rules e e' entries
+    → PrintsOn profile printing e' (entry_lines entries)
 
 abbrev pub EndIsPrinted : Type 0
 EndIsPrinted =
-    (profile : Profile) (peers : ℕ → Option Neighbour) (j : ℕ) (e e' : Exited) (entries : List (Entry Value)) → ArePrintableExits profile peers e
-    → EndsExit j e e' entries → PrintsOn profile peers e' (entry_lines entries)
+    (profile : Profile) (printing : Printing) (j : ℕ) (e e' : Exited) (entries : List (Entry Value)) → ArePrintableExits profile printing e
+    → EndsExit j e e' entries → PrintsOn profile printing e' (entry_lines entries)
 
 abbrev pub TurnIsPrinted : Type 0
 TurnIsPrinted =
-    (profile : Profile) (peers : ℕ → Option Neighbour) (j : ℕ) (candidates : Candidates) (best : Rows Route) (sent : Option (Change Attrs)) (e e' : Exited) (said : List Line)
-    → e.profile ≡ profile → AreBestRows profile peers best → ArePrintableExits profile peers e
-    → TurnsExit j candidates best sent e e' said → PrintsOn profile peers e' said
+    (profile : Profile) (printing : Printing) (j : ℕ) (candidates : Candidates) (best : Rows Route) (sent : Option (Change Attrs)) (e e' : Exited) (said : List Line)
+    → e.profile ≡ profile → AreBestRows profile printing best → ArePrintableExits profile printing e
+    → TurnsExit j candidates best sent e e' said → PrintsOn profile printing e' said
 
 -- so it is with new rules,
 abbrev pub EditIsPrinted : Type 0
 EditIsPrinted =
-    (profile : Profile) (peers : ℕ → Option Neighbour) (j : ℕ) (rules : List Rule) (e e' : Exited) → ArePrintableExits profile peers e → EditsExit j rules e e'
-    → ArePrintableExits profile peers e'
+    (profile : Profile) (printing : Printing) (j : ℕ) (rules : List Rule) (e e' : Exited) → ArePrintableExits profile printing e → EditsExit j rules e e'
+    → ArePrintableExits profile printing e'
 
 -- with a refresh, and a turn of its walk,
 abbrev pub RefreshIsPrinted : Type 0
 RefreshIsPrinted =
-    (profile : Profile) (peers : ℕ → Option Neighbour) (j : ℕ) (e : Exited) → ArePrintableExits profile peers e → ArePrintableExits profile peers (refreshed_exits j e)
+    (profile : Profile) (printing : Printing) (j : ℕ) (e : Exited) → ArePrintableExits profile printing e → ArePrintableExits profile printing (refreshed_exits j e)
 
 abbrev pub ResendIsPrinted : Type 0
 ResendIsPrinted =
-    (profile : Profile) (peers : ℕ → Option Neighbour) (j : ℕ) (best : Rows Route) (e e' : Exited) (said : List Line) → IsExits e → AllStand best e
-    → ArePrintableExits profile peers e → ResendsExit j e e' said → PrintsOn profile peers e' said
+    (profile : Profile) (printing : Printing) (j : ℕ) (best : Rows Route) (e e' : Exited) (said : List Line) → IsExits e → AllStand best e
+    → ArePrintableExits profile printing e → ResendsExit j e e' said → PrintsOn profile printing e' said
 
 -- with a change of such rows that joins the queue,
 abbrev pub PutIsPrinted : Type 0
 PutIsPrinted =
-    (profile : Profile) (peers : ℕ → Option Neighbour) (change : Change Route) (e e' : Exited) → IsBestChange profile peers change → ArePrintableExits profile peers e
-    → PutsExit change e e' → ArePrintableExits profile peers e'
+    (profile : Profile) (printing : Printing) (change : Change Route) (e e' : Exited) → IsBestChange profile printing change → ArePrintableExits profile printing e
+    → PutsExit change e e' → ArePrintableExits profile printing e'
 
 -- with a reader that is no peer's, who joins, or takes a change, whose entry can be printed,
 abbrev pub JoinIsPrinted : Type 0
 JoinIsPrinted =
-    (profile : Profile) (peers : ℕ → Option Neighbour) (reader : ℕ) (e : Exited) → ArePrintableExits profile peers e
-    → ArePrintableExits profile peers (with_queue (tables.insert e.queue reader []) e)
+    (profile : Profile) (printing : Printing) (reader : ℕ) (e : Exited) → ArePrintableExits profile printing e
+    → ArePrintableExits profile printing (with_queue (tables.insert e.queue reader []) e)
 
 abbrev pub TakeIsPrinted : Type 0
 TakeIsPrinted =
-    (profile : Profile) (peers : ℕ → Option Neighbour) (link : Link) (reader : ℕ) (change : Change Route) (e : Exited) (queue : Queued Route) → IsNamed link
-    → ArePrintableExits profile peers e
-    → Takes e.queue queue reader (Some change) → PrintsOn profile peers (with_queue queue e) (entry_lines (valued_change route_value link change))
+    (profile : Profile) (printing : Printing) (link : Link) (reader : ℕ) (change : Change Route) (e : Exited) (queue : Queued Route) → IsNamed link
+    → ArePrintableExits profile printing e
+    → Takes e.queue queue reader (Some change) → PrintsOn profile printing (with_queue queue e) (entry_lines (valued_change route_value link change))
 
 -- and where more peers were declared since.
 abbrev pub PrintingStays : Type 0
 PrintingStays =
-    (profile : Profile) (before now : Declaration) (e : Exited) → KeepsPeers before now → ArePrintableExits profile (neighbours before) e
-    → ArePrintableExits profile (neighbours now) e
+    (profile : Profile) (before now : Declaration) (e : Exited) → KeepsPeers before now → ArePrintableExits profile (printing before) e
+    → ArePrintableExits profile (printing now) e
 
--- Where no peer is up, and no reader has a change to take, all that stands in the exits can be printed, whatever the profile of IPv4 is.
+-- Where no peer is up, and no reader has a change to take, all that stands in the exits can be printed, whatever the
+-- profile of the network is.
 abbrev pub EmptyIsPrinted : Type 0
 EmptyIsPrinted =
-    (profile : Profile) (peers : ℕ → Option Neighbour) (e : Exited) → profile.second ≡ false → ((j : ℕ) → chain_at j e ≡ None) → ((reader : ℕ) → unread_by e.queue reader ≡ [])
-    → ArePrintableExits profile peers e
+    (profile : Profile) (printing : Printing) (e : Exited) → profile.second ≡ printing.v6 → ((j : ℕ) → chain_at j e ≡ None) → ((reader : ℕ) → unread_by e.queue reader ≡ [])
+    → ArePrintableExits profile printing e

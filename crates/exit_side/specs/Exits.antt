@@ -37,6 +37,10 @@ exited_code p q c =
 abbrev pub no_exits : Profile → Exited
 no_exits profile = record { profile = profile; queue = tables.empty; chains = tables.empty }
 
+-- messages are written by this profile from here on
+abbrev pub written_by : Profile → Exited → Exited
+written_by profile e = record e { profile = profile }
+
 -- the chain of a peer
 abbrev pub chain_at : ℕ → Exited → Option OutChained
 chain_at j e = tables.get e.chains j

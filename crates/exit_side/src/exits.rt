@@ -6,7 +6,7 @@ ghost use Rattle.std.specs.Option.{option_copied};
 ghost use Rattle.bgp_attr.specs.Speakers.{IsProfileOf};
 ghost use Rattle.peer_out.specs.Changes.{IsSender};
 ghost use Rattle.journal_text.specs.Journals.{Adds};
-ghost use Rattle.exit_side.specs.Exits.{no_exits, chain_at, IsExits};
+ghost use Rattle.exit_side.specs.Exits.{no_exits, written_by, chain_at, IsExits};
 ghost use Rattle.exit_side.specs.Steps.{BeginsExit, EndsExit, EditsExit};
 
 use addr4::{Addr, Family, Memory, V4};
@@ -67,6 +67,14 @@ impl<F: Writes> Exits<F> {
             queue: Queue::new(alloc),
             chains: BTreeMap::new(alloc),
         }
+    }
+
+    /// Messages of sessions that begin from here on are written by this profile. Takes no memory.
+    pub fn set_profile(&mut self, profile: Profile)
+        requires { IsProfileOf F.V6 profile }
+        ensures { self.new ≡ written_by profile self.old }
+    {
+        self.profile = profile;
     }
 
     /// The chain of a peer; None where the peer isn't up.

@@ -13,9 +13,9 @@ use Rattle.bgp_attr.specs.declared.unrecognized.Unrecognized.{Unrecognized}
 use Rattle.journal_text.specs.Texts.{origin_number, path_text, lettered, aggregator_text, addresses_text, originator_text, clusters_text, reflection_text, unrecognized_text, required_text, optional_text, attrs_text}
 use Rattle.journal_check.specs.Laws.{IsNumberIfAny, HasNumber, HasRanges}
 use Rattle.journal_check.proofs.InkLemmas.{both_true}
-use Rattle.journal_laws.specs.Printed.{IsAddressIfAny, HasAddress, HasAddresses, IsIdIfAny}
+use Rattle.journal_laws.specs.Printed.{HasAddress, HasAddresses, IsIdIfAny}
 use Rattle.journal_laws.proofs.Spans.{begins, clash, rest_same}
-use Rattle.journal_laws.proofs.NumberTexts.{AreSmall, is_dotted, is_listed, number_told, addr_told, addresses_told, id_told}
+use Rattle.journal_laws.proofs.NumberTexts.{AreSmall, is_dotted, is_addr_byte, is_listed, number_told, addr_told, addresses_told, id_told}
 use Rattle.journal_laws.proofs.PathTexts.{path_told, all_told}
 
 -- ---- what may follow: nothing, or a comma and one of some letters
@@ -240,11 +240,11 @@ behind_med a = lettered 108 a.local_pref ++ behind_local a
 abbrev pub behind_next_hop : Attrs → List ℕ
 behind_next_hop a = lettered 109 a.med ++ behind_med a
 
-abbrev pub behind_path : Attrs → List ℕ
-behind_path a = 44 ∷ 110 ∷ (addr_text false a.next_hop ++ behind_next_hop a)
+abbrev pub behind_path : Bool → Attrs → List ℕ
+behind_path v6 a = 44 ∷ 110 ∷ (addr_text v6 a.next_hop ++ behind_next_hop a)
 
-abbrev pub behind_origin : Attrs → List ℕ
-behind_origin a = 44 ∷ 112 ∷ (path_text a.path ++ behind_path a)
+abbrev pub behind_origin : Bool → Attrs → List ℕ
+behind_origin v6 a = 44 ∷ 112 ∷ (path_text a.path ++ behind_path v6 a)
 
 optional_parted : (a : Attrs) → optional_text a ++ behind_aggregator a ≡ behind_next_hop a
 unfolding optional_text
@@ -256,24 +256,24 @@ optional_parted a =
     ∙ (append_assoc (m ++ l) c (behind_atomic a)
     ∙ append_assoc m l (behind_local a))
 
-required_parted : (a : Attrs) (s : List ℕ) → required_text false a ++ s ≡ 111 ∷ (decimal (origin_number a.origin) ++ 44 ∷ 112 ∷ (path_text a.path ++ 44 ∷ 110 ∷ (addr_text false a.next_hop ++ s)))
+required_parted : (v6 : Bool) (a : Attrs) (s : List ℕ) → required_text v6 a ++ s ≡ 111 ∷ (decimal (origin_number a.origin) ++ 44 ∷ 112 ∷ (path_text a.path ++ 44 ∷ 110 ∷ (addr_text v6 a.next_hop ++ s)))
 unfolding required_text
-required_parted a s =
+required_parted v6 a s =
     let o = codes "o" ++ decimal (origin_number a.origin) in
     let p = path_text a.path in
-    let h = addr_text false a.next_hop in
+    let h = addr_text v6 a.next_hop in
     append_assoc (o ++ codes ",p" ++ p ++ codes ",n") h s
     ∙ (append_assoc (o ++ codes ",p" ++ p) (codes ",n") (h ++ s)
     ∙ (append_assoc (o ++ codes ",p") p (codes ",n" ++ (h ++ s))
     ∙ append_assoc o (codes ",p") (p ++ (codes ",n" ++ (h ++ s)))))
 
-pub attrs_parted : (a : Attrs) → attrs_text false a ≡ 111 ∷ (decimal (origin_number a.origin) ++ behind_origin a)
+pub attrs_parted : (v6 : Bool) (a : Attrs) → attrs_text v6 a ≡ 111 ∷ (decimal (origin_number a.origin) ++ behind_origin v6 a)
 unfolding attrs_text
-attrs_parted a =
-    append_assoc (required_text false a ++ optional_text a) (reflection_text a.reflection) (behind_clusters a)
-    ∙ (ap (λ s. required_text false a ++ optional_text a ++ s) (append_assoc (originator_text a.reflection.originator) (clusters_text a.reflection.clusters) (behind_clusters a))
-    ∙ (append_assoc (required_text false a) (optional_text a) (behind_aggregator a)
-    ∙ (ap (λ s. required_text false a ++ s) (optional_parted a) ∙ required_parted a (behind_next_hop a))))
+attrs_parted v6 a =
+    append_assoc (required_text v6 a ++ optional_text a) (reflection_text a.reflection) (behind_clusters a)
+    ∙ (ap (λ s. required_text v6 a ++ optional_text a ++ s) (append_assoc (originator_text a.reflection.originator) (clusters_text a.reflection.clusters) (behind_clusters a))
+    ∙ (append_assoc (required_text v6 a) (optional_text a) (behind_aggregator a)
+    ∙ (ap (λ s. required_text v6 a ++ s) (optional_parted a) ∙ required_parted v6 a (behind_next_hop a))))
 
 open_clusters : (a : Attrs) → opens last_letters (behind_clusters a) ≡ true
 unfolding unrecognized_text
@@ -313,6 +313,11 @@ open_next_hop a =
     ap (λ t. opens med_letters (t ++ behind_med a)) (as_letter 109 a.med)
     ∙ tag_opens 109 local_letters med_letters decimal a.med (behind_med a) refl (λ d e. or_right (nat_eq d 109) (local_letters d) e) (open_med a)
 
+-- a comma is no byte of an address
+no_address : (v6 : Bool) (s : List ℕ) → opens med_letters s ≡ true → begins (is_addr_byte v6) s ≡ false
+no_address true s f = not_begun (is_addr_byte true) med_letters s refl f
+no_address false s f = not_begun (is_addr_byte false) med_letters s refl f
+
 -- ---- all of them
 
 abbrev origin_by : ℕ → Origin
@@ -328,14 +333,14 @@ origin_small Igp = omega arith
 origin_small Egp = omega arith
 origin_small Incomplete = omega arith
 
-pub attrs_told : (a b : Attrs) → HasRanges a → HasRanges b → HasAddresses a → HasAddresses b → attrs_text false a ≡ attrs_text false b → a ≡ b
-attrs_told a b ha hb aa ab e =
-    let whole = rest_same 111 111 (decimal (origin_number a.origin) ++ behind_origin a) (decimal (origin_number b.origin) ++ behind_origin b) (sym (attrs_parted a) ∙ (e ∙ attrs_parted b)) in
-    let origin = number_told (origin_number a.origin) (origin_number b.origin) (behind_origin a) (behind_origin b) (origin_small a.origin) (origin_small b.origin) refl refl whole in
-    let from_path = rest_same 112 112 (path_text a.path ++ behind_path a) (path_text b.path ++ behind_path b) (rest_same 44 44 (112 ∷ (path_text a.path ++ behind_path a)) (112 ∷ (path_text b.path ++ behind_path b)) origin.1) in
-    let path = path_told a.path b.path (behind_path a) (behind_path b) ha.path hb.path refl refl from_path in
-    let from_hop = rest_same 110 110 (addr_text false a.next_hop ++ behind_next_hop a) (addr_text false b.next_hop ++ behind_next_hop b) (rest_same 44 44 (110 ∷ (addr_text false a.next_hop ++ behind_next_hop a)) (110 ∷ (addr_text false b.next_hop ++ behind_next_hop b)) path.1) in
-    let next_hop = addr_told a.next_hop b.next_hop (behind_next_hop a) (behind_next_hop b) aa.next_hop ab.next_hop (not_begun is_dotted med_letters (behind_next_hop a) refl (open_next_hop a)) (not_begun is_dotted med_letters (behind_next_hop b) refl (open_next_hop b)) from_hop in
+pub attrs_told : (v6 : Bool) (a b : Attrs) → HasRanges a → HasRanges b → HasAddresses v6 a → HasAddresses v6 b → attrs_text v6 a ≡ attrs_text v6 b → a ≡ b
+attrs_told v6 a b ha hb aa ab e =
+    let whole = rest_same 111 111 (decimal (origin_number a.origin) ++ behind_origin v6 a) (decimal (origin_number b.origin) ++ behind_origin v6 b) (sym (attrs_parted v6 a) ∙ (e ∙ attrs_parted v6 b)) in
+    let origin = number_told (origin_number a.origin) (origin_number b.origin) (behind_origin v6 a) (behind_origin v6 b) (origin_small a.origin) (origin_small b.origin) refl refl whole in
+    let from_path = rest_same 112 112 (path_text a.path ++ behind_path v6 a) (path_text b.path ++ behind_path v6 b) (rest_same 44 44 (112 ∷ (path_text a.path ++ behind_path v6 a)) (112 ∷ (path_text b.path ++ behind_path v6 b)) origin.1) in
+    let path = path_told a.path b.path (behind_path v6 a) (behind_path v6 b) ha.path hb.path refl refl from_path in
+    let from_hop = rest_same 110 110 (addr_text v6 a.next_hop ++ behind_next_hop a) (addr_text v6 b.next_hop ++ behind_next_hop b) (rest_same 44 44 (110 ∷ (addr_text v6 a.next_hop ++ behind_next_hop a)) (110 ∷ (addr_text v6 b.next_hop ++ behind_next_hop b)) path.1) in
+    let next_hop = addr_told v6 a.next_hop b.next_hop (behind_next_hop a) (behind_next_hop b) aa.next_hop ab.next_hop (no_address v6 (behind_next_hop a) (open_next_hop a)) (no_address v6 (behind_next_hop b) (open_next_hop b)) from_hop in
     let med = lettered_told 109 local_letters a.med b.med (behind_med a) (behind_med b) refl (open_med a) (open_med b) ha.med hb.med next_hop.1 in
     let local_pref = lettered_told 108 atomic_letters a.local_pref b.local_pref (behind_local a) (behind_local b) refl (open_local a) (open_local b) ha.local_pref hb.local_pref med.1 in
     let atomic = atomic_told a.atomic b.atomic (behind_atomic a) (behind_atomic b) (open_atomic a) (open_atomic b) local_pref.1 in

@@ -70,11 +70,11 @@ pub record Leaves (d now : Declaration) : Type 0 where
   pub declared : IsDeclaration now
   pub peers : KeepsPeers d now
 
-leaves : (d now : Declaration) → IsDeclaration now → now.profile ≡ d.profile → ((k : ℕ) (w : Neighbour) → neighbours d k ≡ Some w → neighbours now k ≡ Some w) → Leaves d now
-leaves d now declared profile words = record { declared = declared; peers = record { words = words; profile = λ k w there. profile; nobody = nobody now declared } }
+leaves : (d now : Declaration) → IsDeclaration now → now.v6 ≡ d.v6 → now.profile ≡ d.profile → ((k : ℕ) (w : Neighbour) → neighbours d k ≡ Some w → neighbours now k ≡ Some w) → Leaves d now
+leaves d now declared family profile words = record { declared = declared; peers = record { family = family; words = words; profile = λ k w there. profile; nobody = nobody now declared } }
 
 pub leaves_all : (d : Declaration) → IsDeclaration d → Leaves d d
-leaves_all d declared = leaves d d declared refl (λ k w there. there)
+leaves_all d declared = leaves d d declared refl refl (λ k w there. there)
 
 -- before `local` nobody is declared
 none_before : (d : Declaration) (k : ℕ) (w : Neighbour) (P : Type 0) → IsDeclaration d → d.speaker ≡ None → neighbours d k ≡ Some w → P
@@ -86,7 +86,7 @@ none_before d k w P declared none there =
 profile_leaves : (d : Declaration) (profile : Profile) → IsDeclaration d → d.speaker ≡ None → Leaves d (with_profile d profile)
 profile_leaves d profile declared none =
     let now = profile_kept d profile declared none in
-    record { declared = now; peers = record { words = λ k w there. there; profile = λ k w there. none_before d k w (profile ≡ d.profile) declared none there; nobody = nobody (with_profile d profile) now } }
+    record { declared = now; peers = record { family = refl; words = λ k w there. there; profile = λ k w there. none_before d k w (profile ≡ d.profile) declared none there; nobody = nobody (with_profile d profile) now } }
 
 pub as4_leaves : (d : Declaration) → IsDeclaration d → refusal d As4 ≡ None → Leaves d (with_profile d (with_four_octets d.profile))
 as4_leaves d declared admitted = profile_leaves d (with_four_octets d.profile) declared (as4_is_first d admitted)
@@ -98,13 +98,13 @@ pub reflect_leaves : (d : Declaration) → IsDeclaration d → refusal d Reflect
 reflect_leaves d declared admitted = profile_leaves d (with_reflection d.profile) declared (reflect_is_first d admitted)
 
 pub speaker_leaves : (d : Declaration) (words : Speaker) → IsDeclaration d → refusal d (Local words) ≡ None → IsSpeaker d.v6 d.profile.as4 words → Leaves d (with_speaker d words)
-speaker_leaves d words declared admitted formed = leaves d (with_speaker d words) (speaker_kept d words declared admitted formed) refl (λ k w there. there)
+speaker_leaves d words declared admitted formed = leaves d (with_speaker d words) (speaker_kept d words declared admitted formed) refl refl (λ k w there. there)
 
 pub peer_leaves : (d : Declaration) (k : ℕ) (words : Speaker) (client : Bool) → IsDeclaration d → refusal d (Peer k words client) ≡ None → IsWellFormed d.v6 d.profile (Peer k words client) → Leaves d (with_peer d k words client)
-peer_leaves d k words client declared admitted formed = leaves d (with_peer d k words client) (peer_kept d k words client declared admitted formed) refl (λ j w there. words_pushed j d.peers _ w there)
+peer_leaves d k words client declared admitted formed = leaves d (with_peer d k words client) (peer_kept d k words client declared admitted formed) refl refl (λ j w there. words_pushed j d.peers _ w there)
 
 pub session_leaves : (d : Declaration) (k : ℕ) → IsDeclaration d → refusal d (Up k) ≡ None → Leaves d (with_session d k)
-session_leaves d k declared admitted = leaves d (with_session d k) (session_kept d k declared admitted) refl (λ j w there. words_mapped (begun_at k) (begun_words k) j d.peers ∙ there)
+session_leaves d k declared admitted = leaves d (with_session d k) (session_kept d k declared admitted) refl refl (λ j w there. words_mapped (begun_at k) (begun_words k) j d.peers ∙ there)
 
 pub end_leaves : (d : Declaration) (k : ℕ) → IsDeclaration d → Leaves d (without_session d k)
-end_leaves d k declared = leaves d (without_session d k) (end_kept d k declared) refl (λ j w there. words_mapped (ended_at k) (ended_words k) j d.peers ∙ there)
+end_leaves d k declared = leaves d (without_session d k) (end_kept d k declared) refl refl (λ j w there. words_mapped (ended_at k) (ended_words k) j d.peers ∙ there)

@@ -34,11 +34,11 @@ ranges_acted : (actions : List Action) (r : Route) → Every IsAction actions �
 ranges_acted [] r small h = h
 ranges_acted (a ∷ actions) r small h = ranges_acted actions (done a r) small.1 (ranges_done a r small.0 h)
 
-ranges_judged : (as4 : Bool) (rules : List Rule) (p : AddressPrefix) (r result : Route) → Every (IsRule false as4) rules → HasRouteRanges r → judged_by rules p r ≡ Some result → HasRouteRanges result
-ranges_judged as4 [] p r result are h e = subst HasRouteRanges (some_same r result e) h
-ranges_judged as4 (rule ∷ rules) p r result are h e =
+ranges_judged : (v6 as4 : Bool) (rules : List Rule) (p : AddressPrefix) (r result : Route) → Every (IsRule v6 as4) rules → HasRouteRanges r → judged_by rules p r ≡ Some result → HasRouteRanges result
+ranges_judged v6 as4 [] p r result are h e = subst HasRouteRanges (some_same r result e) h
+ranges_judged v6 as4 (rule ∷ rules) p r result are h e =
     let after = ranges_acted rule.actions r (all_every IsAction rule.actions are.0.actions) h in
-    by_test (holds rule.condition p r) e after (ranges_judged as4 rules p r result are.1 h) (ranges_judged as4 rules p (acted rule.actions r) result are.1 after)
+    by_test (holds rule.condition p r) e after (ranges_judged v6 as4 rules p r result are.1 h) (ranges_judged v6 as4 rules p (acted rule.actions r) result are.1 after)
   where
     by_answer : (v : Verdict) → by_verdict v (acted rule.actions r) (judged_by rules p (acted rule.actions r)) ≡ Some result → HasRouteRanges (acted rule.actions r)
         → (judged_by rules p (acted rule.actions r) ≡ Some result → HasRouteRanges result) → HasRouteRanges result
@@ -63,21 +63,21 @@ first_ranges peer a small h = record { attrs = h; pref = first_pref_small peer.i
 
 -- ---- the route below
 
-filtered_ranges : (me : Speaker) (peer : Neighbour) (as4 : Bool) (rules : List Rule) (p : AddressPrefix) (a : Attrs) (r : Route) → peer.number < 2 ^ 8 → Every (IsRule false as4) rules → HasRanges a → filtered me peer rules p (Some a) ≡ Some r → HasRouteRanges r
-filtered_ranges me peer as4 rules p a r small are h e = by_own (is_own me a) e
+filtered_ranges : (v6 : Bool) (me : Speaker) (peer : Neighbour) (as4 : Bool) (rules : List Rule) (p : AddressPrefix) (a : Attrs) (r : Route) → peer.number < 2 ^ 8 → Every (IsRule v6 as4) rules → HasRanges a → filtered me peer rules p (Some a) ≡ Some r → HasRouteRanges r
+filtered_ranges v6 me peer as4 rules p a r small are h e = by_own (is_own me a) e
   where
     by_own : (b : Bool) → cond b None (judged_by rules p (first_route peer a)) ≡ Some r → HasRouteRanges r
     by_own true e = absurd (not_some r e)
-    by_own false e = ranges_judged as4 rules p (first_route peer a) r are (first_ranges peer a small h) e
+    by_own false e = ranges_judged v6 as4 rules p (first_route peer a) r are (first_ranges peer a small h) e
 
 pub filtered_printable : FilteredIsPrintable
-filtered_printable peers me peer as4 rules p a r known small are h e =
+filtered_printable printing me peer as4 rules p a r known small are h e =
     let of = filtered_keeps_attrs me peer rules p a r e in
-    let from : r.from ≡ peers (sender_number r.from) = of.from_peer ∙ sym (ap (λ (o : Option Neighbour). peers (sender_number o)) of.from_peer ∙ known) in
+    let from : r.from ≡ printing.peers (sender_number r.from) = of.from_peer ∙ sym (ap (λ (o : Option Neighbour). printing.peers (sender_number o)) of.from_peer ∙ known) in
     record {
       well_told = record {
-        ranges = filtered_ranges me peer as4 rules p a r small (all_every (IsRule false as4) rules are) h.well_told.ranges e;
-        told = (subst HasAddresses (sym of.same_attrs) h.well_told.told, from);
+        ranges = filtered_ranges printing.v6 me peer as4 rules p a r small (all_every (IsRule printing.v6 as4) rules are) h.well_told.ranges e;
+        told = (subst (HasAddresses printing.v6) (sym of.same_attrs) h.well_told.told, from);
       };
-      short = subst HasRoom (sym of.same_attrs) h.short;
+      short = subst (HasRoom printing.v6) (sym of.same_attrs) h.short;
     }

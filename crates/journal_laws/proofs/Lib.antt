@@ -9,6 +9,7 @@ mod ShortAttrs
 pub mod ShortLines
 pub mod TextWalks
 mod WalksBack
+pub mod FamilyTexts
 pub mod LawfulTexts
 pub mod ReadAttrs
 pub mod FilteredRoutes

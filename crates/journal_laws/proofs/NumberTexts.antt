@@ -1,19 +1,20 @@
 -- Numbers, addresses and octets are told by their texts.
-use Rattle.std.proofs.Common.{◌≡◌, ℕ, zero, suc, ◌/◌, ◌%◌, ◌^◌, ◌<◌, ◌≤◌, ◌||◌, Bool, true, false, nat_eq, List, [], ◌∷◌, ◌++◌, length, map, get_or, Ok, Result, refl, sym, ap, ◌∙◌, arith, append_assoc}
+use Rattle.std.proofs.Common.{◌≡◌, ℕ, zero, suc, ◌/◌, ◌%◌, ◌^◌, ◌<◌, ◌≤◌, ◌||◌, Bool, true, false, nat_eq, List, [], ◌∷◌, ◌++◌, length, map, get_or, Some, Ok, Result, refl, sym, ap, ◌∙◌, arith, append_assoc}
 use Rattle.std.proofs.lemmas.Bool.Decides.{nat_tests}
 use Rattle.std.proofs.lemmas.List.{append-nil}
 use Rattle.std.proofs.lemmas.Fmt.{decimal_is_IsNumeral, decimal_injective}
-use Rattle.std.specs.Char.{is_ascii_digit}
+use Rattle.std.specs.Char.{is_digit, is_ascii_digit}
 use Rattle.std.specs.Fmt.{decimal}
 use Rattle.std.specs.Int.{w32, to_be_bytes}
 use Rattle.std.specs.List.{AllByRecursion, join_with_byte}
 use Rattle.hex.specs.Hex.{IsBytes, encode_lower, encode_with, lower_digits, is_hex_digit, decode_of}
 use Rattle.hex.proofs.HexLemmas.{decode_of-encode_lower}
 use Rattle.addr4.specs.Texts.{dotted, addr_text, addr_of, id_text, id_of}
-use Rattle.addr4.specs.Families.{IsIpv4}
+use Rattle.addr4.specs.Families.{IsAddress}
+use Rattle.addr6.proofs.PrintedLemmas.{addr_back as addr6_back, addr_bytes}
 use Rattle.journal_text.specs.Texts.{addresses_text}
 use Rattle.journal_check.specs.Laws.{AreOctets}
-use Rattle.journal_check.proofs.InkLemmas.{decimal_are, dotted_are}
+use Rattle.journal_check.proofs.InkLemmas.{all_passed, decimal_are, dotted_are}
 use Rattle.journal_check.proofs.PrefixBack.{addr_back, id_back}
 use Rattle.journal_laws.proofs.Spans.{begins, Pass, clash, rest_same, some_same, spans, pass_more, begins_less}
 
@@ -131,8 +132,13 @@ dotted_told (m ∷ ms) (n ∷ ns) s t hm hn f g e = joined_told 46 decimal is_as
 id_same : (a b : ℕ) → a < 2 ^ 32 → b < 2 ^ 32 → id_text a ≡ id_text b → a ≡ b
 id_same a b ha hb e = some_same a b (sym (id_back a ha) ∙ (ap id_of e ∙ id_back b hb))
 
-pub addr_same : (a b : ℕ) → IsIpv4 a → IsIpv4 b → addr_text false a ≡ addr_text false b → a ≡ b
-addr_same a b ha hb e = some_same a b (sym (addr_back a ha) ∙ (ap (addr_of false) e ∙ addr_back b hb))
+-- an address is read back from its text
+pub addr_told_back : (v6 : Bool) (a : ℕ) → IsAddress v6 a → addr_of v6 (addr_text v6 a) ≡ Some a
+addr_told_back false a h = addr_back a h
+addr_told_back true a h = addr6_back a h
+
+pub addr_same : (v6 : Bool) (a b : ℕ) → IsAddress v6 a → IsAddress v6 b → addr_text v6 a ≡ addr_text v6 b → a ≡ b
+addr_same v6 a b ha hb e = some_same a b (sym (addr_told_back v6 a ha) ∙ (ap (addr_of v6) e ∙ addr_told_back v6 b hb))
 
 dotted_passes : (ns : List ℕ) → AreSmall ns → Pass is_dotted (dotted ns)
 dotted_passes ns small = dotted_are (λ c. is_dotted c ≡ true) (λ c low high. digit_is_dotted c (digit_passes c low high)) refl ns small
@@ -153,11 +159,20 @@ id_told a b s t ha hb f g e =
     let parted = spans is_dotted (id_text a) (id_text b) s t (id_passes a) (id_passes b) f g e in
     (id_same a b ha hb parted.0, parted.1)
 
--- such an address
-pub addr_told : (a b : ℕ) (s t : List ℕ) → IsIpv4 a → IsIpv4 b → begins is_dotted s ≡ false → begins is_dotted t ≡ false → addr_text false a ++ s ≡ addr_text false b ++ t → (a ≡ b) × (s ≡ t)
-addr_told a b s t ha hb f g e =
-    let parted = spans is_dotted (addr_text false a) (addr_text false b) s t (id_passes (a / 2 ^ 96)) (id_passes (b / 2 ^ 96)) f g e in
-    (addr_same a b ha hb parted.0, parted.1)
+-- the bytes of an address of the family: digits and dots, or hex digits and colons
+abbrev pub is_addr_byte : Bool → ℕ → Bool
+is_addr_byte false c = is_dotted c
+is_addr_byte true c = is_digit c 16 || nat_eq c 58
+
+addr_passes : (v6 : Bool) (a : ℕ) → Pass (is_addr_byte v6) (addr_text v6 a)
+addr_passes false a = id_passes (a / 2 ^ 96)
+addr_passes true a = all_passed (is_addr_byte true) (λ c. is_addr_byte true c ≡ true) (λ c e. e) (addr_text true a) (addr_bytes a)
+
+-- an address behind which no byte of one stands
+pub addr_told : (v6 : Bool) (a b : ℕ) (s t : List ℕ) → IsAddress v6 a → IsAddress v6 b → begins (is_addr_byte v6) s ≡ false → begins (is_addr_byte v6) t ≡ false → addr_text v6 a ++ s ≡ addr_text v6 b ++ t → (a ≡ b) × (s ≡ t)
+addr_told v6 a b s t ha hb f g e =
+    let parted = spans (is_addr_byte v6) (addr_text v6 a) (addr_text v6 b) s t (addr_passes v6 a) (addr_passes v6 b) f g e in
+    (addr_same v6 a b ha hb parted.0, parted.1)
 
 abbrev pub is_listed : ℕ → Bool
 is_listed c = is_dotted c || nat_eq c 59

@@ -5,10 +5,9 @@ use Rattle.std.specs.Ordering.{nat_cmp, eq_by_cmp}
 use Rattle.std.specs.Cmp.{nat_cmp_total}
 use Rattle.std.specs.FinMap as tables
 use Rattle.std.specs.FinMap.{get-insert}
-use Rattle.addr4.specs.Families.{IsIpv4Prefix}
+use Rattle.addr4.specs.Families.{IsPrefixOf}
 use Rattle.addr4.specs.Prefixes.{AddressPrefix}
 use Rattle.bgp_attr.specs.Routes.{Route}
-use Rattle.bgp_attr.specs.declared.speaker.Neighbour.{Neighbour}
 use Rattle.link_change.specs.Rows.{Rows, Candidates}
 use Rattle.link_change.specs.Changes.{Change}
 use Rattle.register_interest.specs.Width.{width}
@@ -28,7 +27,7 @@ use Rattle.nexthop_resolver.specs.Takes.{Keeps}
 use Rattle.nexthop_resolver.specs.Turns.{KnownAfter, Turned}
 use Rattle.journal_text.specs.Values.{route_value, interior_value}
 use Rattle.journal_check.specs.Laws.{IsNumberIfAny}
-use Rattle.journal_laws.specs.Printed.{IsPrintable}
+use Rattle.journal_laws.specs.Printed.{Printing, IsPrintable}
 use Rattle.journal_laws.proofs.PrintedRows.{Prints}
 use Rattle.link_region.proofs.RegionLemmas.{by_bool}
 use Rattle.hop_side.specs.Resolvers.{Resolvers, resolver_at, put_resolver, metric_rows, rows_by}
@@ -89,13 +88,13 @@ abbrev pub AllHaveMetrics : Resolvers → Type 0
 AllHaveMetrics a = (k : ℕ) (s : Resolving Metric) → resolver_at k a ≡ Some s → HaveMetrics s
 
 -- ---- rows
-module _ (peers : ℕ → Option Neighbour) where
-  with_prints : (r row : Route) (igp : Option ℕ) → IsNumberIfAny igp → with_igp r igp ≡ Some row → IsPrintable peers (route_value r) → IsPrintable peers (route_value row)
+module _ (printing : Printing) where
+  with_prints : (r row : Route) (igp : Option ℕ) → IsNumberIfAny igp → with_igp r igp ≡ Some row → IsPrintable printing (route_value r) → IsPrintable printing (route_value row)
   with_prints r row None fits is h = absurd (cc)
   with_prints r row (Some n) fits is h =
       let same : record r { igp = Some n } ≡ row = cc in
       let ranges = h.well_told.ranges in
-      subst (λ (x : Route). IsPrintable peers (route_value x)) same (record {
+      subst (λ (x : Route). IsPrintable printing (route_value x)) same (record {
         well_told = record {
           ranges = record { attrs = ranges.attrs; pref = ranges.pref; med = ranges.med; prepend = ranges.prepend; igp = fits; from = ranges.from };
           told = h.well_told.told;
@@ -103,37 +102,37 @@ module _ (peers : ℕ → Option Neighbour) where
         short = h.short;
       })
 
-  goes_prints : (p : AddressPrefix) (answers : ℕ → Option Metric) → ((a : ℕ) (x : Metric) → answers a ≡ Some x → IsNumberIfAny x.igp) → (o : Option Route) (row : Route) → ((r : Route) → o ≡ Some r → IsIpv4Prefix p × IsPrintable peers (route_value r))
-      → goes_on route_hop with_metric answers o ≡ Some row → IsIpv4Prefix p × IsPrintable peers (route_value row)
+  goes_prints : (p : AddressPrefix) (answers : ℕ → Option Metric) → ((a : ℕ) (x : Metric) → answers a ≡ Some x → IsNumberIfAny x.igp) → (o : Option Route) (row : Route) → ((r : Route) → o ≡ Some r → IsPrefixOf printing.v6 p × IsPrintable printing (route_value r))
+      → goes_on route_hop with_metric answers o ≡ Some row → IsPrefixOf printing.v6 p × IsPrintable printing (route_value row)
   goes_prints p answers fit None row each is = absurd (cc)
   goes_prints p answers fit (Some r) row each is = by_answer (answers (route_hop r)) refl is
     where
-      by_answer : (x : Option Metric) → answers (route_hop r) ≡ x → made_by route_hop with_metric r x ≡ Some row → IsIpv4Prefix p × IsPrintable peers (route_value row)
+      by_answer : (x : Option Metric) → answers (route_hop r) ≡ x → made_by route_hop with_metric r x ≡ Some row → IsPrefixOf printing.v6 p × IsPrintable printing (route_value row)
       by_answer None at is = absurd (cc)
       by_answer (Some x) at is = let own = each r refl in (own.0, with_prints r row x.igp (fit (route_hop r) x at) is own.1)
 
-  res_prints : (s : Resolving Metric) (upper : Rows Route) → HaveMetrics s → Prints peers route_value upper → Prints peers route_value (metric_rows s upper)
+  res_prints : (s : Resolving Metric) (upper : Rows Route) → HaveMetrics s → Prints printing route_value upper → Prints printing route_value (metric_rows s upper)
   res_prints s upper metrics before p row is =
       goes_prints p (function_of (in_force_by s.known) (walk_to (fresh_by s.known) s.walk) p) (answers_fit IsMetric s.known s.walk p metrics) (upper p) row (λ r at. before p r at) is
 
-  pub rows_print : (o : Option (Resolving Metric)) (upper : Rows Route) → ((s : Resolving Metric) → o ≡ Some s → HaveMetrics s) → Prints peers route_value upper → Prints peers route_value (rows_by o upper)
+  pub rows_print : (o : Option (Resolving Metric)) (upper : Rows Route) → ((s : Resolving Metric) → o ≡ Some s → HaveMetrics s) → Prints printing route_value upper → Prints printing route_value (rows_by o upper)
   rows_print None upper metrics before p row is = absurd (cc)
   rows_print (Some s) upper metrics before p row is = res_prints s upper (metrics s refl) before p row is
 
   -- ---- the register's answers
   pub present_fit : {A : Type 0} (Is : A → Type 0) (kept : Option (AddressPrefix × Interior) → A) (r : Registry Interior) (rows : Rows Interior)
-      → Is (kept None) → ((q : AddressPrefix) (row : Interior) → IsPrintable peers (interior_value row) → Is (kept (Some (q, row)))) → tables.get r.rows ≡ rows → Prints peers interior_value rows → (a : ℕ) → Is (answer_of kept r a)
+      → Is (kept None) → ((q : AddressPrefix) (row : Interior) → IsPrintable printing (interior_value row) → Is (kept (Some (q, row)))) → tables.get r.rows ≡ rows → Prints printing interior_value rows → (a : ℕ) → Is (answer_of kept r a)
   present_fit Is kept r rows none some same prints a = subst (λ (x : Rows Interior). Is (kept (longest width x a))) (sym same) (by_found (longest width rows a) (longest_is width rows a))
     where
       by_found : (o : Option (AddressPrefix × Interior)) → IsLongest width rows a o → Is (kept o)
       by_found None is = none
       by_found (Some x) is = some x.0 x.1 (prints x.0 x.1 is.2).1
 
-  pub metrics_fit : (r : Registry Interior) (rows : Rows Interior) → tables.get r.rows ≡ rows → Prints peers interior_value rows → (a : ℕ) → IsMetric (answer_of metric_of r a)
+  pub metrics_fit : (r : Registry Interior) (rows : Rows Interior) → tables.get r.rows ≡ rows → Prints printing interior_value rows → (a : ℕ) → IsMetric (answer_of metric_of r a)
   metrics_fit r rows same prints = present_fit IsMetric metric_of r rows tt (λ q row own. own.well_told.ranges.1) same prints
 
-  pub ways_fit : (r : Registry Interior) (rows : Rows Interior) → tables.get r.rows ≡ rows → Prints peers interior_value rows → (a : ℕ) → IsWay (answer_of way_of r a)
-  ways_fit r rows same prints = present_fit IsWay way_of r rows tt (λ q row own. (own.well_told.ranges.0, own.well_told.told)) same prints
+  pub ways_fit : (r : Registry Interior) (rows : Rows Interior) → tables.get r.rows ≡ rows → Prints printing interior_value rows → (a : ℕ) → IsWay printing.v6 (answer_of way_of r a)
+  ways_fit r rows same prints = present_fit (IsWay printing.v6) way_of r rows tt (λ q row own. (own.well_told.ranges.0, own.well_told.told)) same prints
 
 -- ---- resolvers that stay so
 pub metrics_reached : (out : List Interest) (a a' : Resolvers) → AllReached out a a' → AllHaveMetrics a → AllHaveMetrics a'

@@ -3,12 +3,11 @@ use Rattle.std.proofs.Common.{◌≡◌, ◌⊎◌, ℕ, ◌+◌, ◌<◌, ◌�
 use Rattle.std.specs.List.{AllByRecursion}
 use Rattle.std.specs.FinMap as tables
 use Rattle.std.specs.FinMap.{FinMap}
-use Rattle.addr4.specs.Families.{IsIpv4Prefix}
+use Rattle.addr4.specs.Families.{IsPrefixOf}
 use Rattle.addr4.specs.Prefixes.{AddressPrefix, prefix_cmp}
 use Rattle.addr4.proofs.PrefixOrder.{itself}
 use Rattle.bgp_attr.specs.Attributes.{Attrs}
 use Rattle.bgp_attr.specs.Routes.{Route}
-use Rattle.bgp_attr.specs.declared.speaker.Neighbour.{Neighbour}
 use Rattle.bgp_attr.specs.declared.speaker.Profile.{Profile}
 use Rattle.rib_route.specs.declared.Proto.{Proto}
 use Rattle.rib_route.specs.declared.Proto.TheVariants.{Connected}
@@ -32,7 +31,7 @@ use Rattle.journal_text.specs.declared.link.Task.{Task}
 use Rattle.journal_text.specs.declared.link.Task.TheVariants.{Del, Fin}
 use Rattle.journal_text.specs.Lines.{Value}
 use Rattle.journal_text.proofs.LinkLemmas.{same_link-yes}
-use Rattle.journal_laws.specs.Printed.{IsPrinted, IsPrintable}
+use Rattle.journal_laws.specs.Printed.{Printing, IsPrinted, IsPrintable}
 use Rattle.journal_laws.specs.Standing.{IsHeardRow}
 use Rattle.journal_laws.specs.Laws.{AreEachOnce}
 use Rattle.journal_laws.proofs.PrintedFalls.{falls_printed, changes_printed}
@@ -159,10 +158,10 @@ module _ (proto : Proto) (t : Treed) (rising : AreRising (branch_of proto t).tab
   sweep_way n = route_once proto (way_from (owners.Origin proto) n (Org proto) (branch_of proto t).tables.deletions)
       (from_way (owners.Origin proto) (λ n named. named) n (Org proto) (branch_of proto t).tables.deletions tt (above_org proto (branch_of proto t).tables.deletions numbers) rising numbers)
 
-module _ (peers : ℕ → Option Neighbour) where
+module _ (printing : Printing) where
   -- ---- entries
   abbrev pub ArePrintedEntries : List (Entry Value) → Type 0
-  ArePrintedEntries es = AllByRecursion (λ e. IsPrinted peers (lines.Journal e)) es
+  ArePrintedEntries es = AllByRecursion (λ e. IsPrinted printing (lines.Journal e)) es
 
   pub weld_printed : {R : Type 0} (o : Owner) → Names o → (out : Link) (ds : List (Lost R)) → IsNamed out → AllByRecursion (λ (d : Lost R). IsNameNumber d.number) ds → ArePrintedEntries (weld_entries o out ds)
   weld_printed o own out [] named numbers = tt
@@ -174,19 +173,19 @@ module _ (peers : ℕ → Option Neighbour) where
   -- what a stage sends
   module _ {R : Type 0} (value : R → Value) where
     abbrev PrintsAt : AddressPrefix → R → Type 0
-    PrintsAt p row = IsIpv4Prefix p × IsPrintable peers (value row)
+    PrintsAt p row = IsPrefixOf printing.v6 p × IsPrintable printing (value row)
 
-    row_prints : (rows : Rows R) (p : AddressPrefix) (o : Option R) → Prints peers value rows → rows p ≡ o → IfSome o (PrintsAt p)
+    row_prints : (rows : Rows R) (p : AddressPrefix) (o : Option R) → Prints printing value rows → rows p ≡ o → IfSome o (PrintsAt p)
     row_prints rows p None prints at = tt
     row_prints rows p (Some row) prints at = prints p row at
 
     change_printed : (link : Link) (p : AddressPrefix) (a b : Option R) → IsNamed link → IfSome a (PrintsAt p) → IfSome b (PrintsAt p) → ArePrintedEntries (change_entries link p (option_map value a) (option_map value b))
     change_printed link p None None named x y = tt
-    change_printed link p None (Some b) named x y = changes_printed peers link p None (Some (value b)) named y.0 tt y.1
-    change_printed link p (Some a) None named x y = changes_printed peers link p (Some (value a)) None named x.0 x.1 tt
-    change_printed link p (Some a) (Some b) named x y = changes_printed peers link p (Some (value a)) (Some (value b)) named x.0 x.1 y.1
+    change_printed link p None (Some b) named x y = changes_printed printing link p None (Some (value b)) named y.0 tt y.1
+    change_printed link p (Some a) None named x y = changes_printed printing link p (Some (value a)) None named x.0 x.1 tt
+    change_printed link p (Some a) (Some b) named x y = changes_printed printing link p (Some (value a)) (Some (value b)) named x.0 x.1 y.1
 
-    pub sent_printed : (link : Link) (old new : Rows R) (p : AddressPrefix) (sent : Option (Change R)) → IsNamed link → Prints peers value old → Prints peers value new → IsSent old new p sent → ArePrintedEntries (sent_entries value link sent)
+    pub sent_printed : (link : Link) (old new : Rows R) (p : AddressPrefix) (sent : Option (Change R)) → IsNamed link → Prints printing value old → Prints printing value new → IsSent old new p sent → ArePrintedEntries (sent_entries value link sent)
     sent_printed link old new p None named before then is = tt
     sent_printed link old new p (Some change) named before then is =
         let q = change.prefix in
@@ -199,8 +198,9 @@ module _ (peers : ℕ → Option Neighbour) where
     abbrev pub Heard : Chained → AddressPrefix → Attrs → Type 0
     Heard c = IsHeardRow profile (not c.peer.internal)
 
-    pub with_fit : (c : Chained) (t : Tables Attrs) → IsFit peers profile c → AreFit (Heard c) t → IsFit peers profile (with_tables c t)
+    pub with_fit : (c : Chained) (t : Tables Attrs) → IsFit printing profile c → AreFit (Heard c) t → IsFit printing profile (with_tables c t)
     with_fit c t fit own = record {
+      family = fit.family;
       known = fit.known;
       small = fit.small;
       named = fit.named;
@@ -208,10 +208,10 @@ module _ (peers : ℕ → Option Neighbour) where
       rising = own.rising;
     }
 
-    pub tables_fit : (c : Chained) → IsFit peers profile c → AreFit (Heard c) c.incoming.tables
+    pub tables_fit : (c : Chained) → IsFit printing profile c → AreFit (Heard c) c.incoming.tables
     tables_fit c fit = record { printable = fit.printable.tables; rising = fit.rising }
 
-    module _ (c : Chained) (fit : IsFit peers profile c) where
+    module _ (c : Chained) (fit : IsFit printing profile c) where
       above_in : (ds : List (Lost Attrs)) → AllByRecursion (λ (d : Lost Attrs). IsNameNumber d.number) ds → AllByRecursion (λ (d : Lost Attrs). height (In c.incoming.number) < height (Peer c.incoming.number d.number)) ds
       above_in ds numbers = all_so (λ (d : Lost Attrs). IsNameNumber d.number) (λ d. 1 < d.number + 2) (λ d n. omega arith) ds numbers
 
@@ -223,27 +223,27 @@ module _ (peers : ℕ → Option Neighbour) where
       sweep_once s = peer_once c.incoming.number (way_from (owners.Peer c.incoming.number) s (In c.incoming.number) c.incoming.tables.deletions) fit.named
           (from_way (owners.Peer c.incoming.number) (λ n named. (fit.named, named)) s (In c.incoming.number) c.incoming.tables.deletions fit.named (above_in c.incoming.tables.deletions fit.printable.tables.losses) fit.rising fit.printable.tables.losses)
 
-      pub chain_fall : (c' : Chained) (p : AddressPrefix) (way : List Link) (sent : Option (Change Route)) (fall : List (Entry Value)) → IsFit peers profile c' → IsIpv4Prefix p → AreEachOnce way → Falls c c' p way sent fall → ArePrintedEntries fall
+      pub chain_fall : (c' : Chained) (p : AddressPrefix) (way : List Link) (sent : Option (Change Route)) (fall : List (Entry Value)) → IsFit printing profile c' → IsPrefixOf printing.v6 p → AreEachOnce way → Falls c c' p way sent fall → ArePrintedEntries fall
       chain_fall c' p way sent fall fit' prefix once falls =
-          falls_printed peers p way fall (beside no_links c) (beside no_links c') prefix once (down_of p way sent fall falls.down) (falls.leads no_links)
-          (λ link rows v at is. (beside_prints peers profile c fit link rows p v at is).1) (λ link rows v at is. (beside_prints peers profile c' fit' link rows p v at is).1)
+          falls_printed printing p way fall (beside no_links c) (beside no_links c') prefix once (down_of p way sent fall falls.down) (falls.leads no_links)
+          (λ link rows v at is. (beside_prints printing profile c fit link rows p v at is).1) (λ link rows v at is. (beside_prints printing profile c' fit' link rows p v at is).1)
 
-      pub turned_fit : (task : Task) (less : Chained) (sent : Option (Change Route)) (fall : List (Entry Value)) → Turned c less task sent fall → IsFit peers profile less × ArePrintedEntries fall
+      pub turned_fit : (task : Task) (less : Chained) (sent : Option (Change Route)) (fall : List (Entry Value)) → Turned c less task sent fall → IsFit printing profile less × ArePrintedEntries fall
       turned_fit (Del k s) less sent fall t =
           let w = t.1 in
           let p = w.prefix in
           let row = table_row s c.incoming.tables.deletions w.table p w.row w.stands w.least.0 in
-          let less_fit : IsFit peers profile less = subst (IsFit peers profile) (sym w.after) (with_fit c (swept_tables s p c.incoming.tables) fit (swept_fit (Heard c) s p c.incoming.tables (tables_fit c fit))) in
-          (less_fit, chain_fall less p (way_of_sweep s c.incoming) sent fall less_fit (fit.printable.tables.rows p w.row (inr row)).0 (sweep_once s) w.fall)
+          let less_fit : IsFit printing profile less = subst (IsFit printing profile) (sym w.after) (with_fit c (swept_tables s p c.incoming.tables) fit (swept_fit (Heard c) s p c.incoming.tables (tables_fit c fit))) in
+          (less_fit, chain_fall less p (way_of_sweep s c.incoming) sent fall less_fit (subst (λ v6. IsPrefixOf v6 p) fit.family (fit.printable.tables.rows p w.row (inr row)).0) (sweep_once s) w.fall)
       turned_fit (Fin k) less sent fall t =
           let w = t.1 in
           let next = w.walks.next in
           let is : less ≡ record c { filter = walked_on next c.filter } = w.after ∙ ap (λ (f : Passed (List Rule)). record c { filter = f }) w.walks.after in
-          let less_fit : IsFit peers profile less = subst (IsFit peers profile) (sym is) (record { known = fit.known; small = fit.small; named = fit.named; printable = walked_printable profile c next fit.printable; rising = fit.rising }) in
+          let less_fit : IsFit printing profile less = subst (IsFit printing profile) (sym is) (record { family = fit.family; known = fit.known; small = fit.small; named = fit.named; printable = walked_printable profile c next fit.printable; rising = fit.rising }) in
           let changes : IsSentAt next (filt_rows c) (filt_rows less) sent = subst (λ (x : Chained). IsSentAt next (filt_rows c) (filt_rows x) sent) (sym w.after) w.walks.changes in
-          (less_fit, subst ArePrintedEntries (sym w.lines) (by_next next (filt_rows less) (filt_prints peers profile less less_fit) changes))
+          (less_fit, subst ArePrintedEntries (sym w.lines) (by_next next (filt_rows less) (filt_prints printing profile less less_fit) changes))
         where
-          by_next : (next : Option AddressPrefix) (new : Rows Route) → Prints peers route_value new → IsSentAt next (filt_rows c) new sent → ArePrintedEntries (sent_entries route_value (Filt c.incoming.number) sent)
+          by_next : (next : Option AddressPrefix) (new : Rows Route) → Prints printing route_value new → IsSentAt next (filt_rows c) new sent → ArePrintedEntries (sent_entries route_value (Filt c.incoming.number) sent)
           by_next None new then is = subst (λ (s : Option (Change Route)). ArePrintedEntries (sent_entries route_value (Filt c.incoming.number) s)) (sym is.0) tt
-          by_next (Some p) new then is = sent_printed route_value (Filt c.incoming.number) (filt_rows c) new p sent fit.named (filt_prints peers profile c fit) then is
+          by_next (Some p) new then is = sent_printed route_value (Filt c.incoming.number) (filt_rows c) new p sent fit.named (filt_prints printing profile c fit) then is
       turned_fit other less sent fall t = absurd t

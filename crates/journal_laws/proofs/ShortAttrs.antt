@@ -20,10 +20,10 @@ use Rattle.bgp_attr.specs.Reflections.{Reflected}
 use Rattle.bgp_wire.specs.Attributes.{Attribute}
 use Rattle.bgp_wire.specs.Paths.{width_of}
 use Rattle.bgp_wire.specs.Routes.{code_of_origin}
-use Rattle.bgp_wire.specs.Spelling.{segment_octets, path_octets, is_long, spelled_octets, spelled, optional, aggregator_value, aggregator_flags, unrecognized_attribute, clusters_attributes, reflection_attributes, mandatory_attributes, further_attributes, octets_of}
+use Rattle.bgp_wire.specs.Spelling.{segment_octets, path_octets, is_long, spelled_octets, spelled, optional, aggregator_value, aggregator_flags, unrecognized_attribute, clusters_attributes, reflection_attributes, hop_attributes, reach_attributes, mandatory_attributes, further_attributes, octets_of}
 use Rattle.bgp_wire.specs.Lengths.{attributes_length}
-use Rattle.bgp_wire.proofs.SpelledLengths.{length-numbers, length-spelled, length-first, length-octets-append, length-four, length-sent}
-use Rattle.journal_text.specs.Texts.{origin_number, bracketed, segment_text, path_text, lettered, aggregator_text, addresses_text, originator_text, clusters_text, reflection_text, unrecognized_text, required_text, optional_text, attrs_text}
+use Rattle.bgp_wire.proofs.SpelledLengths.{length-numbers, length-spelled, length-first, length-octets-append, length-four, length-reach, length-sent}
+use Rattle.journal_text.specs.Texts.{origin_number, bracketed, segment_text, path_text, lettered, aggregator_text, originator_text, clusters_text, reflection_text, unrecognized_text, required_text, optional_text, attrs_text}
 use Rattle.journal_check.specs.Laws.{IsNumberIfAny, HasNumbers, HasNumber, HasOctets, HasRanges}
 use Rattle.journal_laws.proofs.ShortNumbers.{short_number, short_octet, short_dotted, short_addr, short_addresses, short_id}
 
@@ -159,40 +159,46 @@ short_origin Igp = short_octet 0 (omega arith)
 short_origin Egp = short_octet 1 (omega arith)
 short_origin Incomplete = short_octet 2 (omega arith)
 
--- ORIGIN, AS_PATH and NEXT_HOP
-mandatory_octets : (as4 : Bool) (a : Attrs) → 14 + length (path_octets (width_of as4) a.path) ≤ length (octets_of (mandatory_attributes false as4 a))
-mandatory_octets as4 a =
+-- the next hop, in NEXT_HOP or in MP_REACH_NLRI
+hop_octets : (v6 : Bool) (hop : ℕ) → 7 ≤ length (octets_of (hop_attributes v6 hop)) + length (octets_of (reach_attributes v6 hop []))
+hop_octets false hop =
+    let h = spelled 64 3 (big_bytes 4 (hop / 2 ^ 96)) in
+    omega (arith, one_of h, head_at_least 64 3 (big_bytes 4 (hop / 2 ^ 96)))
+hop_octets true hop = omega (arith, length-reach hop [] (omega arith))
+
+-- ORIGIN, AS_PATH and the next hop
+mandatory_octets : (v6 as4 : Bool) (a : Attrs) → 14 + length (path_octets (width_of as4) a.path) ≤ length (octets_of (mandatory_attributes v6 as4 a)) + length (octets_of (reach_attributes v6 a.next_hop []))
+mandatory_octets v6 as4 a =
     let o = spelled 64 1 (code_of_origin a.origin ∷ []) in
     let s = spelled 64 2 (path_octets (width_of as4) a.path) in
-    let h = spelled 64 3 (big_bytes 4 (a.next_hop / 2 ^ 96)) in
+    let hops = hop_attributes v6 a.next_hop in
     omega (
       arith,
-      length-append o.octets (octets_of (s ∷ h ∷ [])),
-      length-append s.octets (octets_of (h ∷ [])),
-      one_of h,
+      length-first o (s ∷ hops),
+      length-first s hops,
+      hop_octets v6 a.next_hop,
       head_at_least 64 1 (code_of_origin a.origin ∷ []),
       head_at_least 64 2 (path_octets (width_of as4) a.path),
-      head_at_least 64 3 (big_bytes 4 (a.next_hop / 2 ^ 96)),
     )
 
-required_length : (a : Attrs) → length (required_text false a) ≤ 23 + length (path_text a.path)
+required_length : (v6 : Bool) (a : Attrs) → length (required_text v6 a) ≤ 47 + length (path_text a.path)
 unfolding required_text
-required_length a =
+required_length v6 a =
     let o = codes "o" ++ decimal (origin_number a.origin) in
     let p = path_text a.path in
-    let h = addr_text false a.next_hop in
+    let h = addr_text v6 a.next_hop in
     omega (
       arith,
       short_origin a.origin,
-      short_addr a.next_hop,
+      short_addr v6 a.next_hop,
       length-append o (codes ",p"),
       length-append (o ++ codes ",p") p,
       length-append (o ++ codes ",p" ++ p) (codes ",n"),
       length-append (o ++ codes ",p" ++ p ++ codes ",n") h,
     )
 
-short_required : (as4 : Bool) (a : Attrs) → HasRanges a → length (required_text false a) ≤ 6 * length (octets_of (mandatory_attributes false as4 a))
-short_required as4 a h = omega (arith, required_length a, short_path as4 a.path h.path, mandatory_octets as4 a)
+short_required : (v6 as4 : Bool) (a : Attrs) → HasRanges a → length (required_text v6 a) ≤ 6 * (length (octets_of (mandatory_attributes v6 as4 a)) + length (octets_of (reach_attributes v6 a.next_hop [])))
+short_required v6 as4 a h = omega (arith, required_length v6 a, short_path as4 a.path h.path, mandatory_octets v6 as4 a)
 
 short_optional : (as4 : Bool) (a : Attrs) → HasRanges a → length (optional_text a) ≤ 6 * length (octets_of (further_attributes as4 a))
 unfolding optional_text
@@ -212,17 +218,17 @@ short_optional as4 a h =
       length-four (optional (λ n. spelled 128 4 (big_bytes 4 n)) a.med) (optional (λ n. spelled 64 5 (big_bytes 4 n)) a.local_pref) (cond a.atomic (spelled 64 6 [] ∷ []) []) (optional (λ g. spelled (aggregator_flags g.partial) 7 (aggregator_value as4 g)) a.aggregator),
     )
 
-pub short_attrs : (as4 : Bool) (a : Attrs) → HasRanges a → length (attrs_text false a) ≤ 6 * attributes_length false as4 a
+pub short_attrs : (v6 as4 : Bool) (a : Attrs) → HasRanges a → length (attrs_text v6 a) ≤ 6 * attributes_length v6 as4 a
 unfolding attrs_text attributes_length
-short_attrs as4 a h =
+short_attrs v6 as4 a h =
     omega (
       arith,
-      short_required as4 a h,
+      short_required v6 as4 a h,
       short_optional as4 a h,
       short_reflection a.reflection,
       short_all a.unrecognized h.unrecognized,
-      length-append (required_text false a) (optional_text a),
-      length-append (required_text false a ++ optional_text a) (reflection_text a.reflection),
-      length-append (required_text false a ++ optional_text a ++ reflection_text a.reflection) (flat_map unrecognized_text a.unrecognized),
-      length-sent false as4 a [],
+      length-append (required_text v6 a) (optional_text a),
+      length-append (required_text v6 a ++ optional_text a) (reflection_text a.reflection),
+      length-append (required_text v6 a ++ optional_text a ++ reflection_text a.reflection) (flat_map unrecognized_text a.unrecognized),
+      length-sent v6 as4 a [],
     )

@@ -1,19 +1,20 @@
 -- How long the texts of numbers, addresses, prefixes and links are at most.
-use Rattle.std.proofs.Common.{◌≡◌, ℕ, ◌+◌, ◌*◌, ◌/◌, ◌%◌, ◌^◌, ◌<◌, ◌≤◌, ◌&&◌, true, nat_le, List, [], ◌∷◌, ◌++◌, length, arith, codes, false}
+use Rattle.std.proofs.Common.{◌≡◌, ℕ, ◌+◌, ◌*◌, ◌/◌, ◌%◌, ◌^◌, ◌<◌, ◌≤◌, ◌&&◌, Bool, true, false, nat_le, List, [], ◌∷◌, ◌++◌, length, arith, codes}
 use Rattle.std.proofs.lemmas.Bool.Decides.{nat_tests}
 use Rattle.std.proofs.lemmas.List.{length-append}
 use Rattle.std.proofs.lemmas.Fmt.{length-decimal-le, length-decimal-le_wide}
 use Rattle.std.specs.Fmt.{decimal}
 use Rattle.std.specs.List.{AllByRecursion, list_all}
-use Rattle.addr4.specs.Families.{IsIpv4Prefix}
+use Rattle.addr4.specs.Families.{bits_of, IsPrefixOf}
 use Rattle.addr4.specs.Prefixes.{AddressPrefix}
 use Rattle.addr4.specs.Texts.{dotted, addr_text, prefix_text, id_text}
+use Rattle.addr6.proofs.PrintedLemmas.{addr_short}
 use Rattle.rib_route.specs.declared.Proto.{Proto}
 use Rattle.rib_route.specs.declared.protocol.FibProto.{FibProto}
 use Rattle.rib_route.specs.declared.protocol.FibProto.TheVariants.{Connected}
 use Rattle.rib_route.specs.Distances.{fib_proto}
 use Rattle.rib_route.specs.Ifaces.{is_name_byte, is_iface_name}
-use Rattle.journal_text.specs.Names.{IsNameNumber, IsNamed, IsNamedTask}
+use Rattle.journal_text.specs.Names.{IsNameNumber, IsNamed, IsNamedTask, mark}
 use Rattle.journal_text.specs.Texts.{addresses_text, fib_proto_text, proto_text, dot_number, link_text, link_name, task_text, task_name}
 use Rattle.journal_text.specs.declared.link.Link.{Link}
 use Rattle.journal_text.specs.declared.link.Task.{Task}
@@ -63,8 +64,9 @@ pub short_id : (a : ℕ) → length (id_text a) ≤ 15
 unfolding id_text
 short_id a = four_dotted (a / 16777216 % 256) (a / 65536 % 256) (a / 256 % 256) (a % 256) (low_octet (a / 16777216)) (low_octet (a / 65536)) (low_octet (a / 256)) (low_octet a)
 
-pub short_addr : (a : ℕ) → length (addr_text false a) ≤ 15
-short_addr a = short_id (a / 2 ^ 96)
+pub short_addr : (v6 : Bool) (a : ℕ) → length (addr_text v6 a) ≤ 39
+short_addr false a = omega (arith, short_id (a / 2 ^ 96))
+short_addr true a = addr_short a
 
 -- each has a semicolon at most beside it
 pub short_addresses : (addresses : List ℕ) → length (addresses_text addresses) ≤ 16 * length addresses
@@ -72,11 +74,13 @@ short_addresses [] = omega arith
 short_addresses (a ∷ []) = omega (arith, short_id a)
 short_addresses (a ∷ b ∷ addresses) = omega (arith, short_id a, short_addresses (b ∷ addresses), length-append (id_text a) (59 ∷ addresses_text (b ∷ addresses)))
 
-pub short_prefix : (p : AddressPrefix) → IsIpv4Prefix p → length (prefix_text false p) ≤ 19
+few_bits : (v6 : Bool) → bits_of v6 ≤ 128
+few_bits true = omega arith
+few_bits false = omega arith
+
+pub short_prefix : (v6 : Bool) (p : AddressPrefix) → IsPrefixOf v6 p → length (prefix_text v6 p) ≤ 43
 unfolding prefix_text
-short_prefix p h =
-    let short = h.short in
-    omega (arith, short_addr p.address, short_octet p.length (omega arith), length-append (addr_text false p.address) (47 ∷ decimal p.length))
+short_prefix v6 p h = omega (arith, short_addr v6 p.address, short_octet p.length (omega (arith, h.short, few_bits v6)), length-append (addr_text v6 p.address) (47 ∷ decimal p.length))
 
 -- ---- links
 
@@ -96,28 +100,41 @@ short_org p = omega (arith, short_fib_proto (fib_proto p))
 short_rdel : (p : Proto) → length (codes "rdel." ++ proto_text p) ≤ 14
 short_rdel p = omega (arith, short_fib_proto (fib_proto p))
 
-pub short_task : (task : Task) → IsNamedTask task → length (task_text false task) ≤ 26
-unfolding task_text task_name
-short_task (tasks.Del k s) h = two_numbers (codes "del") k s (omega arith) h
-short_task (tasks.Fin k) h = omega (arith, one_number (codes "fin") k (omega arith) h)
-short_task (tasks.Nh k) h = omega (arith, one_number (codes "nh") k (omega arith) h)
-short_task (tasks.Out j) h = omega (arith, one_number (codes "out") j (omega arith) h)
-short_task (tasks.Ref j) h = omega (arith, one_number (codes "ref") j (omega arith) h)
-short_task (tasks.Rdel proto n) h = omega (arith, short_rdel proto, one_number (codes "rdel." ++ proto_text proto) n (short_rdel proto) h)
-short_task other h = omega arith
+short_task_name : (task : Task) → IsNamedTask task → length (task_name task) ≤ 26
+unfolding task_name
+short_task_name (tasks.Del k s) h = two_numbers (codes "del") k s (omega arith) h
+short_task_name (tasks.Fin k) h = omega (arith, one_number (codes "fin") k (omega arith) h)
+short_task_name (tasks.Nh k) h = omega (arith, one_number (codes "nh") k (omega arith) h)
+short_task_name (tasks.Out j) h = omega (arith, one_number (codes "out") j (omega arith) h)
+short_task_name (tasks.Ref j) h = omega (arith, one_number (codes "ref") j (omega arith) h)
+short_task_name (tasks.Rdel proto n) h = omega (arith, short_rdel proto, one_number (codes "rdel." ++ proto_text proto) n (short_rdel proto) h)
+short_task_name other h = omega arith
 
-pub short_link : (link : Link) → IsNamed link → length (link_text false link) ≤ 26
-unfolding link_text link_name
-short_link (In k) h = omega (arith, one_number (codes "in") k (omega arith) h)
-short_link (Peer k s) h = two_numbers (codes "peer") k s (omega arith) h
-short_link (Filt k) h = omega (arith, one_number (codes "filt") k (omega arith) h)
-short_link (Res k) h = omega (arith, one_number (codes "res") k (omega arith) h)
-short_link (Org proto) h = omega (arith, short_org proto)
-short_link (Lost proto n) h = omega (arith, short_org proto, one_number (codes "org." ++ proto_text proto) n (omega (arith, short_org proto)) h)
-short_link (Read j s) h = two_numbers (codes "read") j s (omega arith) h
-short_link (Outf j s) h = two_numbers (codes "outf") j s (omega arith) h
-short_link (Adv j s) h = two_numbers (codes "adv") j s (omega arith) h
-short_link other h = omega arith
+short_link_name : (link : Link) → IsNamed link → length (link_name link) ≤ 26
+unfolding link_name
+short_link_name (In k) h = omega (arith, one_number (codes "in") k (omega arith) h)
+short_link_name (Peer k s) h = two_numbers (codes "peer") k s (omega arith) h
+short_link_name (Filt k) h = omega (arith, one_number (codes "filt") k (omega arith) h)
+short_link_name (Res k) h = omega (arith, one_number (codes "res") k (omega arith) h)
+short_link_name (Org proto) h = omega (arith, short_org proto)
+short_link_name (Lost proto n) h = omega (arith, short_org proto, one_number (codes "org." ++ proto_text proto) n (omega (arith, short_org proto)) h)
+short_link_name (Read j s) h = two_numbers (codes "read") j s (omega arith) h
+short_link_name (Outf j s) h = two_numbers (codes "outf") j s (omega arith) h
+short_link_name (Adv j s) h = two_numbers (codes "adv") j s (omega arith) h
+short_link_name other h = omega arith
+
+-- the second network's names have a mark of two bytes
+short_mark : (v6 : Bool) → length (mark v6) ≤ 2
+short_mark true = omega arith
+short_mark false = omega arith
+
+pub short_task : (v6 : Bool) (task : Task) → IsNamedTask task → length (task_text v6 task) ≤ 28
+unfolding task_text
+short_task v6 task h = omega (arith, short_mark v6, short_task_name task h, length-append (mark v6) (task_name task))
+
+pub short_link : (v6 : Bool) (link : Link) → IsNamed link → length (link_text v6 link) ≤ 28
+unfolding link_text
+short_link v6 link h = omega (arith, short_mark v6, short_link_name link h, length-append (mark v6) (link_name link))
 
 pub short_name : (name : List ℕ) → is_iface_name name ≡ true → length name ≤ 15
 short_name name e =

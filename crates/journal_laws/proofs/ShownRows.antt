@@ -1,5 +1,5 @@
 -- The rows of a link, one after the other, and lines that are pushed and flushed.
-use Rattle.std.proofs.Common.{◌≡◌, ◌⊎◌, ℕ, ◌^◌, ◌<◌, ◌≤◌, List, [], ◌∷◌, ◌++◌, map, Option, Some, None, refl, sym, ap, subst, ◌∙◌, inl, inr, append-nil, append_assoc, arith}
+use Rattle.std.proofs.Common.{◌≡◌, ◌⊎◌, ℕ, List, [], ◌∷◌, ◌++◌, map, Option, Some, None, refl, sym, ap, subst, ◌∙◌, inl, inr, append-nil, append_assoc}
 use Rattle.std.specs.Prelude.{IsSome, Contains}
 use Rattle.std.specs.List.{AllByRecursion}
 use Rattle.std.specs.List.Sorted.{IsStrictlySortedBy}
@@ -9,9 +9,9 @@ use Rattle.std.specs.declared.cmp.Ordering.TheVariants.{Less, Equal, Greater}
 use Rattle.std.proofs.lemmas.List.{map-append}
 use Rattle.std.proofs.lemmas.List.Elements.{Contains-push, Contains-append_left}
 use Rattle.addr4.specs.Prefixes.{AddressPrefix, prefix_cmp, ComesBefore}
-use Rattle.addr4.specs.Places.{IsBeyond, IsShort, beyond}
+use Rattle.addr4.specs.Places.{IsBeyond, beyond}
 use Rattle.addr4.proofs.PrefixOrder.{prefixes_total, exact_prefixes}
-use Rattle.addr4.proofs.RankLemmas.{rank_beyond, further}
+use Rattle.addr4.proofs.RankLemmas.{further}
 use Rattle.loss_chain.proofs.ListLemmas.{all_appended}
 use Rattle.link_change.specs.Rows.{Rows, Candidates, IsNextCandidate, CoversRows}
 use Rattle.journal_text.specs.Lines.{Value}
@@ -95,19 +95,6 @@ module _ (candidates : Candidates) (rows : Rows Value) (covers : CoversRows cand
       by_rest : IsBeyond place q ⊎ Contains (map (λ r. r.0) listed) q → Contains (map (λ r. r.0) listed) q
       by_rest (inl beyond) = let no : rows q ≡ None = covers q (none q beyond) in absurd (cc)
       by_rest (inr there) = there
-
--- ---- how far a walk goes
--- a prefix of IPv4, if any
-abbrev pub IsPlaced : Option AddressPrefix → Type 0
-IsPlaced None = Unit {0}
-IsPlaced (Some p) = (p.length ≤ 32) × (p.address < 2 ^ 128)
-
-pub short_place : (place : Option AddressPrefix) → IsPlaced place → IsShort place
-short_place None is = tt
-short_place (Some p) is = omega (arith, is.0)
-
-pub place_rises : (place : Option AddressPrefix) (p : AddressPrefix) → IsPlaced place → IsBeyond place p → beyond place < beyond (Some p)
-place_rises place p is further = let le = rank_beyond place p (short_place place is) further in omega arith
 
 -- ---- lines that are pushed, and flushed
 abbrev text_with : Journaled → List ℕ → Journaled

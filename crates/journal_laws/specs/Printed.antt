@@ -1,7 +1,7 @@
 -- Lines that the program can print, beside the ranges of their numbers: what is asked of the values in them.
-use Rattle.std.specs.Prelude.{◌≡◌, ℕ, ◌^◌, ◌<◌, ◌≤◌, Bool, false, List, [], ◌∷◌, length, Option, Some, None}
+use Rattle.std.specs.Prelude.{◌≡◌, ℕ, ◌^◌, ◌<◌, ◌≤◌, Bool, List, [], ◌∷◌, length, Option, Some, None}
 use Rattle.std.specs.List.{AllByRecursion}
-use Rattle.addr4.specs.Families.{IsIpv4}
+use Rattle.addr4.specs.Families.{IsAddress}
 use Rattle.bgp_attr.specs.declared.attrs.Aggregator.{Aggregator}
 use Rattle.bgp_attr.specs.Attributes.{Attrs}
 use Rattle.bgp_attr.specs.declared.speaker.Neighbour.{Neighbour}
@@ -16,24 +16,30 @@ use Rattle.journal_text.specs.Lines.{Line}
 use Rattle.journal_text.specs.declared.line.Line.TheVariants.{Journal, Out, Note, Row}
 use Rattle.journal_check.specs.Laws.{IsValue, IsLine}
 
+-- whose texts: of which family the lines of a network are, which is said by whether it is IPv6, and its declared peers by number
+pub record Printing : Type 0 where
+  pub v6 : Bool
+  pub peers : ℕ → Option Neighbour
+
 -- ---- values that are short
 
--- A message of at most 4,096 octets has room for the attributes, with AS numbers of two octets or of four (RFC 4271, section 4.1).
-abbrev pub HasRoom : Attrs → Type 0
-HasRoom a = (as4 : Bool) × (attributes_length false as4 a ≤ 4096)
+-- A message of at most 4,096 octets has room for the attributes of the family's routes, with AS numbers of two octets or of four (RFC 4271,
+-- section 4.1).
+abbrev pub HasRoom : Bool → Attrs → Type 0
+HasRoom v6 a = (as4 : Bool) × (attributes_length v6 as4 a ≤ 4096)
 
-abbrev pub HasShortText : Value → Type 0
-HasShortText (values.Attrs a) = HasRoom a
-HasShortText (values.Route r) = HasRoom r.attrs
-HasShortText (values.Interior r) = Unit {0}
-HasShortText (values.External r) = Unit {0}
-HasShortText (values.FibRow r) = Unit {0}
+abbrev pub HasShortText : Bool → Value → Type 0
+HasShortText v6 (values.Attrs a) = HasRoom v6 a
+HasShortText v6 (values.Route r) = HasRoom v6 r.attrs
+HasShortText v6 (values.Interior r) = Unit {0}
+HasShortText v6 (values.External r) = Unit {0}
+HasShortText v6 (values.FibRow r) = Unit {0}
 
 -- ---- values that their texts tell apart
 
-abbrev pub IsAddressIfAny : Option ℕ → Type 0
-IsAddressIfAny None = Unit {0}
-IsAddressIfAny (Some addr) = IsIpv4 addr
+abbrev pub IsAddressIfAny : Bool → Option ℕ → Type 0
+IsAddressIfAny v6 None = Unit {0}
+IsAddressIfAny v6 (Some addr) = IsAddress v6 addr
 
 abbrev pub IsIdIfAny : Option ℕ → Type 0
 IsIdIfAny None = Unit {0}
@@ -43,8 +49,9 @@ abbrev pub HasAddress : Option Aggregator → Type 0
 HasAddress None = Unit {0}
 HasAddress (Some g) = g.addr < 2 ^ 32
 
-pub record HasAddresses (a : Attrs) : Type 0 where
-  pub next_hop : IsIpv4 a.next_hop
+-- a next hop of the family; identifiers have four octets in each
+pub record HasAddresses (v6 : Bool) (a : Attrs) : Type 0 where
+  pub next_hop : IsAddress v6 a.next_hop
   pub aggregator : HasAddress a.aggregator
   pub originator : IsIdIfAny a.reflection.originator
   pub clusters : AllByRecursion (λ c. c < 2 ^ 32) a.reflection.clusters
@@ -54,22 +61,22 @@ abbrev pub IsFromOneOf : (ℕ → Option Neighbour) → Route → Type 0
 IsFromOneOf peers r = r.from ≡ peers (sender_number r.from)
 
 -- all that its text has not in full: the addresses are such, and the sender is known by its number
-abbrev pub IsTold : (ℕ → Option Neighbour) → Value → Type 0
-IsTold peers (values.Attrs a) = HasAddresses a
-IsTold peers (values.Route r) = HasAddresses r.attrs × IsFromOneOf peers r
-IsTold peers (values.Interior r) = IsAddressIfAny r.gateway
-IsTold peers (values.External r) = IsIpv4 r.next_hop
-IsTold peers (values.FibRow r) = IsAddressIfAny r.gateway
+abbrev pub IsTold : Printing → Value → Type 0
+IsTold p (values.Attrs a) = HasAddresses p.v6 a
+IsTold p (values.Route r) = HasAddresses p.v6 r.attrs × IsFromOneOf p.peers r
+IsTold p (values.Interior r) = IsAddressIfAny p.v6 r.gateway
+IsTold p (values.External r) = IsAddress p.v6 r.next_hop
+IsTold p (values.FibRow r) = IsAddressIfAny p.v6 r.gateway
 
 -- in its ranges, and told by its text
-pub record IsWellTold (peers : ℕ → Option Neighbour) (value : Value) : Type 0 where
+pub record IsWellTold (p : Printing) (value : Value) : Type 0 where
   pub ranges : IsValue value
-  pub told : IsTold peers value
+  pub told : IsTold p value
 
 -- a value that can be printed
-pub record IsPrintable (peers : ℕ → Option Neighbour) (value : Value) : Type 0 where
-  pub well_told : IsWellTold peers value
-  pub short : HasShortText value
+pub record IsPrintable (p : Printing) (value : Value) : Type 0 where
+  pub well_told : IsWellTold p value
+  pub short : HasShortText p.v6 value
 
 -- ---- lines
 
@@ -101,12 +108,12 @@ octets_in (Note k octets) = octets
 octets_in other = []
 
 -- its links have numbers from 1, its numbers are in their ranges, and messages have room for what they hold
-pub record IsShortLine (line : Line) : Type 0 where
-  pub ranges : IsLine false line
-  pub values : AllByRecursion HasShortText (values_in line)
+pub record IsShortLine (v6 : Bool) (line : Line) : Type 0 where
+  pub ranges : IsLine v6 line
+  pub values : AllByRecursion (HasShortText v6) (values_in line)
   pub octets : length (octets_in line) ≤ 4096
 
 -- and its values are told by their texts
-pub record IsPrinted (peers : ℕ → Option Neighbour) (line : Line) : Type 0 where
-  pub short : IsShortLine line
-  pub told : AllByRecursion (IsTold peers) (values_in line)
+pub record IsPrinted (p : Printing) (line : Line) : Type 0 where
+  pub short : IsShortLine p.v6 line
+  pub told : AllByRecursion (IsTold p) (values_in line)

@@ -1,11 +1,14 @@
 //! Laws of printed lines: what the program prints of a lawful journal, `check` says is lawful.
 //!
-//! What is asked of a line that is printed stands in `specs/Printed`: the numbers of its links are from 1, each number is in
-//! its range, its attributes are such that some message has room for them, and a route's sender is the peer of its number.
-//! Then the line is short enough to be read, and is read as it was meant ([`printed_lines_are_short`],
-//! [`printed_lines_are_read`]), no two values have one text ([`values_are_told`]), and so the walk over the texts is the walk
-//! over the values ([`texts_are_walked`]). Together: of the text of lines whose entries obey the rules, nothing is to be said but
-//! that it is lawful ([`printed_is_lawful`]). Attributes that a peer said are such, and what a filter makes of them
+//! What is asked of a line that is printed stands in `specs/Printed`, over the network that says it (`Printing`: its family and its
+//! declared peers): the numbers of its links are from 1, each number is in its range, addresses and prefixes are the family's, its
+//! attributes are such that some message has room for them, and a route's sender is the peer of its number. Then the line is short
+//! enough to be read, and is read as it was meant ([`printed_lines_are_short`], [`printed_lines_are_read`]), no two values of a
+//! network have one text ([`values_are_told`]), and so the walk over the texts is the walk over the values ([`texts_are_walked`]).
+//!
+//! An output has lines of two networks, each with its family (`specs/FamilyLines`), and the entries of each family are a walk of
+//! their own. Of its text, where both walks obey the rules, nothing is to be said but that it is lawful ([`printed_is_lawful`]).
+//! Attributes that a peer said of a family are such as can be printed, and what a filter makes of them
 //! ([`what_was_read_is_printable`], [`filtered_routes_are_printable`]); and so are the entries of what one change of rows causes,
 //! where the rows are ([`falls_are_printed`]).
 //!
@@ -19,7 +22,7 @@
 
 ghost use Rattle.journal_laws.specs.Laws.{ReadIsPrintable, FilteredIsPrintable, PrintedLinesAreShort, PrintedLinesAreRead, ValuesAreTold, TextsAreWalked, TextsTellWalks, PrintedIsLawful, RefusedIsLawful, LawfulEndsLawful, FallsArePrinted, ChangesArePrinted};
 
-/// Attributes that a peer said in a message can be printed.
+/// Attributes that a peer said in a message of prefixes of either family can be printed as that family's.
 pub fn what_was_read_is_printable()
     ensures { ReadIsPrintable }
 {}
@@ -47,7 +50,8 @@ pub fn printed_lines_are_read()
     ensures { PrintedLinesAreRead }
 {}
 
-/// No two values have one text, where a peer is known by its number.
+/// No two values of a network have one text, where a peer is known by its number: in that of IPv6 too, whose addresses have colons
+/// as what stands between the words of a row has.
 pub fn values_are_told()
     ensures { ValuesAreTold }
 {}
@@ -58,8 +62,9 @@ pub fn texts_are_walked()
     ensures tells { TextsTellWalks }
 {}
 
-/// Of the text of lines whose entries obey the rules (NSDI 2005, section 5.1) it is to be said that it is lawful, whether
-/// the entries are printed or not, and also where a refused event ends it; so a run of `check` that answers says it.
+/// Of the text of lines of both networks, where the entries of each obey the rules (NSDI 2005, section 5.1), it is to be said that
+/// it is lawful, whether the entries are printed or not, and also where a refused event ends it; so a run of `check` that answers
+/// says it.
 pub fn printed_is_lawful()
     ensures judged { PrintedIsLawful }
     ensures refused { RefusedIsLawful }

@@ -1,6 +1,6 @@
 //! The exits of the second family: what an external and an internal peer are told of a route, and that it is gone, octet by octet.
 
-ghost use Rattle.std.specs.Prelude.{◌≡◌, OnOk, IfOk};
+ghost use Rattle.std.specs.Prelude.{◌≡◌, OnOk};
 ghost use Rattle.std.specs.Option.{ForSome};
 ghost use Rattle.std.specs.FinMap as map;
 ghost use Rattle.bgp_attr.specs.Routes.{Route as Routed};
@@ -10,7 +10,7 @@ ghost use Rattle.out_chain.specs.Chains.{RowsMayBeHeard};
 ghost use Rattle.exit_side.specs.Exits.{IsExits, AllStand};
 
 use crate::prefixes::prefix6;
-use crate::second_family::{HEARD, PROFILE, came_to, has_lines, heard, peer, site, speaker};
+use crate::second_family::{HEARD, PROFILE, came_to, has_lines, heard, peer, route, site, speaker};
 use addr4::{Memory, Prefix, Row};
 use addr6::V6;
 use bgp_attr::{Route, SharedAttrs};
@@ -25,20 +25,6 @@ use std::test::Fail;
 
 /// The rows of `best`.
 type Best = Cache<Route<SharedAttrs<V6>>, V6>;
-
-/// The route of peer 1, with a metric of 1 to its next hop.
-fn route(attrs: &SharedAttrs<V6>) -> Result<Route<SharedAttrs<V6>>, Memory>
-    ensures { IfOk result (λ row. row.attrs ≡ attrs.now) }
-{
-    Ok(Route {
-        attrs: attrs.copy()?,
-        pref: 100,
-        med: None,
-        prepend: 0,
-        igp: Some(1),
-        from: Some(peer(1, 65001)),
-    })
-}
 
 /// The first session of a peer begins, without rules for what goes out.
 fn begin(
@@ -149,8 +135,13 @@ fn announce(
 {
     begin(alloc, exits, 2, 65002, journal)?;
     begin(alloc, exits, 3, 65000, journal)?;
-    decide(exits, best, site(1), Some(route(attrs)?))?;
-    decide(exits, best, prefix6(0xff02 << 48, 16), Some(route(attrs)?))?;
+    decide(exits, best, site(1), Some(route(attrs.copy()?)))?;
+    decide(
+        exits,
+        best,
+        prefix6(0xff02 << 48, 16),
+        Some(route(attrs.copy()?)),
+    )?;
     let external = turns(exits, best, 2, journal)?;
     let internal = turns(exits, best, 3, journal)?;
     Ok([external, internal])

@@ -6,7 +6,7 @@ ghost use Rattle.peer_out.specs.Changes.{MayBeHeard, IsSender};
 use crate::prefixes::prefix6;
 use addr4::{Addr, Prefix, RouterId};
 use addr6::V6;
-use bgp_attr::{Neighbour, Profile, SharedAttrs, Speaker};
+use bgp_attr::{Neighbour, Profile, Route, SharedAttrs, Speaker};
 use bgp_wire::{Message, Said, Update, read_message};
 use journal_text::Journal;
 use link_change::Turn;
@@ -47,6 +47,20 @@ pub(crate) fn peer(number: u8, asn: u32) -> Neighbour
         addr: Addr::new(0xc000_0200 + u32::from(number)),
         internal: asn == 65000,
         client: false,
+    }
+}
+
+/// A route of peer 1, with a metric of 1 to its next hop.
+pub(crate) fn route(attrs: SharedAttrs<V6>) -> Route<SharedAttrs<V6>>
+    ensures { result.attrs ≡ attrs }
+{
+    Route {
+        attrs,
+        pref: 100,
+        med: None,
+        prepend: 0,
+        igp: Some(1),
+        from: Some(peer(1, 65001)),
     }
 }
 

@@ -3,7 +3,7 @@
 ghost use Rattle.std.specs.Option.{ForSome};
 ghost use Rattle.peer_out.specs.Changes.{IsSender, MayBeHeard, IsSentOf};
 
-use crate::second_family::{PROFILE, heard, peer, site, speaker};
+use crate::second_family::{PROFILE, heard, route, site, speaker};
 use addr4::Prefix;
 use addr6::V6;
 use bgp_attr::{Route, SharedAttrs};
@@ -62,14 +62,7 @@ fn tells(alloc: Global, exit: &PeerOut<V6>, row: &Route<SharedAttrs<V6>>) -> Res
 }
 
 fn tells_new(alloc: Global) -> Result<bool, Fail> {
-    let row = Route {
-        attrs: heard(alloc, HEARD_MORE)?,
-        pref: 100,
-        med: None,
-        prepend: 0,
-        igp: Some(1),
-        from: Some(peer(1, 65001)),
-    };
+    let row = route(heard(alloc, HEARD_MORE)?);
     let exit = PeerOut::new(alloc, PROFILE, speaker(), true);
     tells(alloc, &exit, &row)
 }

@@ -1,5 +1,5 @@
 -- Lines that are read, and may stand where they do, are accepted.
-use Rattle.std.proofs.Common.{◌≡◌, ℕ, ◌<◌, Bool, true, false, cond, nat_eq, List, [], ◌∷◌, length, Option, None, Ok, Err, refl, sym, ap, ◌∙◌, arith}
+use Rattle.std.proofs.Common.{◌≡◌, ℕ, ◌+◌, ◌<◌, Bool, true, false, cond, nat_eq, List, [], ◌∷◌, length, Option, None, Result, Ok, Err, refl, sym, ap, ◌∙◌, arith}
 use Rattle.std.specs.Prelude.{nat_le}
 use Rattle.std.specs.List.{AllByRecursion, flat_map, list_all}
 use Rattle.std.proofs.lemmas.List.{append-nil}
@@ -13,10 +13,16 @@ use Rattle.policy_rules.specs.Words.{words}
 use Rattle.bgp_attr.specs.declared.speaker.Profile.{Profile}
 use Rattle.event_text.specs.Events.{read_event, in_grammar, event_of}
 use Rattle.event_text.specs.Declarations.{Declaration, refusal}
+use Rattle.event_text.specs.declared.event.FileEvent.{FileEvent}
+use Rattle.event_text.specs.declared.event.FileEvent.TheVariants.{First}
+use Rattle.event_text.specs.FileEvents.{read_file, file_refusal}
+use Rattle.event_text.specs.FileLaws.{Ipv4LinesStay, Ipv4LinesMayStay}
+use Rattle.live_state.specs.Declared.{declared_after}
+use Rattle.router.specs.Told.{declared_behind}
 use Rattle.check_run.specs.Lines.{IsPart, lines_of, lines_in, ended}
 use Rattle.check_run.proofs.Cuts.{lines_done}
 use Rattle.journal_laws.proofs.LawfulTexts.{part_of, no_return}
-use Rattle.replay.specs.Judging.{judge, judged, placed}
+use Rattle.replay.specs.Judging.{judge, judged, placed, refused_or, verdict_from}
 
 -- ---- the lines of a text of clean lines
 
@@ -48,8 +54,19 @@ clean_lines ls h = ap lines_of (sym (append-nil (flat_map ended ls))) ∙ (lines
 
 -- ---- a line whose event may stand there
 
-pub accepts_line : (n : ℕ) (d : Declaration) (line : List ℕ) (e : Event) → n < 4294967296 → read_event d.profile line ≡ Ok e → refusal d e ≡ None → judge n d line ≡ Ok e
+accepts_event : (n : ℕ) (d : Declaration) (line : List ℕ) (e : FileEvent) → n < 4294967296 → read_file d.profile line ≡ Ok e → file_refusal d e ≡ None → judge n d line ≡ Ok e
 unfolding judge
-accepts_line n d line e few read free =
+accepts_event n d line e few read free =
     let early : nat_eq n 4294967296 ≡ false = grind (arith, nat_tests) in
     ap (judged n d) read ∙ (ap (λ (why : Option Code). placed n why e) free ∙ ap (λ b. cond b (Err E6) (Ok e)) early)
+
+-- a line of IPv4's network, in a file that may have words of IPv6
+module _ (reads : Ipv4LinesStay) (stays : Ipv4LinesMayStay) where
+  pub accepts_line : (n : ℕ) (d : Declaration) (line : List ℕ) (e : Event) → n < 4294967296 → read_event d.profile line ≡ Ok e → refusal d e ≡ None → judge n d line ≡ Ok (First e)
+  accepts_line n d line e few read free = accepts_event n d line (First e) few (reads d.profile line e read) (stays d e ∙ free)
+
+  -- and those behind it
+  pub accepts_then : (n : ℕ) (d : Declaration) (line : List ℕ) (lines : List (List ℕ)) (e : Event) → n < 4294967296 → read_event d.profile line ≡ Ok e → refusal d e ≡ None → verdict_from (n + 1) (declared_after d e) lines ≡ None
+      → verdict_from n d (line ∷ lines) ≡ None
+  accepts_then n d line lines e few read free later =
+      ap (λ (r : Result FileEvent Code). refused_or n r (λ f. verdict_from (n + 1) (declared_behind d f) lines)) (accepts_line n d line e few read free) ∙ later

@@ -1,9 +1,8 @@
 -- No line of what a capture gives is refused.
-use Rattle.std.proofs.Common.{not, ◌≡◌, ◌⊎◌, ℕ, ◌+◌, ◌≤◌, ◌&&◌, Bool, true, false, cond, List, [], ◌∷◌, ◌++◌, map, length, Option, Some, None, Result, refl, sym, ap, ◌∙◌, inl, inr, arith}
+use Rattle.std.proofs.Common.{not, ◌≡◌, ◌⊎◌, ℕ, ◌+◌, ◌≤◌, ◌&&◌, Bool, true, false, cond, List, [], ◌∷◌, ◌++◌, map, length, Option, Some, None, refl, sym, ap, ◌∙◌, inl, inr, arith}
 use Rattle.std.specs.List.{AllByRecursion, flat_map}
 use Rattle.std.proofs.lemmas.List.Concat.{flat_map-append}
-use Rattle.journal_text.specs.declared.line.Code.{Code}
-use Rattle.event_text.specs.Event.{Event}
+use Rattle.event_text.specs.FileLaws.{Ipv4LinesStay, Ipv4LinesMayStay}
 use Rattle.event_text.specs.declared.declared.DeclaredPeer.{DeclaredPeer}
 use Rattle.event_text.specs.Declarations.{Declaration, no_declaration, peer_at, with_session, without_session}
 use Rattle.live_state.specs.Declared.{declared_after, declared_up, declared_down, declared_heard}
@@ -15,9 +14,9 @@ use Rattle.mrt_reader.specs.Files.{IsSound, IsTextOf}
 use Rattle.mrt_reader.specs.Order.{HasBytes, LinesAreFew, file_lines}
 use Rattle.capture_laws.specs.Readings.{line_bytes, event_of_line, Declares, AreAccepted, LinesAreAccepted}
 use Rattle.check_run.specs.Lines.{lines_of, ended}
-use Rattle.replay.specs.Judging.{verdict_from, refused_or}
+use Rattle.replay.specs.Judging.{verdict_from}
 use Rattle.replay.specs.Answers.{CapturesAreAccepted}
-use Rattle.replay.proofs.Accepted.{AreClean, clean_line, clean_lines, accepts_line}
+use Rattle.replay.proofs.Accepted.{AreClean, clean_line, clean_lines, accepts_then}
 
 -- ---- what the events make of the declarations
 
@@ -58,11 +57,10 @@ all_clean : (d : Declaration) (ls : List Line) → AreAccepted declared_after d 
 all_clean d [] h = tt
 all_clean d (l ∷ ls) h = (clean_line d.profile (line_bytes l) (event_of_line l) h.0, all_clean (declared_after d (event_of_line l)) ls h.2)
 
-all_judged : (n : ℕ) (d : Declaration) (ls : List Line) → n + length ls ≤ 4294967296 → AreAccepted declared_after d ls → verdict_from n d (map line_bytes ls) ≡ None
-all_judged n d [] few h = refl
-all_judged n d (l ∷ ls) few h =
-    ap (λ (r : Result Event Code). refused_or n r (λ f. verdict_from (n + 1) (declared_after d f) (map line_bytes ls))) (accepts_line n d (line_bytes l) (event_of_line l) (omega (arith, few)) h.0 h.1)
-    ∙ all_judged (n + 1) (declared_after d (event_of_line l)) ls (omega (arith, few)) h.2
+all_judged : Ipv4LinesStay → Ipv4LinesMayStay → (n : ℕ) (d : Declaration) (ls : List Line) → n + length ls ≤ 4294967296 → AreAccepted declared_after d ls → verdict_from n d (map line_bytes ls) ≡ None
+all_judged reads stays n d [] few h = refl
+all_judged reads stays n d (l ∷ ls) few h =
+    accepts_then reads stays n d (line_bytes l) (map line_bytes ls) (event_of_line l) (omega (arith, few)) h.0 h.1 (all_judged reads stays (n + 1) (declared_after d (event_of_line l)) ls (omega (arith, few)) h.2)
 
 text_ended : (ls : List Line) → text_of ls ≡ flat_map ended (map line_bytes ls)
 text_ended [] = refl
@@ -79,11 +77,11 @@ whole_text as4 file text is =
     let ls = records_lines as4 nothing_written is.read.records in
     is.said ∙ ((λ i. is.read.lines i ++ text_of (closing (is.read.behind i))) ∙ sym (flat_map-append line_text ls (closing (after_all nothing_written ls))))
 
-pub captures_accepted : LinesAreAccepted → LinesAreFew → CapturesAreAccepted
-captures_accepted accepted few as4 file text is =
+pub captures_accepted : Ipv4LinesStay → Ipv4LinesMayStay → LinesAreAccepted → LinesAreFew → CapturesAreAccepted
+captures_accepted reads stays accepted few as4 file text is =
     let rs = is.read.records in
     let ls = file_lines as4 rs in
     let all : AreAccepted declared_after (no_declaration false) ls = accepted declared_after declares as4 rs (all_bytes as4 rs is.read.each) in
     let short : 1 + length ls ≤ 4294967296 = omega (arith, few as4 rs, is.read.count, is.read.few) in
     ap (verdict_from 1 (no_declaration false)) (ap lines_of (whole_text as4 file text is ∙ text_ended ls) ∙ clean_lines (map line_bytes ls) (all_clean (no_declaration false) ls all))
-    ∙ all_judged 1 (no_declaration false) ls short all
+    ∙ all_judged reads stays 1 (no_declaration false) ls short all

@@ -4,8 +4,8 @@ use Rattle.std.proofs.lemmas.List.{append-nil}
 use Rattle.std.proofs.Math.Seq.{take-append_seam, take-length}
 use Rattle.std.specs.Io.KnownBytes.{Appends, Consumes, IsAtEnd, Keeps}
 use Rattle.replay.proofs.LiveLines.{lives_through}
-use Rattle.replay.proofs.FirstLinks.{none_at_first}
 use Rattle.replay.proofs.HeardLemmas.{nobody_hears, nothing_sent}
+use Rattle.replay.proofs.Journals.{nothing_said}
 use Rattle.mrt_reader.specs.Sessions.{nothing_written}
 use Rattle.mrt_reader.proofs.FileLemmas.{nothing_read}
 use Rattle.capture_run.specs.Answers.{IsTextOfFirst}
@@ -15,11 +15,10 @@ use Rattle.event_gen.specs.Lines.{text}
 use Rattle.replay.specs.Answers.{HasFirst}
 use Rattle.replay.specs.declared.status.Status.{Status}
 use Rattle.replay.specs.declared.status.Status.TheVariants as statuses
-use Rattle.router_moments.specs.Stands.{Stands}
-use Rattle.router_moments.specs.Moments.{Moment, first_moment}
+use Rattle.router.specs.Networks.{Networks, first_networks}
 use Rattle.check_run.specs.Lines.{lines_of, lines_in}
 use Rattle.replay.specs.Judging.{verdict, status_of}
-use Rattle.replay.specs.Output.{IsOutput, IsRefusedOutput, IsOutputOfFront, IsOutputOfEnded, IsFrontOfOutput}
+use Rattle.replay.specs.Output.{AllStand, IsOutput, IsRefusedOutput, IsOutputOfFront, IsOutputOfEnded, IsFrontOfOutput}
 use Rattle.replay.specs.Stream.{HasStepped, GoesOn, IsFrontAt}
 use Rattle.check_run.specs.Runs.{Took, ReadsAndWrites}
 use Rattle.replay.specs.Headline.{Progress}
@@ -40,7 +39,7 @@ took_all (Some text) None taken0 taken read bytes P c e a h = absurd c
 took_all (Some text) (Some more) taken0 taken read bytes P c e a h = (read, bytes, sym (c ∙ (ap (λ t. read ++ t) e ∙ append-nil read)), a, h)
 
 -- what was stepped is an allowed output of some first lines, however the text goes on
-pub stepped_front : (quiet : Bool) (read : List ℕ) (number : ℕ) (m : Moment) (turns : ℕ) (pending output : List ℕ) → HasStepped quiet read number m turns pending output → (more : List ℕ) → IsOutputOfFront quiet (read ++ more) output
+pub stepped_front : (quiet : Bool) (read : List ℕ) (number : ℕ) (m : Networks) (turns : ℕ) (pending output : List ℕ) → HasStepped quiet read number m turns pending output → (more : List ℕ) → IsOutputOfFront quiet (read ++ more) output
 stepped_front quiet read number m turns pending output s more =
     let front : take (length (lines_in s.done)) (lines_of (read ++ more)) ≡ lines_in s.done = ap (take (length (lines_in s.done))) (lines_behind read s.done pending more s.cut) ∙ take-append_seam (lines_in s.done) (lines_of (pending ++ more)) in
     record {
@@ -49,14 +48,14 @@ stepped_front quiet read number m turns pending output s more =
     }
 
 -- no memory for a piece that was read
-pub took_front : (quiet : Bool) (left0 left now taken0 taken taken' : Option (List ℕ)) (number : ℕ) (m : Moment) (turns : ℕ) (pending piece : List ℕ) → Progress quiet left0 left taken0 taken number m turns pending → Consumes left now piece → taken' ≡ taken → Took left0 taken0 taken' (IsOutputOfFront quiet)
+pub took_front : (quiet : Bool) (left0 left now taken0 taken taken' : Option (List ℕ)) (number : ℕ) (m : Networks) (turns : ℕ) (pending piece : List ℕ) → Progress quiet left0 left taken0 taken number m turns pending → Consumes left now piece → taken' ≡ taken → Took left0 taken0 taken' (IsOutputOfFront quiet)
 took_front quiet left0 left now taken0 taken taken' number m turns pending piece p c same =
     subst (λ (t : Option (List ℕ)). Took left0 taken0 t (IsOutputOfFront quiet)) (sym same)
     (took_read left0 now taken0 taken (p.read ++ piece) p.written (IsOutputOfFront quiet) (consumes_then left0 left now p.read piece p.consumed c) p.appended
     (λ more. subst (λ (t : List ℕ). IsOutputOfFront quiet t p.written) (sym (append_assoc p.read piece more)) (stepped_front quiet p.read number m turns pending p.written p.stepped (piece ++ more))))
 
 -- a read that failed
-pub took_ended : (quiet : Bool) (left0 left now taken0 taken : Option (List ℕ)) (number : ℕ) (m : Moment) (turns : ℕ) (pending : List ℕ) → length pending < 16386 → Progress quiet left0 left taken0 taken number m turns pending → Keeps left now → ReadsAndWrites left0 now taken0 taken (IsOutputOfEnded quiet)
+pub took_ended : (quiet : Bool) (left0 left now taken0 taken : Option (List ℕ)) (number : ℕ) (m : Networks) (turns : ℕ) (pending : List ℕ) → length pending < 16386 → Progress quiet left0 left taken0 taken number m turns pending → Keeps left now → ReadsAndWrites left0 now taken0 taken (IsOutputOfEnded quiet)
 took_ended quiet left0 left now taken0 taken number m turns pending short p same = (
   p.read,
   p.written,
@@ -70,7 +69,7 @@ took_ended quiet left0 left now taken0 taken number m turns pending short p same
 )
 
 -- a front of what was to be written for lines that were stepped, or refused
-pub written_front : (quiet accepted : Bool) (read taken : List ℕ) (piece before now more rest : List ℕ) (old new : ℕ × Moment × ℕ × List ℕ) → GoesOn quiet accepted old piece before now new → HasStepped quiet read old.0 old.1 old.2 old.3 (taken ++ before) → now ≡ more ++ rest → IsFrontAt quiet (read ++ piece) (taken ++ more)
+pub written_front : (quiet accepted : Bool) (read taken : List ℕ) (piece before now more rest : List ℕ) (old new : ℕ × Networks × ℕ × List ℕ) → GoesOn quiet accepted old piece before now new → HasStepped quiet read old.0 old.1 old.2 old.3 (taken ++ before) → now ≡ more ++ rest → IsFrontAt quiet (read ++ piece) (taken ++ more)
 written_front quiet true read taken piece before now more rest old new f s e = λ later. record {
   whole = taken ++ now;
   rest = rest;
@@ -123,7 +122,7 @@ of_read (Some text) None read P c h = absurd c
 of_read (Some text) (Some more) read P c h = subst P (sym c) (h more)
 
 accepted_status : (quiet : Bool) (text bytes : List ℕ) → IsOutput quiet (lines_of text) bytes → statuses.Ok ≡ status_of (verdict text)
-accepted_status quiet text bytes o = ap status_of (sym (verdict_accepted 1 (first_moment false) o.end (lines_of text) o.out o.run))
+accepted_status quiet text bytes o = ap status_of (sym (verdict_accepted 1 first_networks o.end (lines_of text) o.out o.run))
 
 pub refused_status : (quiet : Bool) (text bytes : List ℕ) → IsRefusedOutput quiet text bytes → statuses.Refused ≡ status_of (verdict text)
 refused_status quiet text bytes o = ap status_of (sym o.refused)
@@ -133,19 +132,19 @@ pub ended_status : (quiet : Bool) (status : Status) (text written : List ℕ) �
 ended_status quiet status text written f g = ⊎_elim (λ is. is ∙ accepted_status quiet text _ (f is).1) (λ is. is ∙ refused_status quiet text _ (g is).1)
 
 -- the same, by what is known of the journal
-pub stepped_as : (quiet other : Bool) (read : List ℕ) (number : ℕ) (m : Moment) (turns : ℕ) (pending output : List ℕ) → other ≡ quiet → HasStepped quiet read number m turns pending output → HasStepped other read number m turns pending output
+pub stepped_as : (quiet other : Bool) (read : List ℕ) (number : ℕ) (m : Networks) (turns : ℕ) (pending output : List ℕ) → other ≡ quiet → HasStepped quiet read number m turns pending output → HasStepped other read number m turns pending output
 stepped_as quiet other read number m turns pending output e s = subst (λ (q : Bool). HasStepped q read number m turns pending output) (sym e) s
 
 -- no line was stepped
-first_output : Stands (first_moment false) → (quiet : Bool) (text : List ℕ) → IsOutputOfFront quiet text []
+first_output : AllStand first_networks → (quiet : Bool) (text : List ℕ) → IsOutputOfFront quiet text []
 first_output stands quiet text = record {
   count = 0;
   output = record {
     out = [];
-    end = (first_moment false);
+    end = first_networks;
     run = (refl, refl);
-    lawful = record { lawful = tt; ends = none_at_first };
-    live = lives_through [] [] (first_moment false) (refl, refl);
+    lawful = nothing_said;
+    live = lives_through [] [] first_networks (refl, refl);
     heard = nobody_hears;
     sent = nothing_sent;
     stands = stands;
@@ -153,7 +152,7 @@ first_output stands quiet text = record {
   };
 }
 
-took_first : Stands (first_moment false) → (quiet : Bool) (left taken : Option (List ℕ)) → Took left taken taken (IsOutputOfFront quiet)
+took_first : AllStand first_networks → (quiet : Bool) (left taken : Option (List ℕ)) → Took left taken taken (IsOutputOfFront quiet)
 took_first stands quiet None taken = ([], [], tt, appends_nothing taken, first_output stands quiet [])
 took_first stands quiet (Some text) taken = (text, [], refl, appends_nothing taken, first_output stands quiet text)
 
@@ -165,7 +164,7 @@ took_none as4 None taken = ([], [], tt, appends_nothing taken, no_records as4 []
 took_none as4 (Some file) taken = (file, [], refl, appends_nothing taken, no_records as4 file)
 
 -- there was no memory for the words
-pub no_words : Stands (first_moment false) → (command : Option Command) (left taken : Option (List ℕ)) → HasFirst command left taken taken
+pub no_words : AllStand first_networks → (command : Option Command) (left taken : Option (List ℕ)) → HasFirst command left taken taken
 no_words stands (Some (Run quiet)) left taken = took_first stands quiet left taken
 no_words stands (Some (Gen seed count quiet)) left taken = ([], appends_nothing taken, first_output stands quiet (text seed count))
 no_words stands (Some Check) left taken = refl

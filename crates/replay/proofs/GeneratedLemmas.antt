@@ -6,7 +6,7 @@ use Rattle.check_run.proofs.Pieces.{lines_behind}
 use Rattle.std.proofs.Math.Seq.{take-append_seam}
 use Rattle.check_run.specs.Runs.{Took, Writes, ReadsAndWrites, IsFrontOf}
 use Rattle.check_run.proofs.Known.{appends_then}
-use Rattle.router_moments.specs.Moments.{Moment}
+use Rattle.router.specs.Networks.{Networks}
 use Rattle.replay.specs.Output.{IsOutput, IsOutputTo, IsOutputOfFront, IsOutputOfEnded, IsFrontOfOutput}
 use Rattle.replay.specs.Totals.{AreTotals, IsWholeOutput, IsFrontOfWhole}
 use Rattle.replay.proofs.Endings.{whole_front}
@@ -16,14 +16,14 @@ pub of_told : (text : List ℕ) (before now : Option (List ℕ)) (P : List ℕ �
 of_told text before now P t = (t.1, t.3, subst (λ (x : List ℕ). P x t.1) t.2 t.4)
 
 -- without totals
-pub plain_whole : (totalled quiet : Bool) (left a b : Option (List ℕ)) (m : Moment) (turns : ℕ) → totalled ≡ false → Took left a b (λ text bytes. IsOutputTo quiet (lines_of text) bytes m turns) → Took left a b (IsWholeOutput totalled quiet)
+pub plain_whole : (totalled quiet : Bool) (left a b : Option (List ℕ)) (m : Networks) (turns : ℕ) → totalled ≡ false → Took left a b (λ text bytes. IsOutputTo quiet (lines_of text) bytes m turns) → Took left a b (IsWholeOutput totalled quiet)
 plain_whole totalled quiet left a b m turns none f = subst (λ (t : Bool). Took left a b (IsWholeOutput t quiet)) (sym none) (f.0, f.1, f.2, f.3, f.4.output)
 
 pub plain_front : (totalled quiet : Bool) (left a b : Option (List ℕ)) → totalled ≡ false → Took left a b (IsFrontOfOutput quiet) → Took left a b (IsFrontOfWhole totalled quiet)
 plain_front totalled quiet left a b none f = subst (λ (t : Bool). Took left a b (IsFrontOfWhole t quiet)) (sym none) f
 
 -- the output of all events, and the totals behind it
-pub totalled_whole : (totalled quiet : Bool) (left a b c : Option (List ℕ)) (m : Moment) (turns : ℕ) → totalled ≡ true → Took left a b (λ text bytes. IsOutputTo quiet (lines_of text) bytes m turns) → Writes b c (AreTotals m turns) → Took left a c (IsWholeOutput totalled quiet)
+pub totalled_whole : (totalled quiet : Bool) (left a b c : Option (List ℕ)) (m : Networks) (turns : ℕ) → totalled ≡ true → Took left a b (λ text bytes. IsOutputTo quiet (lines_of text) bytes m turns) → Writes b c (AreTotals m.first turns) → Took left a c (IsWholeOutput totalled quiet)
 totalled_whole totalled quiet left a b c m turns asked f g = subst (λ (t : Bool). Took left a c (IsWholeOutput t quiet)) (sym asked) (
   f.0,
   f.1 ++ g.0,
@@ -33,12 +33,12 @@ totalled_whole totalled quiet left a b c m turns asked f g = subst (λ (t : Bool
 )
 
 -- no memory for the totals
-pub untotalled : (quiet : Bool) (left a b c : Option (List ℕ)) (m : Moment) (turns : ℕ) → Took left a b (λ text bytes. IsOutputTo quiet (lines_of text) bytes m turns) → c ≡ b → Took left a c (IsOutputOfFront quiet)
+pub untotalled : (quiet : Bool) (left a b c : Option (List ℕ)) (m : Networks) (turns : ℕ) → Took left a b (λ text bytes. IsOutputTo quiet (lines_of text) bytes m turns) → c ≡ b → Took left a c (IsOutputOfFront quiet)
 untotalled quiet left a b c m turns f same = (f.0, f.1, f.2, subst (λ (t : Option (List ℕ)). Appends a t f.1) (sym same) f.3, whole_front quiet f.0 f.1 f.4.output)
 
 -- a write of the totals that failed
-pub totalled_front : (totalled quiet : Bool) (left a b c : Option (List ℕ)) (m : Moment) (turns : ℕ) → totalled ≡ true → Took left a b (λ text bytes. IsOutputTo quiet (lines_of text) bytes m turns)
-    → Writes b c (λ more. (totals : List ℕ) × AreTotals m turns totals × IsFrontOf totals more) → Took left a c (IsFrontOfWhole totalled quiet)
+pub totalled_front : (totalled quiet : Bool) (left a b c : Option (List ℕ)) (m : Networks) (turns : ℕ) → totalled ≡ true → Took left a b (λ text bytes. IsOutputTo quiet (lines_of text) bytes m turns)
+    → Writes b c (λ more. (totals : List ℕ) × AreTotals m.first turns totals × IsFrontOf totals more) → Took left a c (IsFrontOfWhole totalled quiet)
 totalled_front totalled quiet left a b c m turns asked f g = subst (λ (t : Bool). Took left a c (IsFrontOfWhole t quiet)) (sym asked)
     (let totals = g.2.0 in
     let front = g.2.2 in (

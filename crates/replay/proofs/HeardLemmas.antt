@@ -2,8 +2,6 @@
 use Rattle.std.proofs.Common.{◌≡◌, ℕ, ◌&&◌, Bool, true, false, cond, nat_eq, List, [], ◌++◌, Option, Some, None, refl, sym, ap, subst, ◌∙◌, arith}
 use Rattle.std.specs.Prelude.{IsSome, option_map}
 use Rattle.std.specs.FinMap as tables
-use Rattle.std.specs.FinMap.{get-empty}
-use Rattle.std.specs.Ordering.{nat_cmp}
 use Rattle.std.proofs.lemmas.Bool.Decides.{nat_tests}
 use Rattle.bgp_attr.specs.Attributes.{Attrs}
 use Rattle.bgp_attr.specs.Speakers.{Speaker}
@@ -15,33 +13,41 @@ use Rattle.journal_text.specs.declared.link.Link.TheVariants.{Adv}
 use Rattle.journal_text.specs.Lines.{Value}
 use Rattle.journal_text.specs.Values.{attrs_value, attrs_rows}
 use Rattle.event_text.specs.declared.declared.DeclaredPeer.{DeclaredPeer}
-use Rattle.event_text.specs.Declarations.{peer_at}
+use Rattle.event_text.specs.Declarations.{peer_at, plain_of}
+use Rattle.journal_laws.specs.FamilyLines.{FamilyLine, lines_in}
+use Rattle.journal_laws.proofs.FamilyTexts.{lines_in_append}
 use Rattle.journal_laws.specs.Peers.{neighbours, KeepsPeers}
 use Rattle.live_state.specs.Decided.{sent_rows, in_session, best_of, from_scratch}
-use Rattle.live_state.specs.Heard.{no_views, Hears}
+use Rattle.live_state.specs.Heard.{no_views}
 use Rattle.out_chain.specs.Chains.{OutChained}
 use Rattle.exit_side.specs.Exits.{chain_at as exit_at}
 use Rattle.exit_laws.specs.Views.{sent_by, views_of}
 use Rattle.exit_laws.specs.Laws.{HearingJoins, HearingStays, HeardIsSent}
-use Rattle.router_moments.specs.Moments.{Moment, Policies, first_moment, best_of as best_now, router_links, rules_to}
+use Rattle.router_moments.specs.Moments.{Moment, Policies, best_of as best_now, router_links, rules_to}
+use Rattle.router_moments.specs.Printable.{IsHeard}
 use Rattle.router_moments.specs.Peers.{is_up}
 use Rattle.router_moments.specs.Stands.{Stands, ExitsAt, AllHaveExits}
 use Rattle.router_moments.specs.Lives.{live_state}
 use Rattle.router_moments.specs.Scratch.{IsExact}
+use Rattle.router.specs.Networks.{Networks, OfSecond, first_networks}
 use Rattle.replay.specs.Heard.{AreHeard, AreSent, AreBest}
+use Rattle.replay.specs.Output.{JournalsLead, AllAreHeard, AllAreSent}
+use Rattle.replay.proofs.Acted.{SecondMoves, NetworksMove}
+use Rattle.replay.proofs.FirstLinks.{no_view, no_view_at_start}
+use Rattle.replay.proofs.Follows.{Moves}
 
 -- ---- at first
-no_view : (j : ℕ) → views_of (first_moment false).exits j ≡ tables.empty
-no_view j = ap sent_by (get-empty nat_cmp j)
+pub nobody_hears : AllAreHeard [] first_networks
+nobody_hears = (no_view_at_start false (plain_of false), tt)
 
-pub nobody_hears : AreHeard [] (first_moment false)
-nobody_hears = same_function _ _ no_view
-
-pub nothing_sent : AreSent (first_moment false) (views_of (first_moment false).exits)
-nothing_sent = record {
-  up = λ j p there up. absurd (let clash : ◌≡◌ {A = Option DeclaredPeer} None (Some p) = there in cc);
-  down = λ j down. no_view j;
-}
+pub nothing_sent : AllAreSent first_networks
+nothing_sent = (
+  record {
+    up = λ j p there up. absurd (let clash : ◌≡◌ {A = Option DeclaredPeer} None (Some p) = there in cc);
+    down = λ j down. no_view false (plain_of false) j;
+  },
+  tt,
+)
 
 -- ---- at any moment
 -- whose session an exit is
@@ -107,9 +113,26 @@ are_best m sent exact me j p local there up =
     same_rows (tables.get (views_of m.exits j)) rows (sym (sent.up j p there up) ∙ exact (Adv j p.session) ∙ scratch)
 
 -- ---- one line after the other
-pub hears_on : HearingJoins → HearingStays → (old new : Moment) (earlier said : List Line) → KeepsPeers old.declared new.declared
-    → Hears old.declared.profile (neighbours old.declared) (views_of old.exits) said (views_of new.exits) → AreHeard earlier old → AreHeard (earlier ++ said) new
-hears_on joins stays old new earlier said keeps heard before =
-    joins new.declared.profile (neighbours new.declared) no_views (views_of old.exits) (views_of new.exits) earlier said
-    (stays old.declared new.declared no_views (views_of old.exits) earlier keeps before)
-    (stays old.declared new.declared (views_of old.exits) (views_of new.exits) said keeps heard)
+module _ (joins : HearingJoins) (stays : HearingStays) where
+  hears_on : (old new : Moment) (earlier said : List Line) → KeepsPeers old.declared new.declared → IsHeard old said new → AreHeard earlier old → AreHeard (earlier ++ said) new
+  hears_on old new earlier said keeps heard before =
+      joins new.declared.profile (neighbours new.declared) no_views (views_of old.exits) (views_of new.exits) earlier said
+      (stays old.declared new.declared no_views (views_of old.exits) earlier keeps before)
+      (stays old.declared new.declared (views_of old.exits) (views_of new.exits) said keeps heard)
+
+  moved : (old new : Moment) (earlier own : List Line) → Moves old own new → AreHeard earlier old → AreHeard (earlier ++ own) new
+  moved old new earlier own moves before = hears_on old new earlier own moves.followed.peers moves.heard before
+
+  -- of the second network, which may begin
+  second_moved : (o o' : Option Moment) (earlier own : List Line) → SecondMoves o own o' → (o ≡ None → earlier ≡ []) → OfSecond (AreHeard earlier) o → OfSecond (AreHeard (earlier ++ own)) o'
+  second_moved o None earlier own moves none before = tt
+  second_moved None (Some m') earlier own moves none before =
+      subst (λ (ls : List Line). AreHeard (ls ++ own) m') (sym (none refl)) (moved moves.0 m' [] own moves.2 moves.1.views)
+  second_moved (Some m) (Some m') earlier own moves none before = moved m m' earlier own moves before
+
+  pub networks_hear : (old new : Networks) (earlier said : List FamilyLine) → NetworksMove old said new → JournalsLead earlier old → AllAreHeard earlier old → AllAreHeard (earlier ++ said) new
+  networks_hear old new earlier said moves lead before = (
+    subst (λ (ls : List Line). AreHeard ls new.first) (sym (lines_in_append false earlier said)) (moved old.first new.first (lines_in false earlier) (lines_in false said) moves.first before.0),
+    subst (λ (ls : List Line). OfSecond (AreHeard ls) new.second) (sym (lines_in_append true earlier said))
+        (second_moved old.second new.second (lines_in true earlier) (lines_in true said) moves.second lead.none before.1),
+  )

@@ -1,16 +1,23 @@
 pub mod Lines
+pub mod Shares
+pub mod Follows
 pub mod FirstLinks
+pub mod Spoken
+pub mod Acted
 pub mod Runs
+pub mod Sound
 pub mod LiveLines
+pub mod HeardLemmas
+pub mod Journals
+mod SettledLinks
 pub mod Steps
 pub mod Pieces
 pub mod GoingOn
 pub mod Endings
-mod SettledLinks
-pub mod HeardLemmas
+pub mod Asking
 pub mod RefreshLemmas
 pub mod ReflectionLemmas
-pub mod Counted
+pub mod ApartLemmas
 pub mod SkippedTexts
 pub mod Totalled
 pub mod Checked

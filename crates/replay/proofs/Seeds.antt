@@ -1,17 +1,17 @@
 -- No line of a seed is refused.
-use Rattle.std.proofs.Common.{◌≡◌, ℕ, zero, suc, ◌+◌, ◌%◌, ◌<◌, ◌≤◌, ◌&&◌, Bool, true, false, not, cond, nat_eq, List, [], ◌∷◌, ◌++◌, map, length, Option, Some, None, is_some, Result, Ok, refl, sym, ap, subst, ◌∙◌, arith, length-append}
+use Rattle.std.proofs.Common.{◌≡◌, ℕ, zero, suc, ◌+◌, ◌%◌, ◌<◌, ◌≤◌, ◌&&◌, Bool, true, false, not, cond, nat_eq, List, [], ◌∷◌, ◌++◌, map, length, Option, Some, None, is_some, Ok, refl, sym, ap, subst, ◌∙◌, arith, length-append}
 use Rattle.std.specs.Prelude.{◌/◌, nat_lt}
 use Rattle.std.specs.List.{AllByRecursion, flat_map}
 use Rattle.std.proofs.lemmas.List.{length-map}
 use Rattle.std.proofs.lemmas.Bool.Decides.{nat_tests}
 use Rattle.bgp_attr.specs.Speakers.{Speaker}
 use Rattle.bgp_attr.specs.declared.speaker.Neighbour.{Neighbour}
-use Rattle.journal_text.specs.declared.line.Code.{Code}
 use Rattle.journal_text.specs.declared.line.Code.TheVariants.{E6}
 use Rattle.event_text.specs.Event.{Event}
 use Rattle.event_text.specs.declared.declared.DeclaredPeer.{DeclaredPeer}
 use Rattle.bgp_attr.specs.declared.speaker.Profile.{Profile}
 use Rattle.event_text.specs.Events.{read_event}
+use Rattle.event_text.specs.FileLaws.{Ipv4LinesStay, Ipv4LinesMayStay}
 use Rattle.event_text.specs.Declarations.{plain, Declaration, no_declaration, refusal, refusal_at, refusal_by, session_refusal, undeclared, rules_refusal, peer_at, begun_at, ended_at, with_session, without_session}
 use Rattle.live_state.specs.Declared.{declared_after, declared_up, declared_down, declared_heard}
 use Rattle.live_state.specs.Messages.{ends_session}
@@ -24,9 +24,9 @@ use Rattle.event_gen.specs.declared.drawn.Work.TheVariants as works
 use Rattle.event_gen.specs.declared.drawn.Drawn.{Drawn}
 use Rattle.event_gen.specs.declared.drawn.Drawn.TheVariants as drawn
 use Rattle.check_run.specs.Lines.{lines_of, ended}
-use Rattle.replay.specs.Judging.{verdict_from, refused_or}
+use Rattle.replay.specs.Judging.{verdict_from}
 use Rattle.replay.specs.Answers.{SeedsAreAccepted}
-use Rattle.replay.proofs.Accepted.{AreClean, clean_line, clean_lines, accepts_line}
+use Rattle.replay.proofs.Accepted.{AreClean, clean_line, clean_lines, accepts_then}
 use Rattle.command_line.specs.Commands.{most_events}
 
 -- ---- the lines of a text whose lines are read
@@ -47,12 +47,12 @@ abbrev AreAdmitted : Declaration → List Event → Type 0
 AreAdmitted d [] = Unit {0}
 AreAdmitted d (e ∷ es) = (d.profile ≡ plain) × (refusal d e ≡ None) × AreAdmitted (declared_after d e) es
 
-accepts_lines : (n : ℕ) (d : Declaration) (ls : List (List ℕ)) (es : List Event) → n + length ls ≤ 4294967296 → AreReadAs ls es → AreAdmitted d es → verdict_from n d ls ≡ None
-accepts_lines n d [] es few h free = refl
-accepts_lines n d (l ∷ ls) [] few h free = absurd h
-accepts_lines n d (l ∷ ls) (e ∷ es) few h free =
-    ap (λ (r : Result Event Code). refused_or n r (λ f. verdict_from (n + 1) (declared_after d f) ls)) (accepts_line n d l e (omega (arith, few)) (subst (λ (p : Profile). read_event p l ≡ Ok e) (sym free.0) h.0) free.1)
-    ∙ accepts_lines (n + 1) (declared_after d e) ls es (omega (arith, few)) h.1 free.2
+accepts_lines : Ipv4LinesStay → Ipv4LinesMayStay → (n : ℕ) (d : Declaration) (ls : List (List ℕ)) (es : List Event) → n + length ls ≤ 4294967296 → AreReadAs ls es → AreAdmitted d es → verdict_from n d ls ≡ None
+accepts_lines reads stays n d [] es few h free = refl
+accepts_lines reads stays n d (l ∷ ls) [] few h free = absurd h
+accepts_lines reads stays n d (l ∷ ls) (e ∷ es) few h free =
+    accepts_then reads stays n d l ls e (omega (arith, few)) (subst (λ (p : Profile). read_event p l ≡ Ok e) (sym free.0) h.0) free.1
+    (accepts_lines reads stays (n + 1) (declared_after d e) ls es (omega (arith, few)) h.1 free.2)
 
 -- ---- the events of a seed may
 
@@ -321,7 +321,7 @@ drawn_length (suc n) x = omega (arith, drawn_length n (behind_draws x))
 few_lines : (seed count : ℕ) → length (meanings seed count) ≡ count + 11
 few_lines seed count = omega (arith, length-map (draws.events_from count seed ++ drawn.Idle ∷ []) meant, length-append (draws.events_from count seed) (drawn.Idle ∷ []), drawn_length count seed)
 
-pub accepted : LinesAreRead → SeedsAreAccepted
-accepted reads seed count few =
-    ap (verdict_from 1 (no_declaration false)) (lines_read (lines seed count) (meanings seed count) (reads seed count))
-    ∙ accepts_lines 1 (no_declaration false) (lines seed count) (meanings seed count) (omega (arith, few, same_length (lines seed count) (meanings seed count) (reads seed count), few_lines seed count)) (reads seed count) (admitted seed count few)
+pub accepted : Ipv4LinesStay → Ipv4LinesMayStay → LinesAreRead → SeedsAreAccepted
+accepted reads stays said seed count few =
+    ap (verdict_from 1 (no_declaration false)) (lines_read (lines seed count) (meanings seed count) (said seed count))
+    ∙ accepts_lines reads stays 1 (no_declaration false) (lines seed count) (meanings seed count) (omega (arith, few, same_length (lines seed count) (meanings seed count) (said seed count), few_lines seed count)) (said seed count) (admitted seed count few)

@@ -10,7 +10,7 @@ use Rattle.std.specs.Fmt.{decimal}
 use Rattle.addr4.specs.Texts.{parts}
 use Rattle.journal_text.specs.Lines.{Line}
 use Rattle.journal_text.specs.declared.line.Line.TheVariants.{Ignored}
-use Rattle.journal_text.specs.Texts.{line_words, line_text, is_entry, shown, text_of, words_line, dot_number, link_text, link_name}
+use Rattle.journal_text.specs.Texts.{line_words, line_text, is_entry, words_line, dot_number, link_text, link_name}
 use Rattle.journal_text.specs.declared.link.Link.TheVariants.{In, Adv}
 use Rattle.journal_check.specs.Entries.{FamilyEntry}
 use Rattle.journal_check.specs.Readings.{is_clean, is_skipped, read_or_not, reading_from, reading_of}
@@ -21,6 +21,7 @@ use Rattle.journal_check.proofs.InkLemmas.{IsInk, AreInk, all_append, ink_by, in
 use Rattle.check_run.specs.Lines.{IsCut, lines_of, lines_in}
 use Rattle.check_run.proofs.Cuts.{no_bytes, line_ends}
 use Rattle.check_run.proofs.Pieces.{cut_nothing, lines_then}
+use Rattle.journal_laws.specs.FamilyLines.{FamilyLine, shown_in, text_of}
 use Rattle.journal_laws.proofs.LawfulTexts.{part_of, no_return}
 
 -- ---- a text, and what follows its last LF
@@ -63,18 +64,18 @@ both_end : (a b : List ℕ) → EndsWhole a → EndsWhole b → EndsWhole (a ++ 
 both_end a b p (inl none) = subst EndsWhole (sym (ap (λ t. a ++ t) none ∙ append-nil a)) p
 both_end a b p (inr ends) = inr (a ++ ends.0, ap (λ t. a ++ t) ends.1 ∙ sym (append_assoc a ends.0 (10 ∷ [])))
 
-line_ended : (line : Line) → EndsWhole (line_text false line)
+line_ended : (v6 : Bool) (line : Line) → EndsWhole (line_text v6 line)
 unfolding line_text
-line_ended line = inr (join_with_byte 32 (line_words false line), refl)
+line_ended v6 line = inr (join_with_byte 32 (line_words v6 line), refl)
 
 -- so does the text of lines
-pub text_ended : (quiet : Bool) (lines : List Line) → EndsWhole (text_of false quiet lines)
+pub text_ended : (quiet : Bool) (out : List FamilyLine) → EndsWhole (text_of quiet out)
 text_ended quiet [] = inl refl
-text_ended quiet (line ∷ lines) = both_end (shown false quiet line) (text_of false quiet lines) (by (quiet && is_entry line)) (text_ended quiet lines)
+text_ended quiet (l ∷ out) = both_end (shown_in quiet l) (text_of quiet out) (by (quiet && is_entry l.line)) (text_ended quiet out)
   where
-    by : (b : Bool) → EndsWhole (cond b [] (line_text false line))
+    by : (b : Bool) → EndsWhole (cond b [] (line_text l.v6 l.line))
     by true = inl refl
-    by false = line_ended line
+    by false = line_ended l.v6 l.line
 
 -- ---- lines that say nothing
 

@@ -1,21 +1,18 @@
 -- What `check` says of totals.
-use Rattle.std.proofs.Common.{ℕ, ◌+◌, ◌^◌, ◌<◌, Bool, true, false, cond, nat_eq, List, [], ◌∷◌, ◌++◌, length, Option, Some, None, codes, refl, sym, subst, arith}
+use Rattle.std.proofs.Common.{ℕ, ◌^◌, ◌<◌, Bool, true, false, cond, nat_eq, List, [], ◌∷◌, ◌++◌, length, Option, Some, None, codes, refl, sym, subst, arith}
 use Rattle.std.specs.List.{AllByRecursion}
 use Rattle.std.specs.Fmt.{decimal}
 use Rattle.link_change.specs.Rows.{Rows}
+use Rattle.bgp_attr.specs.Speakers.{Speaker}
 use Rattle.journal_text.specs.Texts.{link_text, link_name}
-use Rattle.journal_text.specs.Lines.{Line}
 use Rattle.journal_text.specs.declared.link.Link.{Link}
 use Rattle.journal_text.specs.declared.link.Link.TheVariants.{Best, Fib}
 use Rattle.journal_text.specs.Lines.{Value}
 use Rattle.journal_check.proofs.InkLemmas.{all_append, ink_by}
 use Rattle.event_text.specs.declared.declared.DeclaredPeer.{DeclaredPeer}
-use Rattle.event_text.specs.Declarations.{IsCounted, peer_at}
+use Rattle.event_text.specs.Declarations.{Declaration, IsCounted, IsDeclaredBy, IsDeclaration, peer_at}
 use Rattle.router_moments.specs.Moments.{Moment, router_links}
-use Rattle.replay.specs.Output.{Run}
 use Rattle.replay.specs.Totals.{AreTotals, AreTotalsOf, IsTotal, sent_link, total_links, turns_line}
-use Rattle.replay.proofs.Lines.{accepted_is_admitted}
-use Rattle.replay.proofs.Counted.{counted_after}
 use Rattle.replay.proofs.SkippedTexts.{IsShortWord, IsSkippedText, skipped_nothing, skipped_both, total_skipped, word_by, number_word, peer_word, session_word}
 
 -- ---- the links whose rows are counted have short names
@@ -78,9 +75,9 @@ totals_skipped m turns bytes counted is =
     (skipped_both (turns_line turns) is.0 (total_skipped (codes "turns") (decimal turns) turns_word (number_word turns is.2)) (each_skipped m (total_links m.declared.peers) is.0 (links_short m.declared.peers counted) is.1))
 
 -- ---- the sessions of declared peers are counted
-
-pub run_counted : (n : ℕ) (m end : Moment) (lines : List (List ℕ)) (out : List Line) → IsCounted m.declared.peers → Run n m lines out end → IsCounted end.declared.peers
-run_counted n m end [] out counted run = subst (λ (x : Moment). IsCounted x.declared.peers) (sym run.1) counted
-run_counted n m end (line ∷ lines) out counted run =
-    let admitted = accepted_is_admitted n m.declared line run.3.event run.3.accepted in
-    run_counted (n + 1) run.2 end lines run.1 (subst (λ d. IsCounted d.peers) (sym run.3.declared) (counted_after m.declared run.3.event admitted counted)) run.5
+pub counted : (d : Declaration) → IsDeclaration d → IsCounted d.peers
+counted d declared = by d.speaker d.peers declared
+  where
+    by : (s : Option Speaker) (peers : List DeclaredPeer) → IsDeclaredBy d.v6 d.profile s peers → IsCounted peers
+    by None peers none = subst IsCounted (sym none) tt
+    by (Some me) peers are = are.counted

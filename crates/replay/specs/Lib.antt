@@ -10,3 +10,4 @@ pub mod Commands
 pub mod Totals
 pub mod Answers
 pub mod One
+pub mod Apart

@@ -1,7 +1,7 @@
 -- For each text exactly one output is allowed.
 use Rattle.std.specs.Prelude.{◌≡◌, ℕ, Bool, List, Option, Some}
 use Rattle.command_line.specs.declared.words.Command.{Command}
-use Rattle.live_state.specs.Lives.{LiveState}
+use Rattle.router.specs.Told.{Lives}
 use Rattle.replay.specs.Output.{IsOutput, IsRefusedOutput, LiveThrough}
 use Rattle.replay.specs.Totals.{IsTotalledOutput}
 use Rattle.replay.specs.Answers.{HasDone, HasRefused, HasBroken}
@@ -20,7 +20,7 @@ TotalsAreOne = (quiet : Bool) (text one other : List ℕ) → IsTotalledOutput q
 
 -- What is live behind lines, by what their events make of it, is one.
 abbrev pub LiveIsOne : Type 0
-LiveIsOne = (n : ℕ) (live one other : LiveState) (lines : List (List ℕ)) → LiveThrough n live lines one → LiveThrough n live lines other → one ≡ other
+LiveIsOne = (n : ℕ) (live one other : Lives) (lines : List (List ℕ)) → LiveThrough n live lines one → LiveThrough n live lines other → one ≡ other
 
 -- Two calls with the same command over the same text, to a sink that had the same, left the same in it, where both answered that all was
 -- done; where both answered that a line is refused; and where both answered that the journal breaks a rule.

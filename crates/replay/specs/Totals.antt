@@ -11,6 +11,7 @@ use Rattle.event_text.specs.declared.declared.DeclaredPeer.{DeclaredPeer}
 use Rattle.event_text.specs.Declarations.{peer_at}
 use Rattle.router_moments.specs.Blocks.{AreRows}
 use Rattle.router_moments.specs.Moments.{Moment, router_links}
+use Rattle.router.specs.Networks.{Networks}
 use Rattle.check_run.specs.Lines.{lines_of}
 use Rattle.replay.specs.Output.{IsOutput, IsOutputTo, IsRefusedOutput, IsOutputOfFront, IsFrontOfOutput}
 
@@ -53,14 +54,14 @@ total_links peers = In 1 ∷ In 2 ∷ In 3 ∷ In 4 ∷ Best ∷ Fib ∷ sent_li
 abbrev pub AreTotals : Moment → ℕ → List ℕ → Type 0
 AreTotals m turns bytes = (rest : List ℕ) × AreTotalsOf m (total_links m.declared.peers) rest × (turns < 2 ^ 128) × (bytes ≡ turns_line turns ++ rest)
 
--- The output for generated events: an allowed one for all their lines, and the totals.
+-- The output for generated events, whose totals are those of IPv4's network: an allowed one for all their lines, and the totals.
 pub record IsTotalledOutput (quiet : Bool) (text bytes : List ℕ) : Type 0 where
-  pub end : Moment
+  pub end : Networks
   pub turns : ℕ
   pub earlier : List ℕ
   pub output : IsOutputTo quiet (lines_of text) earlier end turns
   pub totals : List ℕ
-  pub counted : AreTotals end turns totals
+  pub counted : AreTotals end.first turns totals
   pub written : bytes ≡ earlier ++ totals
 
 -- A front of what may be written for generated events.

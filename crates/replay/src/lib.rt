@@ -4,13 +4,13 @@
 //! source, steps them one after another, and writes their output to a sink (`run`); or it does so with the events of a seed, and
 //! writes totals behind them (`gen`); or it judges the journal that the source is (`check`); or it writes the event file that a
 //! capture gives (`mrt`).
-//! The parts are private: `stepping` steps one line in the router of the crate router_core, `stream` takes text that comes in pieces
+//! The parts are private: `stepping` steps one line in the router of the crate router, `stream` takes text that comes in pieces
 //! line by line, `output` writes what a piece gave before the next one is read, and `run` goes on so to the end of a source.
 //!
 //! Whatever the source gives, and however it cuts its bytes, the output is an allowed one for the whole lines that were
 //! read: the journal in it obeys the rules of consistency on every link, the live state is what the events alone make of
 //! it, and after each `idle`, within the number of turns that it announced, no work is left and each link is what is decided
-//! from scratch over the live state. What each peer hears in it, by reading the octets that it is sent, is at every moment what
+//! from scratch over the live state; all that of both networks, IPv4's and, from `local6` on, IPv6's. What each peer hears in it, by reading the octets that it is sent, is at every moment what
 //! stands on its link `adv.J.S`; and a peer that asks for all of that again is told all of it once more, at the latest by the next
 //! `idle`. What a route reflector passes on inside the AS is marked, and never comes to who announced it.
 //!
@@ -34,6 +34,7 @@ ghost use Rattle.std.specs.Io.KnownBytes.{Appends};
 ghost use Rattle.edge_io.specs.Causes.{Rose};
 ghost use Rattle.command_line.specs.Commands.{command_of};
 ghost use Rattle.replay.specs.Commands.{reads_source, usage_line};
+ghost use Rattle.replay.specs.Apart.{NetworksStayApart};
 ghost use Rattle.replay.specs.Answers.{HasDone, HasRead, HasRefused, HasLawful, HasBroken, HasSoFar, HasFirst, HasFront, IsByText, IsUnfailing, CapturesAreAccepted, SeedsAreAccepted};
 ghost use Rattle.replay.specs.One.{CallsAreOne, LiveIsOne, OutputIsOne, RefusalIsOne, TotalsAreOne};
 ghost use Rattle.replay.specs.Reflection.{ReflectedRoutesAreMarked};
@@ -42,8 +43,8 @@ ghost use Rattle.command_line.specs.declared.words.Command.TheVariants.{Check};
 
 use crate::commands::obey;
 use crate::laws::{
-    captures_are_accepted, outputs_are_one, reflected_routes_are_marked, refreshes_are_served,
-    seeds_are_accepted,
+    captures_are_accepted, networks_stay_apart, outputs_are_one, reflected_routes_are_marked,
+    refreshes_are_served, seeds_are_accepted,
 };
 use command_line::read_command;
 use edge_io::{Sink, Source};
@@ -99,6 +100,9 @@ pub fn replay<S: Source, K: Sink>(
     // which it wasn't. No route goes back to the peer that it is from.
     ensures reflected { ReflectedRoutesAreMarked }
 
+    // An event that names one family of addresses leaves each link of the other network as it is, and says nothing of it.
+    ensures apart { NetworksStayApart }
+
     // For each text one output is allowed, quiet or not; of a text with a refused line, and of a seed with its totals, too; and one live
     // state is what the events of lines make of another. So two calls
     // over the same text that end alike, with all done, a line refused or a rule broken, have written the same.
@@ -132,6 +136,7 @@ pub fn replay<S: Source, K: Sink>(
     captures_are_accepted();
     refreshes_are_served();
     reflected_routes_are_marked();
+    networks_stay_apart();
     outputs_are_one();
     let Ok(command) = read_command(alloc, words) else {
         return Status::Memory;

@@ -5,6 +5,7 @@ ghost use Rattle.std.specs.Io.KnownBytes.{IsAtEnd};
 ghost use Rattle.edge_io.specs.Causes.{Rose};
 ghost use Rattle.check_run.specs.Lines.{lines_of};
 ghost use Rattle.replay.specs.Judging.{verdict, status_of};
+ghost use Rattle.router.specs.Networks.{networks_of};
 ghost use Rattle.replay.specs.Output.{IsOutputTo, IsRefusedOutput, IsOutputOfFront, IsOutputOfEnded, IsFrontOfOutput};
 ghost use Rattle.replay.specs.Totals.{IsWholeOutput, IsFrontOfWhole};
 ghost use Rattle.check_run.specs.Runs.{Took, ReadsAndWrites};
@@ -15,7 +16,7 @@ use crate::status::Status;
 use crate::stream::Stream;
 use crate::totals::write_totals;
 use edge_io::{Sink, Source};
-use journal_text::Journal;
+use router::Journals;
 use std::alloc::Global;
 
 /// How many bytes are read at once.
@@ -24,14 +25,14 @@ pub const READ_SIZE: usize = 65536;
 /// Steps the events of the source in a stream and a journal that have none yet.
 fn run_stream<S: Source, K: Sink>(
     stream: &mut Stream,
-    journal: &mut Journal,
+    journal: &mut Journals,
     source: &mut S,
     sink: &mut K,
 ) -> Status
-    requires stepped { HasStepped journal.old.quiet [] stream.old.number stream.old.core.moment stream.old.turns stream.old.pending.items [] }
-    requires ready { IsReady stream.old.number stream.old.core }
+    requires stepped { HasStepped journal.old.quiet [] stream.old.number (networks_of stream.old.router) stream.old.turns stream.old.pending.items [] }
+    requires ready { IsReady stream.old.number stream.old.router }
     requires empty { journal.old.pending ≡ [] }
-    ensures ok { result ≡ Status.Ok → Took (S.left source.old) (K.taken sink.old) (K.taken sink.new) (λ text bytes. IsOutputTo journal.old.quiet (lines_of text) bytes stream.new.core.moment stream.new.turns) }
+    ensures ok { result ≡ Status.Ok → Took (S.left source.old) (K.taken sink.old) (K.taken sink.new) (λ text bytes. IsOutputTo journal.old.quiet (lines_of text) bytes (networks_of stream.new.router) stream.new.turns) }
     ensures all_read { result ≡ Status.Ok → IsAtEnd (S.left source.new) }
     ensures refused { result ≡ Status.Refused → Took (S.left source.old) (K.taken sink.old) (K.taken sink.new) (IsRefusedOutput journal.old.quiet) }
     ensures so_far { result ≡ Status.ReadFault → ReadsAndWrites (S.left source.old) (S.left source.new) (K.taken sink.old) (K.taken sink.new) (IsOutputOfEnded journal.old.quiet) }
@@ -62,12 +63,12 @@ fn run_whole<S: Source, K: Sink>(
     alloc: Global,
     totalled: bool,
     stream: &mut Stream,
-    journal: &mut Journal,
+    journal: &mut Journals,
     source: &mut S,
     sink: &mut K,
 ) -> Status
-    requires stepped { HasStepped journal.old.quiet [] stream.old.number stream.old.core.moment stream.old.turns stream.old.pending.items [] }
-    requires ready { IsReady stream.old.number stream.old.core }
+    requires stepped { HasStepped journal.old.quiet [] stream.old.number (networks_of stream.old.router) stream.old.turns stream.old.pending.items [] }
+    requires ready { IsReady stream.old.number stream.old.router }
     requires empty { journal.old.pending ≡ [] }
     ensures ok { result ≡ Status.Ok → Took (S.left source.old) (K.taken sink.old) (K.taken sink.new) (IsWholeOutput totalled journal.old.quiet) }
     ensures all_read { result ≡ Status.Ok → IsAtEnd (S.left source.new) }
@@ -111,7 +112,7 @@ pub fn run_events<S: Source, K: Sink>(
     ensures no_other { (result ≢ Status.Broken) × (result ≢ Status.Usage) }
 {
     let mut stream = Stream::new(alloc, quiet);
-    let mut journal = Journal::new(alloc, quiet);
+    let mut journal = Journals::new(alloc, quiet);
     let status = run_whole(alloc, totalled, &mut stream, &mut journal, source, sink);
     drop(stream);
     drop(journal);

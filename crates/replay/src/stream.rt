@@ -2,14 +2,15 @@
 
 ghost use Rattle.std.specs.Prelude.{◌≡◌, ◌++◌, ◌∷◌, [], ◌<◌, ◌≤◌, ◌+◌, ◌^◌, ◌⊎◌, List, ℕ, IfOk, OnOk, length, true, false};
 ghost use Rattle.check_run.specs.Lines.{IsPart, lines_of};
+ghost use Rattle.router.specs.Networks.{networks_of};
 ghost use Rattle.replay.specs.Output.{IsOutputTo, IsRefusedOutput};
 ghost use Rattle.replay.specs.Stream.{IsReady, GoesOn, IsNearer, HasStepped, made};
 
 use crate::stepping::step_line;
 use addr4::Memory;
 use check_run::{first_line, without_return};
-use journal_text::{Code, Journal, Line};
-use router_core::Core;
+use journal_text::{Code, Line};
+use router::{Journals, Router};
 use router_moments::first_moment_stands;
 use std::alloc::Global;
 
@@ -20,7 +21,7 @@ const LONGEST_PART: usize = 16385;
 #[derive(Drop)]
 pub struct Stream {
     alloc: Global,
-    core: Core,
+    router: Router,
     /// The number of the line that has begun.
     number: u64,
     /// What was read of it.
@@ -45,13 +46,13 @@ impl Stream {
     ghost use Rattle.replay.specs.Streams.{state};
 
     pub fn new(alloc: Global, quiet: bool) -> Stream
-        ensures stepped { HasStepped quiet [] result.number result.core.moment result.turns result.pending.items [] }
-        ensures ready { IsReady result.number result.core }
+        ensures stepped { HasStepped quiet [] result.number (networks_of result.router) result.turns result.pending.items [] }
+        ensures ready { IsReady result.number result.router }
     {
         first_moment_stands();
         Stream {
             alloc,
-            core: Core::new(alloc),
+            router: Router::new(alloc),
             number: 1,
             pending: Vec::new(alloc),
             turns: 0,
@@ -59,10 +60,10 @@ impl Stream {
     }
 
     /// The router, behind all whole lines.
-    pub fn core(&self) -> &Core
-        ensures { result.now ≡ self.now.core }
+    pub fn router(&self) -> &Router
+        ensures { result.now ≡ self.now.router }
     {
-        &self.core
+        &self.router
     }
 
     /// How many turns the events took.
@@ -73,15 +74,14 @@ impl Stream {
     }
 
     /// Takes what follows of the line that has begun. Answers whether the text so far is accepted.
-    fn take_part(&mut self, part: &[u8], journal: &mut Journal) -> Result<bool, Memory>
+    fn take_part(&mut self, part: &[u8], journal: &mut Journals) -> Result<bool, Memory>
         requires part { IsPart part.now }
-        requires ready { IsReady self.old.number self.old.core }
+        requires ready { IsReady self.old.number self.old.router }
         ensures goes_on { IfOk result (λ accepted. GoesOn journal.old.quiet accepted (state self.old) part.now (made journal.old) (made journal.new) (state self.new)) }
         ensures progress { IfOk result (λ accepted. accepted ≡ true → IsNearer (length part.now) (state self.old) (state self.new)) }
-        ensures ready { OnOk result (IsReady self.new.number self.new.core) }
+        ensures ready { OnOk result (IsReady self.new.number self.new.router) }
         ensures quiet { OnOk result (journal.new.quiet ≡ journal.old.quiet) }
     {
-        journal.known();
         if part.len() > LONGEST_PART - self.pending.len() {
             journal.push_line(Line::Refused(self.number, Code::E1))?;
             return Ok(false);
@@ -91,15 +91,16 @@ impl Stream {
     }
 
     /// Takes the end of a line. Answers whether the line is accepted.
-    fn take_end(&mut self, journal: &mut Journal) -> Result<bool, Memory>
-        requires { IsReady self.old.number self.old.core }
+    fn take_end(&mut self, journal: &mut Journals) -> Result<bool, Memory>
+        requires { IsReady self.old.number self.old.router }
         ensures goes_on { IfOk result (λ accepted. GoesOn journal.old.quiet accepted (state self.old) (10 ∷ []) (made journal.old) (made journal.new) (state self.new)) }
         ensures progress { IfOk result (λ accepted. accepted ≡ true → IsNearer 1 (state self.old) (state self.new)) }
-        ensures ready { IfOk result (λ accepted. accepted ≡ true → IsReady self.new.number self.new.core) }
+        ensures ready { IfOk result (λ accepted. accepted ≡ true → IsReady self.new.number self.new.router) }
         ensures quiet { OnOk result (journal.new.quiet ≡ journal.old.quiet) }
     {
         let line = without_return(self.pending.as_slice());
-        let Some(turns) = step_line(self.alloc, &mut self.core, self.number, line, journal)? else {
+        let Some(turns) = step_line(self.alloc, &mut self.router, self.number, line, journal)?
+        else {
             return Ok(false);
         };
         self.turns = sum_of(self.turns, turns)?;
@@ -110,11 +111,11 @@ impl Stream {
 
     /// Takes a piece of the text. Answers whether the text so far is accepted; nothing is taken after a line
     /// that is refused.
-    pub fn take_piece(&mut self, piece: &[u8], journal: &mut Journal) -> Result<bool, Memory>
-        requires { IsReady self.old.number self.old.core }
+    pub fn take_piece(&mut self, piece: &[u8], journal: &mut Journals) -> Result<bool, Memory>
+        requires { IsReady self.old.number self.old.router }
         ensures goes_on { IfOk result (λ accepted. GoesOn journal.old.quiet accepted (state self.old) piece.now (made journal.old) (made journal.new) (state self.new)) }
         ensures progress { IfOk result (λ accepted. accepted ≡ true → IsNearer (length piece.now) (state self.old) (state self.new)) }
-        ensures ready { IfOk result (λ accepted. accepted ≡ true → IsReady self.new.number self.new.core) }
+        ensures ready { IfOk result (λ accepted. accepted ≡ true → IsReady self.new.number self.new.router) }
         ensures quiet { OnOk result (journal.new.quiet ≡ journal.old.quiet) }
     {
         let mut rest = piece;
@@ -134,19 +135,20 @@ impl Stream {
     }
 
     /// Takes the end of the text. Answers whether the text is accepted.
-    pub fn finish(&mut self, journal: &mut Journal) -> Result<bool, Memory>
-        requires { IsReady self.old.number self.old.core }
+    pub fn finish(&mut self, journal: &mut Journals) -> Result<bool, Memory>
+        requires { IsReady self.old.number self.old.router }
         ensures accepted { IfOk result (λ accepted. accepted ≡ true → (read taken : List ℕ) →
-            HasStepped journal.old.quiet read self.old.number self.old.core.moment self.old.turns self.old.pending.items (taken ++ made journal.old) → IsOutputTo journal.old.quiet (lines_of read) (taken ++ made journal.new) self.new.core.moment self.new.turns) }
+            HasStepped journal.old.quiet read self.old.number (networks_of self.old.router) self.old.turns self.old.pending.items (taken ++ made journal.old) → IsOutputTo journal.old.quiet (lines_of read) (taken ++ made journal.new) (networks_of self.new.router) self.new.turns) }
         ensures refused { IfOk result (λ accepted. accepted ≡ false → (read taken : List ℕ) →
-            HasStepped journal.old.quiet read self.old.number self.old.core.moment self.old.turns self.old.pending.items (taken ++ made journal.old) → IsRefusedOutput journal.old.quiet read (taken ++ made journal.new)) }
+            HasStepped journal.old.quiet read self.old.number (networks_of self.old.router) self.old.turns self.old.pending.items (taken ++ made journal.old) → IsRefusedOutput journal.old.quiet read (taken ++ made journal.new)) }
         ensures quiet { OnOk result (journal.new.quiet ≡ journal.old.quiet) }
     {
         if self.pending.is_empty() {
             return Ok(true);
         }
         let line = self.pending.as_slice();
-        let Some(turns) = step_line(self.alloc, &mut self.core, self.number, line, journal)? else {
+        let Some(turns) = step_line(self.alloc, &mut self.router, self.number, line, journal)?
+        else {
             return Ok(false);
         };
         self.turns = sum_of(self.turns, turns)?;

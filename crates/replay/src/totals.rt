@@ -1,6 +1,6 @@
 //! The totals that end the output of generated events.
 
-ghost use Rattle.std.specs.Prelude.{◌≡◌, ◌≤◌, ◌⊎◌, ◌++◌, ℕ, List, drop, length, OnOk, IfOk, false};
+ghost use Rattle.std.specs.Prelude.{◌≡◌, ◌≤◌, ◌⊎◌, ◌++◌, ℕ, List, drop, false, length, OnOk, IfOk};
 ghost use Rattle.edge_io.specs.Causes.{Rose};
 ghost use Rattle.check_run.specs.Runs.{Writes, IsFrontOf};
 ghost use Rattle.journal_text.specs.Texts.{line_text};
@@ -131,18 +131,18 @@ fn push_totals(alloc: Global, core: &Core, turns: u128, out: &mut Vec<u8>) -> Re
 
 /// The totals of a stream that has stepped all its events.
 fn totals_of(alloc: Global, stream: &Stream) -> Result<Vec<u8>, Memory>
-    ensures { IfOk result (λ totals. AreTotals stream.now.core.moment stream.now.turns totals.items) }
+    ensures { IfOk result (λ totals. AreTotals stream.now.router.first.moment stream.now.turns totals.items) }
 {
     let mut out = Vec::new(alloc);
-    push_totals(alloc, stream.core(), stream.turns(), &mut out)?;
+    push_totals(alloc, stream.router().first(), stream.turns(), &mut out)?;
     Ok(out)
 }
 
 /// Writes the totals of a stream that has stepped all its events.
 pub fn write_totals<K: Sink>(alloc: Global, stream: &Stream, sink: &mut K) -> Status
-    ensures ok { result ≡ Status.Ok → Writes (K.taken sink.old) (K.taken sink.new) (AreTotals stream.now.core.moment stream.now.turns) }
+    ensures ok { result ≡ Status.Ok → Writes (K.taken sink.old) (K.taken sink.new) (AreTotals stream.now.router.first.moment stream.now.turns) }
     ensures memory { result ≡ Status.Memory → K.taken sink.new ≡ K.taken sink.old }
-    ensures front { result ≡ Status.WriteFault → Writes (K.taken sink.old) (K.taken sink.new) (λ more. (totals : List ℕ) × AreTotals stream.now.core.moment stream.now.turns totals × IsFrontOf totals more) }
+    ensures front { result ≡ Status.WriteFault → Writes (K.taken sink.old) (K.taken sink.new) (λ more. (totals : List ℕ) × AreTotals stream.now.router.first.moment stream.now.turns totals × IsFrontOf totals more) }
     ensures write_fault { result ≡ Status.WriteFault → Rose (K.faults sink.old) (K.faults sink.new) }
     ensures later { K.faults sink.old ≤ K.faults sink.new }
     ensures others { (result ≡ Status.Ok) ⊎ (result ≡ Status.Memory) ⊎ (result ≡ Status.WriteFault) }

@@ -18,8 +18,10 @@
 //! For want of memory a call answers `Memory`, and from then on each further call does: what was half done is never seen.
 #![tactic(auto)]
 
+mod hears;
 mod router;
 mod steps;
 mod updates;
 
+pub use hears::Hears;
 pub use router::Core;

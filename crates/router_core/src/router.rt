@@ -1,15 +1,17 @@
 //! The router's state.
 
-ghost use Rattle.std.specs.Prelude.{◌≡◌, ◌≤◌, ◌+◌, ◌<◌, ℕ, true, false, OnOk, OnErr, IfOk, IsErr, IsSome, Some};
+ghost use Rattle.std.specs.Prelude.{◌≡◌, ◌≤◌, ◌+◌, ◌<◌, ◌^◌, ◌++◌, ◌∷◌, [], ℕ, true, false, OnOk, OnErr, IfOk, IsErr, IsSome, Some};
 ghost use Rattle.journal_text.specs.Lines.{Line};
+ghost use Rattle.journal_text.specs.declared.line.Line.TheVariants as lines;
 ghost use Rattle.journal_text.specs.Walk.{Leads};
 ghost use Rattle.event_text.specs.declared.event.Event.TheVariants as events;
 ghost use Rattle.event_text.specs.Declarations.{refusal};
 ghost use Rattle.event_text.specs.WellFormed.{IsWellFormed};
+ghost use Rattle.bgp_attr.specs.Speakers.{IsProfileOf};
 ghost use Rattle.std.specs.Option.{option_copied};
 ghost use Rattle.hop_side.specs.Resolvers.{resolver_at};
 ghost use Rattle.peer_side.specs.Peers.{chain_at};
-ghost use Rattle.router_moments.specs.Moments.{first_moment, router_links, Gives};
+ghost use Rattle.router_moments.specs.Moments.{first_moment, profiled, spoken, bound_of, router_links, Gives};
 ghost use Rattle.router_moments.specs.Scratch.{IsExactAtRest, Tells};
 ghost use Rattle.router_moments.specs.Stands.{CoreStands};
 ghost use Rattle.router_moments.specs.Turns.{has_work};
@@ -17,10 +19,13 @@ ghost use Rattle.router_moments.specs.Blocks.{Acts};
 ghost use Rattle.router_moments.specs.Lookups.{IsCountOf};
 ghost use Rattle.router_moments.specs.Works.{Comes, HaveDrained, HasIdled};
 
+use crate::hears::Hears;
 use crate::steps::step;
-use addr4::{Family, Memory, Prefix, V4};
+use addr4::{Family, Memory, Prefix, Texts, V4};
+use bgp_attr::Profile;
 use decision::Contests;
-use event_text::{Declared, Event};
+use event_text::{Declared, EventOf};
+use ext_int::ExtInt;
 use in_chain::Chain;
 use journal_text::{Journal, Link, Task};
 use live_state::declarations_follow;
@@ -33,15 +38,15 @@ use std::alloc::Global;
 use std::marker::Model;
 
 #[derive(Drop)]
-pub struct Core {
-    network: Network,
+pub struct Core<F: Texts = V4> {
+    network: Network<F>,
     /// What the decision knows at each prefix. No part of the moment: it says nothing that the rows of the branches don't.
-    contests: Contests,
+    contests: Contests<F>,
     events: u64,
     failed: bool,
 }
 
-impl Model for Core {
+impl<F: Texts> Model for Core<F> {
     ghost use Rattle.std.specs.Prelude.{◌≡◌, false};
     ghost use Rattle.std.specs.Coded.{coded_option};
     ghost use Rattle.router_network.specs.Informed.{Informed};
@@ -76,10 +81,10 @@ impl Model for Core {
     ghost invariant = { λ c. c.failed ≡ false → HaveReaders c.network × Informed c.contests c.network };
 }
 
-impl Core {
+impl<F: Hears> Core<F> {
     /// Nothing is declared, and no link is live. Takes no memory.
-    pub fn new(alloc: Global) -> Core
-        ensures value { result ≡ record { moment = (first_moment false); events = 0; failed = false } }
+    pub fn new(alloc: Global) -> Core<F>
+        ensures value { result ≡ record { moment = (first_moment F.V6); events = 0; failed = false } }
         ensures stands { CoreStands result }
     {
         a_new_tree_stands();
@@ -92,7 +97,7 @@ impl Core {
     }
 
     /// What was declared.
-    pub fn declared(&self) -> &Declared
+    pub fn declared(&self) -> &Declared<F>
         ensures { result.now ≡ self.now.moment.declared }
     {
         self.network.declared()
@@ -106,7 +111,7 @@ impl Core {
     }
 
     /// The chain of a declared peer.
-    pub fn chain(&self, number: u32) -> &Chain
+    pub fn chain(&self, number: u32) -> &Chain<F>
         requires { IsSome (chain_at number self.now.moment.chains) }
         ensures { Some result.now ≡ chain_at number self.now.moment.chains }
     {
@@ -114,7 +119,7 @@ impl Core {
     }
 
     /// The tree of the interior routes.
-    pub fn tree(&self) -> &Tree
+    pub fn tree(&self) -> &Tree<F>
         ensures { result.now ≡ self.now.moment.tree }
     {
         self.network.tree()
@@ -122,7 +127,7 @@ impl Core {
 
     /// The next hops of a peer's routes, which are known exactly where rows of its `filt.K` name them, with the metrics by
     /// which they are reached (RFC 4271, section 9.1.2.1). None exactly where no such peer is declared.
-    pub fn resolver(&self, number: u32) -> Option<&Resolver<Metric>>
+    pub fn resolver(&self, number: u32) -> Option<&Resolver<Metric, F>>
         ensures { option_copied result ≡ resolver_at number self.now.moment.hops }
     {
         self.network.resolver(number)
@@ -130,7 +135,7 @@ impl Core {
 
     /// The external routes on their way to the forwarding table: their rows, and the next hops that these name, with the
     /// interior routes by which they are reached.
-    pub fn external(&self) -> &RibExit
+    pub fn external(&self) -> &RibExit<ExtInt<F>>
         ensures { result.now ≡ self.now.moment.rib }
     {
         self.network.external()
@@ -139,7 +144,7 @@ impl Core {
     /// Whether a prefix is settled. The first task, in the order of an idle, whose work holds it up, which then has work; None
     /// exactly where none does, and then its rows in `best`, in `fib` and in each `adv.J.S` are what the live state alone asks
     /// for. Takes no memory, and looks at no other prefix than this one and those that hold a next hop of its routes.
-    pub fn settled(&self, p: Prefix) -> Option<Task>
+    pub fn settled(&self, p: Prefix<F>) -> Option<Task>
         requires { CoreStands self.now }
         ensures { Tells self.now.moment p result }
     {
@@ -162,7 +167,7 @@ impl Core {
     /// Steps an event: its lines go into the text of the journal. Answers how many turns `work` or `idle` took, and 0 for
     /// other events. After each call, this and those below, at each prefix every link that no work holds up there has the row
     /// that the live state alone asks for. After want of memory the core answers nothing else.
-    pub fn step(&mut self, event: Event, journal: &mut Journal) -> Result<u128, Memory>
+    pub fn step(&mut self, event: EventOf<F>, journal: &mut Journal<F>) -> Result<u128, Memory>
         requires admitted { refusal self.old.moment.declared event ≡ None }
         requires formed { IsWellFormed self.old.moment.declared.v6 self.old.moment.declared.profile event }
         requires few { self.old.events < 4294967295 }
@@ -191,7 +196,7 @@ impl Core {
     /// One turn of a task, and the text of its lines. [`Done::Nothing`] comes exactly where the task has no work; then
     /// nothing changes. What is live stays. No turn makes a next hop stale, in the resolver of a peer or among the external
     /// routes, but that of a protocol's deletion stage, since answers are of the interior routes and no other turn changes those.
-    pub fn unit(&mut self, task: Task, journal: &mut Journal) -> Result<Done, Memory>
+    pub fn unit(&mut self, task: Task, journal: &mut Journal<F>) -> Result<Done, Memory>
         requires stands { self.old.failed ≡ false → CoreStands self.old }
         ensures comes { IfOk result (Comes task self.old.moment self.new.moment journal.old journal.new) }
         ensures stands { OnOk result (CoreStands self.new) }
@@ -216,7 +221,7 @@ impl Core {
     /// each that is stale as the phase begins; of refreshes as many as rows were sent. No row is added, and no next hop becomes stale but in [`Phase::Rdel`]; what the
     /// slowest reader hasn't taken grows by at most one change for each row in a phase of deletion stages, two in one of walks,
     /// and none where readers read.
-    pub fn drain(&mut self, phase: Phase, journal: &mut Journal) -> Result<u128, Memory>
+    pub fn drain(&mut self, phase: Phase, journal: &mut Journal<F>) -> Result<u128, Memory>
         requires stands { self.old.failed ≡ false → CoreStands self.old }
         ensures drained { IfOk result (λ turns. Gives (HaveDrained phase self.old.moment turns self.new.moment) journal.old journal.new) }
         ensures stands { OnOk result (CoreStands self.new) }
@@ -236,8 +241,66 @@ impl Core {
         Ok(turns)
     }
 
+    /// IPv6 is spoken from now on: routes of IPv6 are read in messages. No peer was declared yet. This counts as an event. Takes no
+    /// memory.
+    pub fn speak_ipv6(&mut self)
+        requires stands { CoreStands self.old }
+        requires few { self.old.events < 4294967295 }
+        requires alone { self.old.moment.declared.peers ≡ [] }
+        ensures value { self.new ≡ record { moment = spoken self.old.moment; events = self.old.events + 1; failed = false } }
+        ensures stands { CoreStands self.new }
+    {
+        self.network.speak_ipv6();
+        self.events += 1;
+    }
+
+    /// Before anything was declared, messages are read and written by this profile from now on. Takes no memory.
+    pub fn set_profile(&mut self, profile: Profile)
+        requires family { IsProfileOf F.V6 profile }
+        requires fresh { self.old ≡ record { moment = first_moment F.V6; events = 0; failed = false } }
+        ensures value { self.new ≡ record { moment = profiled (first_moment F.V6) profile; events = 0; failed = false } }
+        ensures stands { CoreStands self.new }
+    {
+        a_new_tree_stands();
+        self.network.set_profile(profile);
+    }
+
+    /// How many turns an idle takes at most.
+    pub fn bound(&self) -> Result<u128, Memory>
+        ensures { IfOk result (λ bound. bound ≡ bound_of self.now.moment) }
+    {
+        self.network.bound()
+    }
+
+    /// Every task runs to its end, in an idle of several networks, whose bound and turns the caller says. Answers the turns. This
+    /// counts as an event.
+    pub fn rest(&mut self, journal: &mut Journal<F>) -> Result<u128, Memory>
+        requires admitted { refusal self.old.moment.declared events.Idle ≡ None }
+        requires few { self.old.events < 4294967295 }
+        requires bound { bound_of self.old.moment < 2 ^ 128 }
+        requires stands { self.old.failed ≡ false → CoreStands self.old }
+        ensures acts { IfOk result (λ turns. Gives (λ inner. Acts self.old.moment events.Idle turns self.new.moment (lines.Bound (bound_of self.old.moment) ∷ (inner ++ lines.Idle turns ∷ []))) journal.old journal.new) }
+        ensures stands { OnOk result (CoreStands self.new) }
+        ensures exact { OnOk result (IsExactAtRest self.new.moment) }
+        ensures events { OnOk result (self.new.events ≡ self.old.events + 1) }
+        ensures good { OnOk result (self.new.failed ≡ false) }
+        ensures memory { OnErr result (self.new.failed ≡ true) }
+        ensures stays { self.old.failed ≡ true → IsErr result }
+    {
+        if self.failed {
+            return Err(Memory);
+        }
+        rows_at_rest_are_exact();
+        declarations_follow();
+        self.failed = true;
+        let turns = self.network.drain_all(&mut self.contests, journal)?;
+        self.events += 1;
+        self.failed = false;
+        Ok(turns)
+    }
+
     /// Every task runs to its end, within the number of turns that is announced first. Answers both.
-    pub fn idle(&mut self, journal: &mut Journal) -> Result<Idle, Memory>
+    pub fn idle(&mut self, journal: &mut Journal<F>) -> Result<Idle, Memory>
         requires stands { self.old.failed ≡ false → CoreStands self.old }
         ensures idled { IfOk result (λ idle. Gives (HasIdled self.old.moment idle self.new.moment) journal.old journal.new) }
         ensures stands { OnOk result (CoreStands self.new) }

@@ -16,22 +16,23 @@ ghost use Rattle.router_moments.specs.Stands.{Stands, AllHaveExits};
 ghost use Rattle.router_moments.specs.Works.{HasStepped, HasHeard, IsHeardMessage};
 ghost use Rattle.router_network.specs.Informed.{Informed};
 
+use crate::hears::Hears;
 use crate::updates::changes;
 use addr4::{Memory, Prefix};
 use bgp_attr::{Octets, Profile, SharedAttrs};
 use bgp_wire::{Message, Notice, Update, read_message, write_notification};
 use decision::Contests;
-use event_text::{DeclaredPeer, Event};
+use event_text::{DeclaredPeer, Event, EventOf};
 use journal_text::{Journal, Line};
 use router_network::{Network, ignored};
 use std::alloc::Global;
 
 /// Steps an event, and makes the text of its lines. Answers how many turns `work` or `idle` took.
-pub(crate) fn step(
-    network: &mut Network,
-    event: Event,
-    contests: &mut Contests,
-    journal: &mut Journal,
+pub(crate) fn step<F: Hears>(
+    network: &mut Network<F>,
+    event: EventOf<F>,
+    contests: &mut Contests<F>,
+    journal: &mut Journal<F>,
 ) -> Result<u128, Memory>
     requires admitted { refusal network.old.declared event ≡ None }
     requires few { AreNumbered 4294967294 network.old.tree }
@@ -68,12 +69,12 @@ pub(crate) fn step(
 }
 
 /// A message came from a peer; `ignored` where it is down.
-fn message(
-    network: &mut Network,
+fn message<F: Hears>(
+    network: &mut Network<F>,
     number: u32,
     octets: Octets,
-    contests: &mut Contests,
-    journal: &mut Journal,
+    contests: &mut Contests<F>,
+    journal: &mut Journal<F>,
 ) -> Result<u128, Memory>
     requires admitted { refusal network.old.declared (events.Bgp number octets) ≡ None }
     requires stands { Stands network.old }
@@ -89,12 +90,12 @@ fn message(
 }
 
 /// The same of octets that are lent.
-fn receive(
-    network: &mut Network,
+fn receive<F: Hears>(
+    network: &mut Network<F>,
     number: u32,
     octets: &[u8],
-    contests: &mut Contests,
-    journal: &mut Journal,
+    contests: &mut Contests<F>,
+    journal: &mut Journal<F>,
 ) -> Result<u128, Memory>
     requires admitted { refusal network.old.declared (events.Bgp number octets.now) ≡ None }
     requires stands { Stands network.old }
@@ -116,13 +117,13 @@ fn receive(
 }
 
 /// What a message from a peer that is up does.
-fn hear(
-    network: &mut Network,
+fn hear<F: Hears>(
+    network: &mut Network<F>,
     number: u32,
     peer: DeclaredPeer,
     message: Message,
-    contests: &mut Contests,
-    journal: &mut Journal,
+    contests: &mut Contests<F>,
+    journal: &mut Journal<F>,
 ) -> Result<(), Memory>
     requires stands { Stands network.old }
     requires there { peer_at number network.old.declared.peers ≡ Some peer }
@@ -156,13 +157,14 @@ fn hear(
 }
 
 /// What an UPDATE does to the routes of the network; what it says of the other family is dropped.
-fn heard(network: &Network, update: Update) -> Result<Vec<(Prefix, Option<SharedAttrs>)>, Memory>
+fn heard<F: Hears>(
+    network: &Network<F>,
+    update: Update,
+) -> Result<Vec<(Prefix<F>, Option<SharedAttrs<F>>)>, Memory>
     ensures { IfOk result (λ changes. changes.items ≡ changes_of network.now.declared.profile update) }
 {
     network.declared().known();
-    let Update { first, second } = update;
-    drop(second);
-    changes(network.alloc(), first)
+    changes(network.alloc(), F::said(update))
 }
 
 /// What octets of a peer say (RFC 4271, section 4), or the fault that they have.

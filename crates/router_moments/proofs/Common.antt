@@ -43,11 +43,11 @@ pub use Rattle.hop_side.specs.Steps.{GoesOn, ComesOn, LeadsRes, HasNoInterest}
 pub use Rattle.in_chain.proofs.TurnLemmas.{candidates_are_counted}
 pub use Rattle.in_chain.specs.Chains.{Chained, filt_rows, filt_candidates}
 pub use Rattle.in_chain.specs.Steps.{welded, fed}
-pub use Rattle.addr4.specs.Families.{IsIpv4Prefix}
+pub use Rattle.addr4.specs.Families.{IsPrefixOf}
 pub use Rattle.journal_laws.proofs.PrintedHops.{AllHaveMetrics}
 pub use Rattle.journal_laws.proofs.PrintedRows.{Prints, IsFit}
-pub use Rattle.journal_laws.specs.Peers.{neighbours, words_in}
-pub use Rattle.journal_laws.specs.Printed.{IsPrinted}
+pub use Rattle.journal_laws.specs.Peers.{neighbours, words_in, printing}
+pub use Rattle.journal_laws.specs.Printed.{Printing, IsPrinted}
 pub use Rattle.journal_laws.specs.Standing.{AreTablesOf, IsInteriorRow, IsPrintableChain, HaveWays, IsWay}
 pub use Rattle.journal_text.proofs.JournalLemmas.{entries_of_entries, with_lines_append, with_entries_append}
 pub use Rattle.journal_text.proofs.WalkLemmas.{leads_append, leads_nowhere, leads_sent}

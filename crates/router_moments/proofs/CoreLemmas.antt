@@ -1,13 +1,15 @@
 -- What holds of a core after each of its calls.
-use Rattle.router_moments.proofs.Common.{sym, subst, ◌∙◌, ap, ◌≡◌, ℕ, refl, List, true, arith, false, ◌+◌, Bool, ◌≤◌, ◌<◌, get-empty, nat_cmp, AddressPrefix, Route, Profile, peer_at, Declaration, IsWellFormed, DeclaredPeer, Event, ArePrintableExits, Chained, neighbours, AreTablesOf, IsInteriorRow, IsPrintableChain, Journaled, Line, Task, Change, declared_after, LiveState, Hop, Resolving, Metric, OutChained, chain_at, Proto, Interior, of_new, branch_of, first_held, FirstHeldTells, RowsAtRestAreExact, live_state, Moment, best_of, Gives, all_phases, ArePrinted, IsPrintableMoment, Tells, Stands, ExitsAt, AllHaveExits, StandsAt, HaveReaders, HasStepped, Keeps, TakesTurn, RunsOut, HaveSameExits, Done, Taken, Phase}
-use Rattle.std.proofs.Common.{length, Option, Some, None, is_some}
+use Rattle.router_moments.proofs.Common.{sym, subst, ◌∙◌, ap, ◌≡◌, ℕ, refl, List, true, arith, false, ◌+◌, Bool, ◌≤◌, ◌<◌, get-empty, nat_cmp, AddressPrefix, Route, Profile, peer_at, Declaration, IsWellFormed, DeclaredPeer, Event, ArePrintableExits, Chained, printing, AreTablesOf, IsInteriorRow, IsPrintableChain, HaveWays, Journaled, Line, Task, Change, declared_after, LiveState, Hop, Resolving, Metric, OutChained, chain_at, Proto, Interior, of_new, branch_of, first_held, FirstHeldTells, RowsAtRestAreExact, live_state, Moment, best_of, Gives, all_phases, ArePrinted, IsPrintableMoment, Tells, Stands, ExitsAt, AllHaveExits, StandsAt, HaveReaders, HasStepped, Keeps, TakesTurn, RunsOut, HaveSameExits, Done, Taken, Phase}
+use Rattle.std.proofs.Common.{[], length, Option, Some, None, is_some}
 use Rattle.std.specs.FinMap.{len-empty}
-use Rattle.event_text.specs.Declarations.{plain, plain_of, refusal}
+use Rattle.event_text.specs.Declarations.{plain_of, refusal}
 use Rattle.link_change.proofs.RowLemmas.{empty_rows}
 use Rattle.rib_tree.specs.Trees.{AreNumbered}
 use Rattle.rib_tree.specs.Steps.{new_tree}
 use Rattle.rib_tree.specs.Laws.{ANewTreeStands}
-use Rattle.router_moments.specs.Moments.{Cored, first_moment}
+use Rattle.bgp_attr.specs.Speakers.{IsProfileOf}
+use Rattle.event_text.proofs.FileLemmas.{ipv6_kept}
+use Rattle.router_moments.specs.Moments.{Cored, first_moment, profiled, spoken}
 use Rattle.router_moments.specs.Scratch.{IsExactAtRest}
 use Rattle.router_moments.specs.Stands.{CoreStands}
 use Rattle.register_interest.specs.Interests.{interest_cmp}
@@ -18,8 +20,11 @@ use Rattle.journal_laws.specs.Peers.{KeepsPeers}
 use Rattle.router_moments.proofs.KeepLemmas.{acts_of}
 use Rattle.router_moments.proofs.TurnWalks.{turn_same, phase_same, phases_same}
 use Rattle.router_moments.proofs.ExitsUp.{event_exits}
-use Rattle.router_moments.proofs.ProfileLemmas.{profile_after, profile_follows, family_follows, nothing_printable}
+use Rattle.router_moments.proofs.ProfileLemmas.{profile_after, profile_follows, second_follows, spoken_follows, family_follows, nothing_printable, then_stands}
 use Rattle.router_moments.proofs.SessionLemmas.{reads_as}
+use Rattle.exit_laws.proofs.SpokenExits.{spoken_exits_print}
+use Rattle.journal_laws.specs.Peers.{words_in}
+use Rattle.router_moments.proofs.SpokenLemmas.{no_chain_yet, spoken_stands, spoken_exits}
 use Rattle.live_state.proofs.SessionLemmas.{losses_follow}
 use Rattle.rib_tree.proofs.NewLemmas.{int_empty}
 use Rattle.journal_laws.proofs.DeclaredPeers.{Leaves}
@@ -59,15 +64,16 @@ step_prints m m' event turns said follow stands printable few admitted formed h 
     let is : declared_after m.declared event ≡ m'.declared = sym (ap (λ (x : LiveState). x.declared) h.keeps.live ∙ follow (live_state m) event h.live h.after) in
     let d : Leaves m.declared m'.declared = subst (Leaves m.declared) is (event_leaves m.declared event printable.declared admitted formed) in
     let profile : profile_after m.declared.profile event ≡ m'.declared.profile = profile_follows m.declared event ∙ ap (λ (x : Declaration). x.profile) is in
+    let same : m'.declared.v6 ≡ m.declared.v6 = ap (λ (x : Declaration). x.v6) (sym is) ∙ family_follows m.declared event in
     record {
       now = record {
-        first = ap (λ (x : Declaration). x.v6) (sym is) ∙ family_follows m.declared event ∙ printable.first;
+        family = record { second = ap (λ (f : Profile). f.second) (sym profile) ∙ second_follows m.declared.profile event ∙ printable.family.second ∙ sym same; spoken = λ e. ap (λ (f : Profile). f.v6) (sym profile) ∙ spoken_follows m.declared.profile event ∙ printable.family.spoken (sym same ∙ e) };
         declared = d.declared;
         chains = subst (λ (f : Profile). (k : ℕ) (c : Chained) → chain_at k m'.chains ≡ Some c → IsPrintableChain f c) profile l.chains;
-        interior = l.interior;
+        interior = subst (λ (v6 : Bool). (proto : Proto) → AreTablesOf (IsInteriorRow v6) (branch_of proto m'.tree).tables) (sym same) l.interior;
         hops = l.hops;
-        ways = l.ways;
-        exits = subst (λ (f : Profile). ArePrintableExits f (neighbours m'.declared) m'.exits) profile (printing_stays (profile_after m.declared.profile event) m.declared m'.declared m'.exits d.peers l.exits);
+        ways = subst (λ (v6 : Bool). HaveWays v6 m'.rib.forwarding) (sym same) l.ways;
+        exits = subst (λ (f : Profile). ArePrintableExits f (printing m'.declared) m'.exits) profile (printing_stays (profile_after m.declared.profile event) m.declared m'.declared m'.exits d.peers l.exits);
       };
       lines = l.printed;
       peers = d.peers;
@@ -121,8 +127,11 @@ module _ (old : Cored) (m : Moment) (n : ℕ) (failed : Bool) (view : record { m
           omega (arith, was, more, is);
     }
 
+    pub core_acts_by : Acts old.moment event turns m' g.0
+    core_acts_by = subst (λ (c : Cored). Acts c.moment event turns m' g.0) view (acts_of m m' event turns g.0 g.2 prints.lines prints.peers (event_serves m m' event g.0 turns stood.stands declared g.2.block) (event_serves_now m m' event g.0 turns g.2.block))
+
     pub core_acts : Gives (Acts old.moment event turns m') before now
-    core_acts = (g.0, g.1, subst (λ (c : Cored). Acts c.moment event turns m' g.0) view (acts_of m m' event turns g.0 g.2 prints.lines prints.peers (event_serves m m' event g.0 turns stood.stands declared g.2.block) (event_serves_now m m' event g.0 turns g.2.block)))
+    core_acts = (g.0, g.1, core_acts_by)
 
   pub core_worked : (m' : Moment) (said inner : List Line) → Keeps (live_state m) m m' said → HaveSameExits m m' → Goes m inner m' → CoreStands (cored m' n)
   core_worked m' said inner work same goes = record {
@@ -194,22 +203,44 @@ first_moment_stands v6 law = record {
   waits = record { own = λ before. refl; external = λ before. refl };
 }
 
-pub first_stands : ANewTreeStands → CoreStands (cored (first_moment false) 0)
-first_stands law = record {
+-- nothing was declared yet, and messages are read and written by this profile
+pub fresh_stands : (v6 : Bool) (profile : Profile) → IsProfileOf v6 profile → ANewTreeStands → CoreStands (cored (profiled (first_moment v6) profile) 0)
+fresh_stands v6 profile of law = record {
   good = refl;
-  stands = first_moment_stands false law;
+  stands = then_stands (first_moment v6) profile (first_moment_stands v6 law) refl;
   printable = record {
-    first = refl;
+    family = of;
     declared = refl;
     chains = λ k c at. absurd (let none = get-empty {X = Chained} nat_cmp k in cc);
     interior = new_printable;
     hops = λ k s at. absurd (let none = get-empty {X = Resolving Metric} nat_cmp k in cc);
     ways = λ a h at. absurd (let none = get-empty {X = Hop Way} nat_cmp a in cc);
-    exits = nothing_printable plain refl (neighbours (first_moment false).declared);
+    exits = nothing_printable profile (printing (profiled (first_moment v6) profile).declared) of.second;
   };
   exits = λ k p there up. absurd (let clash : ◌≡◌ {A = Option DeclaredPeer} None (Some p) = there in cc);
   numbered = of_new (λ b. b.losses ≤ 0) (λ k. omega arith);
 }
   where
-    new_printable : (proto : Proto) → AreTablesOf IsInteriorRow (branch_of proto new_tree).tables
-    new_printable = of_new (λ b. AreTablesOf IsInteriorRow b.tables) (λ k. none_printable IsInteriorRow)
+    new_printable : (proto : Proto) → AreTablesOf (IsInteriorRow v6) (branch_of proto new_tree).tables
+    new_printable = of_new (λ b. AreTablesOf (IsInteriorRow v6) b.tables) (λ k. none_printable (IsInteriorRow v6))
+
+pub first_stands : (v6 : Bool) → ANewTreeStands → CoreStands (cored (first_moment v6) 0)
+first_stands v6 law = fresh_stands v6 (plain_of v6) (record { second = refl; spoken = λ e. e }) law
+
+-- ---- `local6`
+pub spoken_core : (m : Moment) (n : ℕ) → CoreStands (cored m n) → m.declared.peers ≡ [] → CoreStands (cored (spoken m) (n + 1))
+spoken_core m n is alone = record {
+  good = refl;
+  stands = spoken_stands m is.stands alone;
+  printable = record {
+    family = record { second = is.printable.family.second; spoken = λ e. refl };
+    declared = ipv6_kept m.declared is.printable.declared;
+    chains = λ k c at. absurd (let none = no_chain_yet m is.stands alone k in cc);
+    interior = is.printable.interior;
+    hops = is.printable.hops;
+    ways = is.printable.ways;
+    exits = spoken_exits_print m.declared.profile (printing m.declared) (λ k. ap words_in (ap (peer_at k) alone)) m.exits is.printable.exits;
+  };
+  exits = spoken_exits m is.stands alone;
+  numbered = λ proto. let most = is.numbered proto in omega (arith, most);
+}

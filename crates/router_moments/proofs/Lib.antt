@@ -51,3 +51,5 @@ pub mod FirstLives
 pub mod ServedTurns
 pub mod BegunSessions
 pub mod ServedBlocks
+pub mod OwnRows
+pub mod SpokenLemmas

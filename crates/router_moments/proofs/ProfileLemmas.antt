@@ -1,5 +1,5 @@
 -- `as4` and `revised`: before `local` messages are read and written by another profile from now on, and nothing else changes.
-use Rattle.router_moments.proofs.Common.{sym, subst, ◌∙◌, ap, ◌≡◌, ℕ, refl, List, true, false, Bool, cond, ◌&&◌, get-empty, nat_cmp, Route, Neighbour, Profile, Speaker, peer_at, Declaration, with_session, with_four_octets, with_revised, with_reflection, without_session, DeclaredPeer, Event, Down, Bgp, As4, Revised, Reflect, Up, ArePrintableExits, unread_or_none, Journaled, flushed, Link, Adv, Read, Outf, Rows, Change, declared_after, OutChained, StandsOver, IsBlock, live_state, Moment, best_of, router_links, Gives, read_rows_by, read_of, read_by, Stands, ExitsAt, ReadsOn, MaySend, HasStepped}
+use Rattle.router_moments.proofs.Common.{sym, subst, ◌∙◌, ap, ◌≡◌, ℕ, refl, List, true, false, Bool, cond, ◌&&◌, get-empty, nat_cmp, Route, Printing, Profile, Speaker, peer_at, Declaration, with_session, with_four_octets, with_revised, with_reflection, without_session, DeclaredPeer, Event, Down, Bgp, As4, Revised, Reflect, Up, ArePrintableExits, unread_or_none, Journaled, flushed, Link, Adv, Read, Outf, Rows, Change, declared_after, OutChained, StandsOver, IsBlock, live_state, Moment, best_of, router_links, Gives, read_rows_by, read_of, read_by, Stands, ExitsAt, ReadsOn, MaySend, HasStepped}
 use Rattle.std.proofs.Common.{not, [], Option, Some, None}
 use Rattle.std.specs.FinMap as tables
 use Rattle.journal_text.specs.declared.link.Link.TheVariants.{ReadRib}
@@ -21,6 +21,19 @@ profile_after profile As4 = with_four_octets profile
 profile_after profile Revised = with_revised profile
 profile_after profile Reflect = with_reflection profile
 profile_after profile other = profile
+
+-- it is of the same family, and says as before whether IPv6 is spoken
+pub second_follows : (profile : Profile) (event : Event) → (profile_after profile event).second ≡ profile.second
+second_follows profile As4 = refl
+second_follows profile Revised = refl
+second_follows profile Reflect = refl
+second_follows profile other = refl
+
+pub spoken_follows : (profile : Profile) (event : Event) → (profile_after profile event).v6 ≡ profile.v6
+spoken_follows profile As4 = refl
+spoken_follows profile Revised = refl
+spoken_follows profile Reflect = refl
+spoken_follows profile other = refl
 
 up_keeps : (d : Declaration) (k : ℕ) (o : Option DeclaredPeer) → d.profile ≡ (declared_up d k o).profile
 up_keeps d k None = refl
@@ -69,8 +82,8 @@ family_follows d other = refl
 
 -- ---- what stands before `local`
 -- exits that nobody has yet can be printed
-pub nothing_printable : (profile : Profile) → profile.second ≡ false → (peers : ℕ → Option Neighbour) → ArePrintableExits profile peers (no_exits profile)
-nothing_printable profile first peers = empty_is_printed profile peers (no_exits profile) first (λ j. get-empty {X = OutChained} nat_cmp j) (λ reader. ap unread_or_none (get-empty {X = List (Change Route)} nat_cmp reader))
+pub nothing_printable : (profile : Profile) (printing : Printing) → profile.second ≡ printing.v6 → ArePrintableExits profile printing (no_exits profile)
+nothing_printable profile printing family = empty_is_printed profile printing (no_exits profile) family (λ j. get-empty {X = OutChained} nat_cmp j) (λ reader. ap unread_or_none (get-empty {X = List (Change Route)} nat_cmp reader))
 
 module _ (m : Moment) (profile : Profile) (stands : Stands m) (first : m.declared.speaker ≡ None) where
   abbrev then : Moment
@@ -79,7 +92,7 @@ module _ (m : Moment) (profile : Profile) (stands : Stands m) (first : m.declare
   read_then : read_of then ≡ read_of m
   read_then = ap (λ (o : Option ℕ). read_rows_by tables.empty o (best_of m)) (no_reader m stands first) ∙ sym (read_before m stands first)
 
-  then_stands : Stands then
+  pub then_stands : Stands then
   then_stands = record {
     peers = stands.peers;
     interior = stands.interior;

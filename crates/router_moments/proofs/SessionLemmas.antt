@@ -1,6 +1,6 @@
 -- Sessions that begin and end, the rules of outgoing filters, and what reads `best` from `local` on.
 use Rattle.router_moments.proofs.Common.{sym, subst, ◌∙◌, ap, ◌≡◌, ℕ, refl, List, true, arith, false, ◌+◌, Bool, cond, ◌<◌, nat_eq, not, ◌&&◌, nat_tests, nat_cmp_total, get-insert, nat_cmp, eq_by_cmp, Route, Profile, Speaker, begun_words, peer_at, Declaration, with_session, begun_at, refusal_at, DeclaredPeer, Exited, AllStand, with_exit, IsExits, Queued, AllLead, unread_or_none, neighbours, entries_of_entries, leads_nowhere, Journaled, Adds, entries_of, route_rows, Leads, Links, Entry, Link, Best, Adv, Read, Outf, Value, rows_before, Rows, same_by, OutChained, RowsMayBeHeard, IsSender, Rule, StandsOver, best_links, ByPeer, BeginsIf, BySpeaker, Begins, live_state, Moment, best_of, router_links, with_exits, read_rows_by, read_by, rules_to, Policies, Stands, ExitsAt, ReadsOn, MaySend, IsExitOf, journal_lines, Pushes, HasStepped, Keeps}
-use Rattle.std.proofs.Common.{nat_le, ◌/◌, ◌==◌, [], ◌∷◌, Option, Some, None, is_some, IsSome}
+use Rattle.std.proofs.Common.{[], ◌∷◌, Option, Some, None, is_some, IsSome}
 use Rattle.std.specs.Prelude.{◌^◌, option_map}
 use Rattle.std.specs.FinMap as tables
 use Rattle.std.specs.FinMap.{get-remove}

@@ -10,6 +10,7 @@ use Rattle.journal_text.specs.Lines.{Line}
 use Rattle.journal_text.specs.Walk.{Links}
 use Rattle.journal_text.specs.Journals.{Journaled, with_lines, flushed}
 use Rattle.event_text.specs.Declarations.{Declaration, no_declaration, plain_of, with_profile}
+use Rattle.event_text.specs.FileEvents.{with_ipv6}
 use Rattle.rib_tree.specs.Trees.{Treed, tree_count, tree_links, int_rows, int_candidates}
 use Rattle.rib_tree.specs.Steps.{new_tree}
 use Rattle.pass_core.specs.Passed.{Passed}
@@ -34,7 +35,7 @@ use Rattle.journal_text.specs.declared.link.Link.TheVariants.{ReadRib}
 use Rattle.journal_text.specs.Values.{route_rows}
 use Rattle.fanout_queue.specs.Queues.{Queued}
 use Rattle.fanout_queue.specs.Readers.{read_rows}
-use Rattle.exit_side.specs.Exits.{Exited, no_exits, exit_links}
+use Rattle.exit_side.specs.Exits.{Exited, no_exits, written_by, exit_links}
 
 -- the latest rules of each peer's outgoing filter
 abbrev pub Policies : Type 0
@@ -86,6 +87,10 @@ first_moment v6 = record { declared = no_declaration v6; tree = new_tree; regist
 -- before `local`, where messages are read and written by this profile from now on
 abbrev pub profiled : Moment → Profile → Moment
 profiled m profile = record m { declared = with_profile m.declared profile; exits = no_exits profile }
+
+-- behind `local6`, in IPv4's network: routes of IPv6 are read in messages from now on, and all else stays
+abbrev pub spoken : Moment → Moment
+spoken m = record m { declared = with_profile m.declared (with_ipv6 m.declared.profile); exits = written_by (with_ipv6 m.declared.profile) m.exits }
 
 -- the peers' chains became these
 abbrev pub with_chains : Moment → Chains → Moment

@@ -21,6 +21,26 @@ use Rattle.router_moments.proofs.RefreshTurns.{refreshed_keeps}
 use Rattle.router_moments.proofs.ServedTurns.{idle_serves}
 
 -- ---- `idle` and `work`
+-- every task has run to its end: what an idle is, with its two lines around what was said
+pub idle_said : (m m' : Moment) (bound turns : ℕ) (inner : List Line) → Stands m → bound ≡ bound_of m → bound < 2 ^ 128 → AllHaveDrained m turns m' inner
+    → HasIdled m (record { bound = bound; turns = turns }) m' (lines.Bound bound ∷ (inner ++ lines.Idle turns ∷ []))
+idle_said m m' bound turns inner stands same small drained = record {
+  idles = record {
+    inner = inner;
+    runs = drained.runs;
+    lines = ap (λ (b : ℕ). lines.Bound b ∷ (inner ++ lines.Idle turns ∷ [])) same;
+    within = drained.most;
+    fits = subst (λ (b : ℕ). b < 2 ^ 128) same small;
+    settled = drained.settled;
+    exact = drained.exact;
+  };
+  bound = same;
+  keeps = keeps_on m m m' (lines.Bound bound ∷ []) (inner ++ lines.Idle turns ∷ []) (live_state m) refl (keeps_said m (lines.Bound bound ∷ []) stands (refl, (refl, tt)))
+      (keeps_on m m' m' inner (lines.Idle turns ∷ []) (live_state m) refl drained.keeps (keeps_said m' (lines.Idle turns ∷ []) drained.keeps.stands (refl, (refl, tt))));
+  rows = drained.rows;
+  serves = idle_serves m m' (lines.Bound bound) (lines.Idle turns) inner all_phases turns stands drained.runs;
+}
+
 pub idled : (m m' : Moment) (bound turns : ℕ) (before j j2 j3 now : Journaled) → Stands m → bound ≡ bound_of m → bound < 2 ^ 128 → j ≡ with_lines before (lines.Bound bound ∷ []) → Gives (AllHaveDrained m turns m') j j2
     → j3 ≡ with_lines j2 (lines.Idle turns ∷ []) → now ≡ flushed j3 → Gives (HasIdled m (record { bound = bound; turns = turns }) m') before now
 idled m m' bound turns before j j2 j3 now stands same small first g last is =
@@ -37,22 +57,8 @@ idled m m' bound turns before j j2 j3 now stands same small first g last is =
     Bounded said = (inner : List Line) × (said ≡ lines.Bound bound ∷ inner) × AllHaveDrained m turns m' inner
 
     both : (xs ys : List Line) → Bounded xs → Ended ys → HasIdled m (record { bound = bound; turns = turns }) m' (xs ++ ys)
-    both xs ys p q = subst (λ (l : List Line). HasIdled m (record { bound = bound; turns = turns }) m' l) (sym (ap (λ (l : List Line). l ++ ys) p.1 ∙ ap (λ (l : List Line). lines.Bound bound ∷ (p.0 ++ l)) q)) (record {
-      idles = record {
-        inner = p.0;
-        runs = p.2.runs;
-        lines = ap (λ (b : ℕ). lines.Bound b ∷ (p.0 ++ lines.Idle turns ∷ [])) same;
-        within = p.2.most;
-        fits = subst (λ (b : ℕ). b < 2 ^ 128) same small;
-        settled = p.2.settled;
-        exact = p.2.exact;
-      };
-      bound = same;
-      keeps = keeps_on m m m' (lines.Bound bound ∷ []) (p.0 ++ lines.Idle turns ∷ []) (live_state m) refl (keeps_said m (lines.Bound bound ∷ []) stands (refl, (refl, tt)))
-          (keeps_on m m' m' p.0 (lines.Idle turns ∷ []) (live_state m) refl p.2.keeps (keeps_said m' (lines.Idle turns ∷ []) p.2.keeps.stands (refl, (refl, tt))));
-      rows = p.2.rows;
-      serves = idle_serves m m' (lines.Bound bound) (lines.Idle turns) p.0 all_phases turns stands p.2.runs;
-    })
+    both xs ys p q = subst (λ (l : List Line). HasIdled m (record { bound = bound; turns = turns }) m' l) (sym (ap (λ (l : List Line). l ++ ys) p.1 ∙ ap (λ (l : List Line). lines.Bound bound ∷ (p.0 ++ l)) q))
+        (idle_said m m' bound turns p.0 stands same small p.2)
 
 pub worked : (m m' : Moment) (task : Task) (most turns : ℕ) (before j j2 now : Journaled) → Stands m → Gives (AreTurns task most m turns m') before j → j2 ≡ with_lines j (lines.Work turns ∷ []) → now ≡ flushed j2
     → Gives (HasStepped m (Work task most) turns m') before now

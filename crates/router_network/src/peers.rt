@@ -6,7 +6,7 @@ ghost use Rattle.event_text.specs.declared.event.Event.TheVariants as events;
 ghost use Rattle.event_text.specs.Declarations.{peer_at, refusal};
 ghost use Rattle.peer_side.specs.Peers.{chain_at};
 ghost use Rattle.event_text.specs.WellFormed.{IsWellFormed};
-ghost use Rattle.router_moments.specs.Moments.{profiled};
+ghost use Rattle.router_moments.specs.Moments.{profiled, spoken};
 ghost use Rattle.router_moments.specs.Stands.{Stands};
 ghost use Rattle.router_moments.specs.Blocks.{begin_line, first_begins};
 ghost use Rattle.journal_text.specs.Journals.{with_lines};
@@ -36,12 +36,22 @@ impl<F: Writes> Network<F> {
 
     /// This holds for the whole file: how AS numbers and errors in attributes are read and written. Nobody reads the queue
     /// yet, so it begins anew.
-    pub(crate) fn set_profile(&mut self, profile: Profile)
+    pub fn set_profile(&mut self, profile: Profile)
         requires { IsProfileOf F.V6 profile }
         ensures { self.new ≡ profiled self.old profile }
     {
         self.declared.set_profile(profile);
         self.exits = Exits::new(self.alloc, profile);
+    }
+
+    /// `local6` was said: routes of IPv6 are read in messages from now on (RFC 4760). Takes no memory.
+    pub fn speak_ipv6(&mut self)
+        ensures { self.new ≡ spoken self.old }
+    {
+        self.declared.known();
+        self.declared.set_ipv6();
+        self.declared.known();
+        self.exits.set_profile(self.declared.profile());
     }
 
     /// `local` was declared: the links of the interior routes begin.

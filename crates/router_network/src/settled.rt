@@ -3,7 +3,7 @@
 //! goes over the rows of a table: a phase without work is passed over, and each task of another is asked once, which looks at the
 //! one prefix, and a lost table of interior routes also at those that hold a next hop.
 
-ghost use Rattle.std.specs.Prelude.{◌≡◌, ℕ, ◌<◌, ◌≤◌, IfOk, None};
+ghost use Rattle.std.specs.Prelude.{◌≡◌, ℕ, ◌<◌, ◌≤◌, IfOk, None, length};
 ghost use Rattle.event_text.specs.declared.event.Event.TheVariants as events;
 ghost use Rattle.peer_side.specs.Peers.{chain_at};
 ghost use Rattle.router_moments.specs.declared.tasks.Phase.TheVariants as phases;
@@ -16,13 +16,14 @@ ghost use Rattle.router_network.specs.Informed.{Informed};
 use crate::network::Network;
 use crate::turns::{exit_of, phases, task_of};
 use addr4::{Addr, Memory, Prefix, V4};
+use addr6::V6;
 use decision::Contests;
 use hop_side::Named;
 use journal_text::{Journal, Line, Task};
 use peer_out::Writes;
 use router_moments::{Phase, only_work_holds_up, the_first_task_tells};
 
-/// A family whose lost tables are asked. The next hops that are asked for stand in an array, so each family asks for itself.
+/// A family whose lost tables are asked. The next hops that are asked for stand in an array, and each family has room for its own.
 pub trait AsksLosses: Writes {
     /// The first deletion stage: one whose table has the prefix, or one that holds the next hop of a peer's row of `filt.K` there.
     fn loss_held(network: &Network<Self>, p: &Prefix<Self>) -> Option<Task>
@@ -32,16 +33,15 @@ pub trait AsksLosses: Writes {
 
 impl AsksLosses for V4 {
     fn loss_held(network: &Network, p: &Prefix) -> Option<Task> {
-        let lent = network.lent();
-        let mut hops = [Addr::new(0); 65];
-        let mut count: usize = 0;
-        for number in 0..network.numbers() {
-            if let Some(hop) = lent.next_hop(number, p) {
-                hops[count] = hop;
-                count += 1;
-            }
-        }
-        network.tree.first_loss_at(*p, &hops[..count])
+        let mut room = [Addr::unspecified(); 65];
+        network.loss_over(*p, &mut room)
+    }
+}
+
+impl AsksLosses for V6 {
+    fn loss_held(network: &Network<V6>, p: &Prefix<V6>) -> Option<Task> {
+        let mut room = [Addr::unspecified(); 65];
+        network.loss_over(*p, &mut room)
     }
 }
 
@@ -104,6 +104,23 @@ impl<F: AsksLosses> Network<F> {
 }
 
 impl<F: Writes> Network<F> {
+    /// The first deletion stage that holds up a prefix. The room takes the next hops of the peers' rows there, whatever it held.
+    fn loss_over(&self, p: Prefix<F>, room: &mut [Addr<F>]) -> Option<Task>
+        requires stands { Stands self.now }
+        requires room { length room.old ≡ 65 }
+        ensures { result ≡ held_in phases.Rdel self.now p }
+    {
+        let lent = self.lent();
+        let mut count: usize = 0;
+        for number in 0..self.numbers() {
+            if let Some(hop) = lent.next_hop(number, &p) {
+                room[count] = hop;
+                count += 1;
+            }
+        }
+        self.tree.first_loss_at(p, &room[..count])
+    }
+
     /// Below which all peers have their numbers, at most 65.
     fn numbers(&self) -> u32
         ensures few { result ≤ 65 }

@@ -127,7 +127,7 @@ impl<F: Writes> Network<F> {
     }
 
     /// Phase after phase, each to its end.
-    pub(crate) fn drain_all(
+    pub fn drain_all(
         &mut self,
         contests: &mut Contests<F>,
         journal: &mut Journal<F>,

@@ -1,5 +1,6 @@
 use Rattle.std.proofs.Common.{Bool, arith, refl, ap, subst, ◌∙◌, ⊎_elim, take, ◌++◌, Some}
 use Rattle.check_run.specs.Lines.{lines_of}
+use Rattle.router.specs.Networks.{networks_of}
 use Rattle.replay.specs.Output.{IsOutputTo, IsRefusedOutput, IsFrontOfOutput}
 use Rattle.replay.specs.Stream.{HasStepped, IsRefusedAt, IsFrontAt}
 use Rattle.check_run.proofs.Known.{appends_then, consumes_then}
@@ -12,9 +13,9 @@ returns-then-count-eq0-clause-ok g c = λ is.
     let p = c.reading.invariant.progress in
     let w = c.finish.ensures.ok is p.read p.written (stepped_as _ _ _ _ _ _ _ _ c.reading.invariant.same p.stepped) in
     let bytes = c.in-Ok.ensures.bytes in
-    took_all _ _ _ _ p.read (p.written ++ w.0) (λ text bytes. IsOutputTo c.args.journal.now.quiet (lines_of text) bytes c.finish.new.stream.core.moment c.finish.new.stream.turns)
+    took_all _ _ _ _ p.read (p.written ++ w.0) (λ text bytes. IsOutputTo c.args.journal.now.quiet (lines_of text) bytes (networks_of c.finish.new.stream.router) c.finish.new.stream.turns)
     (read_nothing _ _ _ p.read _ _ c.if-count-eq0.true p.consumed bytes.0) (bytes.1 c.if-count-eq0.true (omega arith))
-    (appends_then _ _ _ _ _ p.appended w.1) (subst (λ (q : Bool). IsOutputTo q (lines_of p.read) (p.written ++ w.0) c.finish.new.stream.core.moment c.finish.new.stream.turns) c.reading.invariant.same w.2)
+    (appends_then _ _ _ _ _ p.appended w.1) (subst (λ (q : Bool). IsOutputTo q (lines_of p.read) (p.written ++ w.0) (networks_of c.finish.new.stream.router) c.finish.new.stream.turns) c.reading.invariant.same w.2)
 
 pub returns-then-count-eq0-clause-refused : goal.returns-then-count-eq0-clause-refused
 returns-then-count-eq0-clause-refused g c = λ is.
@@ -66,7 +67,7 @@ reading-preserved g c =
     let e = c.in_default-turn.ensures in
     let w = e.goes_on refl p.read p.written (stepped_as _ _ _ _ _ _ _ _ c.reading.invariant.same p.stepped) in
     let piece = take c.in-Ok.count c.read.new.buf in
-    let stepped = subst (λ (q : Bool). HasStepped q (p.read ++ piece) c.turn.new.stream.number c.turn.new.stream.core.moment c.turn.new.stream.turns c.turn.new.stream.pending.items (p.written ++ w.0)) c.reading.invariant.same w.2 in
+    let stepped = subst (λ (q : Bool). HasStepped q (p.read ++ piece) c.turn.new.stream.number (networks_of c.turn.new.stream.router) c.turn.new.stream.turns c.turn.new.stream.pending.items (p.written ++ w.0)) c.reading.invariant.same w.2 in
     record {
       progress = record {
         read = p.read ++ piece;

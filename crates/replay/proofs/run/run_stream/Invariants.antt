@@ -1,12 +1,13 @@
 use Rattle.std.proofs.Common.{◌≡◌, ◌≤◌, ◌-◌, ◌+◌, ◌*◌, ◌^◌, [], length}
+use Rattle.router.specs.Networks.{networks_of}
 use Rattle.replay.specs.Headline.{Progress}
 use Rattle.replay.specs.Stream.{IsReady}
 use Rattle.replay.proofs.run.run_stream.Given as goal
 
 abbrev pub invariant-reading : goal.invariant-reading
 invariant-reading g l = record {
-  progress : Progress l.fn.journal.quiet (g.S.Source.left l.fn.source) (g.S.Source.left l.source) (g.K.Sink.taken l.fn.sink) (g.K.Sink.taken l.sink) l.stream.number l.stream.core.moment l.stream.turns l.stream.pending.items;
-  ready : IsReady l.stream.number l.stream.core;
+  progress : Progress l.fn.journal.quiet (g.S.Source.left l.fn.source) (g.S.Source.left l.source) (g.K.Sink.taken l.fn.sink) (g.K.Sink.taken l.sink) l.stream.number (networks_of l.stream.router) l.stream.turns l.stream.pending.items;
+  ready : IsReady l.stream.number l.stream.router;
   empty : l.journal.pending ≡ [];
   same : l.journal.quiet ≡ l.fn.journal.quiet;
   source_later : g.S.Source.faults l.fn.source ≤ g.S.Source.faults l.source;

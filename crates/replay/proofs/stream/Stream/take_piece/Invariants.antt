@@ -6,7 +6,7 @@ use Rattle.replay.proofs.stream.Stream.take_piece.Given as goal
 abbrev pub invariant-loop-next : goal.invariant-loop-next
 invariant-loop-next l = record {
   taken : HasTaken l.fn.journal.quiet (state l.fn.self) l.piece l.rest (made l.fn.journal) (made l.journal) (state l.self);
-  ready : IsReady l.self.number l.self.core;
+  ready : IsReady l.self.number l.self.router;
   quiet : l.journal.quiet ≡ l.fn.journal.quiet;
 }
 

@@ -1,0 +1,7 @@
+pub mod ReadingLemmas
+pub mod ToldLemmas
+pub mod AloneLemmas
+mod TextLemmas
+mod BothLemmas
+mod RouterLemmas
+mod BeginLemmas

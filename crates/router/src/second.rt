@@ -1,0 +1,72 @@
+//! What is asked of the second network: its lines come into the text of both.
+
+ghost use Rattle.std.specs.Prelude.{◌≡◌, ◌+◌, ◌<◌, ◌^◌, ◌∷◌, ◌++◌, [], ℕ, true, OnOk, IfOk};
+ghost use Rattle.bgp_attr.specs.Speakers.{IsProfileOf, IsSpeaker};
+ghost use Rattle.event_text.specs.declared.event.Event.TheVariants as events;
+ghost use Rattle.event_text.specs.Declarations.{refusal};
+ghost use Rattle.router_moments.specs.Blocks.{Acts};
+ghost use Rattle.router_moments.specs.Moments.{first_moment, profiled, bound_of};
+ghost use Rattle.router_moments.specs.Stands.{CoreStands};
+ghost use Rattle.router.specs.Steps.{GivesSecond, MayStep, IsFew, idle_lines};
+
+use crate::journals::Journals;
+use addr4::{Addr, Memory};
+use addr6::V6;
+use bgp_attr::{Profile, Speaker};
+use event_text::{Event, EventOf};
+use router_core::Core;
+use std::alloc::Global;
+
+/// The second network begins with this speaker's words, and reads and writes messages by this profile.
+pub(crate) fn second_begun(
+    alloc: Global,
+    profile: Profile,
+    words: Speaker<Addr<V6>>,
+    journals: &mut Journals,
+) -> Result<Core<V6>, Memory>
+    requires family { IsProfileOf true profile }
+    requires words { IsSpeaker true profile.as4 words }
+    ensures acts { IfOk result (λ second. GivesSecond (Acts (profiled (first_moment true) profile) (events.Local words) 0 second.moment) journals.old journals.new) }
+    ensures stands { IfOk result (λ second. CoreStands second) }
+    ensures events { IfOk result (λ second. second.events ≡ 1) }
+{
+    let mut second = Core::new(alloc);
+    second.set_profile(profile);
+    told_second(&mut second, Event::Local(words), journals)?;
+    Ok(second)
+}
+
+/// The second network is told an event.
+pub(crate) fn told_second(
+    second: &mut Core<V6>,
+    told: EventOf<V6>,
+    journals: &mut Journals,
+) -> Result<u128, Memory>
+    requires may { MayStep told second.old }
+    requires few { IsFew second.old }
+    requires stands { CoreStands second.old }
+    ensures acts { IfOk result (λ turns. GivesSecond (Acts second.old.moment told turns second.new.moment) journals.old journals.new) }
+    ensures stands { OnOk result (CoreStands second.new) }
+    ensures events { OnOk result (second.new.events ≡ second.old.events + 1) }
+{
+    let mut own = journals.lend()?;
+    let stepped = second.step(told, &mut own);
+    journals.take_back(own);
+    stepped
+}
+
+/// The second network does its work to its end.
+pub(crate) fn rest_second(second: &mut Core<V6>, journals: &mut Journals) -> Result<u128, Memory>
+    requires admitted { refusal second.old.moment.declared events.Idle ≡ None }
+    requires few { IsFew second.old }
+    requires bound { bound_of second.old.moment < 2 ^ 128 }
+    requires stands { CoreStands second.old }
+    ensures acts { IfOk result (λ turns. GivesSecond (λ inner. Acts second.old.moment events.Idle turns second.new.moment (idle_lines (bound_of second.old.moment) inner turns)) journals.old journals.new) }
+    ensures stands { OnOk result (CoreStands second.new) }
+    ensures events { OnOk result (second.new.events ≡ second.old.events + 1) }
+{
+    let mut own = journals.lend()?;
+    let rested = second.rest(&mut own);
+    journals.take_back(own);
+    rested
+}
