@@ -1,8 +1,10 @@
 #!/usr/bin/env python3
-"""Whether a real speaker and the program tell a table alike: alike.py [--routes 20000]. No test: it needs root and Debian's `bird2`.
+"""Whether a real speaker and the program tell a table alike: alike.py [--routes 20000] [--second] [--program WORDS]. No test: it needs root
+and Debian's `bird2`.
 
-BIRD gets the table of `events.py` from one peer, decides, and sends it to another, whose octets are kept. Then three sets of
-routes are read out of octets, by a decoder that knows nothing of the program (python/bgp/wire.py), and compared:
+BIRD gets the table of `events.py` from one peer, decides, and sends it to another, whose octets are kept. With --second it is the table of
+IPv6 (`table6`), over the same sessions, and the links are those of the second network. Then three sets of routes are read out of octets, by
+a decoder that knows nothing of the program (python/bgp/wire.py), and compared:
 
   in    BIRD's UPDATEs are given to the program, as those of a peer: the rows of its `in.1` are the routes in BIRD's octets
   out   the program gets the same table as BIRD did: what it sends peer 2, in octets, are the same prefixes with the same
@@ -22,19 +24,19 @@ import threading
 sys.path.insert(0, os.path.join(os.path.dirname(os.path.abspath(__file__)), '..', 'python'))
 import daemons
 import events
-from bgp import feed, namespaces, wire
+from bgp import feed, namespaces, program, wire
 
-TOP = os.path.join(os.path.dirname(os.path.abspath(__file__)), '..')
-REPLAY = os.path.join(TOP, 'crates', 'replay_main', 'out', 'replay_main')
 RECEIVER = ['local 65002 192.0.2.2 192.0.2.2', 'peer 1 65000 192.0.2.254 192.0.2.254', 'up 1']
+RECEIVER6 = RECEIVER[:1] + ['local6 2001:db8::2'] + RECEIVER[1:]
+BIRD6 = 'ipv6 { next hop address %s; next hop self; ' % daemons.DAEMON6
 
 
 class Keeper(daemons.Speaker):
     """A speaker that keeps the bodies of the UPDATEs that it is sent."""
 
-    def __init__(self, address, asn):
+    def __init__(self, address, asn, second):
         self.kept = []
-        super().__init__(address, asn)
+        super().__init__(address, asn, second=second)
 
     def count(self, body):
         self.kept.append(body)
@@ -49,10 +51,10 @@ def routes(bodies):
     return held
 
 
-def of_the_program(lines, link):
+def of_the_program(words, lines, link):
     """The rows of a link at the end, and the octets of `out 2`."""
     given = '\n'.join(lines + ['idle', 'show ' + link]) + '\n'
-    ran = subprocess.run([REPLAY, 'run', '--quiet'], input=given.encode(), stdout=subprocess.PIPE, check=True).stdout.decode()
+    ran = subprocess.run(words + ['run', '--quiet'], input=given.encode(), stdout=subprocess.PIPE, check=True).stdout.decode()
     rows, bodies = {}, []
     for line in ran.split('\n'):
         words = line.split(' ')
@@ -63,16 +65,18 @@ def of_the_program(lines, link):
     return rows, bodies
 
 
-def of_the_daemon(messages, count):
+def of_the_daemon(messages, count, second):
     """The bodies of the UPDATEs that BIRD sends for a table. Runs in the speakers' namespace."""
     name, start, config = [known for known in daemons.commands() if known[0] == 'bird'][0]
+    if second:
+        config = config.replace('ipv4 { ', BIRD6).replace('direct { ipv4; }', 'direct { ipv6; }')
     config = config.replace('export all;', 'export all; next hop self;')
     with tempfile.TemporaryDirectory(prefix='bench-') as folder:
         daemon = daemons.Daemon(name, folder, start, config)
         try:
-            receiver = Keeper(daemons.RECEIVER, 65002)
+            receiver = Keeper(daemons.RECEIVER, 65002, second)
             threading.Thread(target=receiver.listen, daemon=True).start()
-            sender = daemons.Speaker(daemons.SENDER, 65001)
+            sender = daemons.Speaker(daemons.SENDER, 65001, second=second)
             threading.Thread(target=sender.listen, daemon=True).start()
             for sent in messages:
                 sender.socket.sendall(sent)
@@ -95,14 +99,16 @@ def without_med(said):
     return {kind: value for kind, value in said.items() if kind != wire.MED}
 
 
-def compare(count):
-    messages = list(feed.updates(count))
-    theirs = of_the_daemon(messages, count)
-    # 192.0.2.0/24 is the daemon's own
+def compare(count, second, words):
+    tag, messages = ('6.', list(feed.second_updates(count))) if second else ('', list(feed.updates(count)))
+    front = [events.LOCAL] + [events.LOCAL6] * second + events.PEERS + [events.ATTACHED6] * second
+    theirs = of_the_daemon(messages, count, second)
+    # the network that it shares with its peers is the daemon's own
     heard = routes(theirs)
-    rows, _ = of_the_program(RECEIVER + ['bgp 1 ' + wire.message(wire.UPDATE, body).hex() for body in theirs], 'in.1')
+    lines = ['bgp 1 ' + wire.message(wire.UPDATE, body).hex() for body in theirs]
+    rows, _ = of_the_program(words, (RECEIVER6 if second else RECEIVER) + lines, tag + 'in.1')
     wrong = differ('in', rows, {key: wire.text(said) for key, said in heard.items()})
-    rows, ours = of_the_program([events.LOCAL] + events.PEERS + ['bgp 1 ' + sent.hex() for sent in messages], 'adv.2.1')
+    rows, ours = of_the_program(words, front + ['bgp 1 ' + sent.hex() for sent in messages], tag + 'adv.2.1')
     sent = routes(ours)
     wrong += differ('rows', rows, {key: wire.text(said) for key, said in sent.items()})
     own = set(heard) - set(sent)
@@ -116,12 +122,14 @@ def compare(count):
 def main():
     words = argparse.ArgumentParser(description=__doc__, formatter_class=argparse.RawDescriptionHelpFormatter)
     words.add_argument('--routes', type=int, default=20000)
+    words.add_argument('--second', action='store_true', help='the table is one of IPv6')
+    words.add_argument('--program', default=program.BUILT, help='the words of another program than the built one')
     asked = words.parse_args()
     daemons.no_namespaces()
     daemons.namespaces()
     try:
         namespaces.enter('bench-peers')
-        return 1 if compare(asked.routes) else 0
+        return 1 if compare(asked.routes, asked.second, asked.program.split(' ')) else 0
     finally:
         daemons.no_namespaces()
 

@@ -11,6 +11,7 @@ import time
 from bgp import namespaces as spaces, session, wire
 
 DAEMON, SENDER, RECEIVER = '192.0.2.254', '192.0.2.1', '192.0.2.2'
+DAEMON6, SHARED6 = '2001:db8::fe', '2001:db8::/64'  # what it says as its next hop of IPv6 over sessions of IPv4
 
 BIRD = '''
 router id 192.0.2.254;
@@ -46,13 +47,13 @@ router bgp 65000
 
 
 class Speaker(session.Connection):
-    """A session with the daemon, with AS numbers of four octets and the capability of RFC 2918 if asked for; counts the prefixes
-    that it was sent and that were withdrawn."""
+    """A session with the daemon, with AS numbers of four octets, the capability of RFC 2918 and routes of IPv6 if asked for; counts the
+    prefixes that it was sent and that were withdrawn."""
 
-    def __init__(self, address, asn, wide=False, refreshes=False):
+    def __init__(self, address, asn, wide=False, refreshes=False, second=False):
         self.announced, self.told, self.withdrawn, self.failed = set(), 0, 0, None
         super().__init__(session.connect(address, (DAEMON, 179), 20))
-        self.open(wire.opening(asn, address, 0, wide, wire.OF_IPV4 + (wire.OF_REFRESHES if refreshes else b'')), 60)
+        self.open(wire.opening(asn, address, 0, wide, wire.OF_IPV4 + wire.OF_IPV6 * second + wire.OF_REFRESHES * refreshes), 60)
 
     def listen(self):
         """Reads until the daemon closes the session."""
@@ -67,12 +68,21 @@ class Speaker(session.Connection):
             pass
 
     def count(self, body):
-        gone, _, come = wire.fields(body)
-        withdrawn, came = list(wire.split(gone)), list(wire.split(come))
+        withdrawn, came = prefixes(body)
         self.announced.difference_update(withdrawn)
         self.announced.update(came)
         self.withdrawn += len(withdrawn)
         self.told += len(came)
+
+
+def prefixes(body):
+    """What an UPDATE withdraws and announces: prefixes of IPv4 as octets, and those of IPv6 as texts."""
+    gone, said, come = wire.fields(body)
+    found = list(wire.split(gone)), list(wire.split(come))
+    if come or gone or not said:
+        return found
+    kinds = wire.by_type(said)
+    return wire.unreached(kinds), wire.reached(kinds)[1]
 
 
 class Daemon(spaces.Started):
@@ -114,6 +124,7 @@ def namespaces():
     spaces.link('bench-daemon', 'bench0', 'bench-peers', 'bench1')
     for name, address, interface in (('daemon', DAEMON, 'bench0'), ('peers', SENDER, 'bench1'), ('peers', RECEIVER, 'bench1')):
         spaces.ip('-n bench-%s addr add %s/24 dev %s' % (name, address, interface))
+    spaces.attach('bench-daemon', 'bench0', DAEMON6, SHARED6)
 
 
 def no_namespaces():

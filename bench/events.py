@@ -3,6 +3,8 @@
 
 Kinds:
   table     peer 1 announces so many different prefixes, about five an UPDATE; then `idle`, and peer 2 is sent them
+  table6    the same of IPv6: prefixes of 32 to 48 bits, in a file with `local6`
+  table_local6  the same as table in a file with `local6`, of which nothing else is said: the second network is idle
   as4       the same with AS numbers of four octets, most of them above 65535, in the file's messages and in what is sent
   alone     the same as table, but peer 2 is down: nothing is sent
   rejected  the same as table, but a rule rejects every route that peer 2 would be sent
@@ -36,14 +38,16 @@ import random
 import sys
 
 sys.path.insert(0, os.path.join(os.path.dirname(os.path.abspath(__file__)), '..', 'python'))
-from bgp.feed import NEAR, attributes, prefixes, updates
+from bgp.feed import NEAR, attributes, prefixes, second_updates, updates
 from bgp.wire import REFRESH, address, made_update
 
-LOCAL = 'local 65000 192.0.2.254 192.0.2.254'
+LOCAL, LOCAL6 = 'local 65000 192.0.2.254 192.0.2.254', 'local6 2001:db8::fe'
+ATTACHED6 = 'route add connected 2001:db8::/64 direct eth0 1'
 PEERS = ['peer 1 65001 192.0.2.1 192.0.2.1', 'peer 2 65002 192.0.2.2 192.0.2.2',
          'route add connected 192.0.2.0/24 direct eth0 1', 'up 1', 'up 2']
 KINDS = ('table', 'as4', 'alone', 'rejected', 'paced', 'edit', 'rules', 'refresh', 'loss', 'interior', 'lost', 'hops', 'kept', 'moved',
-         'peers', 'best_lost', 'senders', 'many', 'exits', 'own', 'asked')
+         'peers', 'best_lost', 'senders', 'many', 'exits', 'own', 'asked', 'table6', 'table_local6')
+OF_BOTH = ('table6', 'table_local6')  # kinds of files with `local6`
 READ = ['work rd.rib 99', 'work out.1 99', 'work out.2 99']
 # an event that looks at nothing but the register, and the line that it gives: how far the program has come
 LOOK, LOOKED = b'cover 192.0.2.1\n', b'cover 192.0.2.1 192.0.2.0/24 192.0.2.0/24\n'
@@ -111,6 +115,8 @@ def events(kind, count, number=8):
     if kind == 'as4':
         yield 'as4'
     yield LOCAL
+    if kind in OF_BOTH:
+        yield LOCAL6
     if kind in ('interior', 'lost'):
         yield from routes(count)
     elif kind in ('peers', 'best_lost'):
@@ -131,7 +137,9 @@ def events(kind, count, number=8):
         yield from {'alone': ['down 2'], 'rejected': ['down 2', 'filter out 2 any reject', 'up 2']}.get(kind, [])
         yield from (way(hop, 'eth0', 10) for hop in HOPS if far)
         yield from own(1000) if kind == 'own' else ()
-        for message in updates(count, HOPS if far else [NEAR], width=4 if kind == 'as4' else 2):
+        yield from [ATTACHED6] if kind == 'table6' else []
+        said = second_updates(count) if kind == 'table6' else updates(count, HOPS if far else [NEAR], width=4 if kind == 'as4' else 2)
+        for message in said:
             yield 'bgp 1 ' + message.hex()
             yield from READ if kind == 'paced' else ()
     yield 'idle'

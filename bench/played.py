@@ -37,12 +37,17 @@ protocol device { }
 protocol direct { ipv4; }
 ipv4 table interior;
 '''
+HEAD6 = '''protocol direct { ipv6; }
+ipv6 table interior6;
+'''
 STATIC = '''protocol static from_%s { ipv4 { %s};
 %s}
 '''
 PEER = '''protocol bgp peer%d { local %s as %d; neighbor %s as %d; passive on; hold time 0;
-  ipv4 { %simport %s; export %s; }; }
+  ipv4 { %simport %s; export %s; };%s }
 '''
+PEER6 = '''
+  ipv6 { next hop address %s; import %s; export %s; };'''
 REJECTED = '      if true then { reject; }\n      accept;\n'  # the filter that a rule makes which rejects all
 
 
@@ -78,7 +83,7 @@ class File(eventfile.Wanted):
         if number not in self.senders:
             self.senders.append(number)
             self.announced = 0
-        self.announced += sum(1 for _ in wire.split(wire.fields(octets[19:])[2]))
+        self.announced += len(daemons.prefixes(octets[19:])[1])
         return ['bgp', number, octets, self.announced]
 
     def interior_routes(self):
@@ -117,9 +122,17 @@ def of_bird(wanted):
     """BIRD's configuration."""
     far = 'gateway recursive; igp table interior; ' if wanted.interior_routes() else ''
     kept = 'import table on; ' if wanted.keeps else ''
-    return HEAD % wanted.identifier + ''.join(statics(wanted)) + ''.join(
-        PEER % (number, wanted.address, wanted.asn, peer.address, peer.asn, kept + far, imported(wanted, number), exported(wanted, number))
-        for number, peer in wanted.peers.items())
+    return HEAD % wanted.identifier + HEAD6 * (wanted.second is not None) + ''.join(statics(wanted)) + ''.join(
+        PEER % (number, wanted.address, wanted.asn, peer.address, peer.asn, kept + far, imported(wanted, number), exported(wanted, number),
+                channel6(wanted, number)) for number, peer in wanted.peers.items())
+
+
+def channel6(wanted, number):
+    """What is done with the routes of IPv6 that a peer sends and is sent: as with those of IPv4, without rules."""
+    if not wanted.second:
+        return ''
+    is_sender = number in wanted.senders
+    return PEER6 % (wanted.second.address, 'all' if is_sender else 'none', 'none' if wanted.senders == [number] else 'all')
 
 
 class Played:
@@ -131,7 +144,7 @@ class Played:
         self.speakers, self.last, self.before = {}, None, 0
         for number in sorted(wanted.up, reverse=True):
             peer = wanted.peers[number]
-            made = self.speakers[number] = daemons.Speaker(peer.address, peer.asn, wanted.wide, wanted.refreshes)
+            made = self.speakers[number] = daemons.Speaker(peer.address, peer.asn, wanted.wide, wanted.refreshes, wanted.second is not None)
             threading.Thread(target=made.listen, daemon=True).start()
         # who is sent all, if anybody is: the peer of the greatest number
         told = wanted.up and exported(wanted, max(wanted.up)) == 'all'

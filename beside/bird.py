@@ -1,32 +1,38 @@
 """BIRD beside `replay` (Debian's `bird2`): interior routes are static ones in a table of their own, which next hops are looked up in."""
 import re
 
-from bgp.eventfile import DISTANCES, Wanted, masked
+from bgp import wire
+from bgp.eventfile import DISTANCES, Wanted, masked, plain
 from bgp.program import Best
 from router import Failed, Router, bounds, flat, origin
 
 ORIGINS = ('ORIGIN_IGP', 'ORIGIN_EGP', 'ORIGIN_INCOMPLETE')
 SETS = {'pref': 'bgp_local_pref = %d;', 'med': 'bgp_med = %d;', 'nomed': 'unset(bgp_med);', 'prepend': 'prepends = %d;'}
 SHOWN = 400  # `birdc` cuts longer paths
+NAMES = {wire.IPV4: {'family': 'ipv4', 'six': '', 'main': 'master4'}, wire.IPV6: {'family': 'ipv6', 'six': '6', 'main': 'master6'}}
 
 # `prepends` counts how often more than once the own AS goes in front of the path, without a longer path in the decision
 HEAD = '''router id %(identifier)s;
 attribute int prepends;
-ipv4 table interior;
 protocol device { }
 function prepended() {
 %(prepends)s}
-protocol static own { ipv4 { preference 254; };
+'''
+# of each family; the names of IPv6 end with a 6
+TABLES = '''%(family)s table interior%(six)s;
+protocol static own%(six)s { %(family)s { preference 254; };
 %(own)s}
 '''
-INTERIOR = '''protocol static from_%s { ipv4 { table interior; preference %d; };
-%s}
+INTERIOR = '''protocol static from%(six)s_%(protocol)s { %(family)s { table interior%(six)s; preference %(preference)d; };
+%(routes)s}
 '''
 PEER = '''protocol bgp peer%(number)d {
   local %(local)s as %(own)d; neighbor %(address)s as %(asn)d;
   passive on; hold time 0; connect delay time 1; connect retry time 1; error wait time 1, 1; error forget time 1;
   deterministic med on;%(reflected)s
-  ipv4 { import table on; gateway recursive; igp table interior; %(self)s
+%(channels)s}
+'''
+CHANNEL = '''  %(family)s { import table on; gateway recursive; igp table interior%(six)s; %(self)s
     import filter {
 %(in)s    };
     export filter {
@@ -34,7 +40,6 @@ PEER = '''protocol bgp peer%(number)d {
       if source != RTS_BGP then { bgp_origin = ORIGIN_INCOMPLETE; bgp_next_hop = %(local)s; }
 %(out)s    };
   };
-}
 '''
 
 
@@ -64,25 +69,35 @@ class Bird(Router):
     def config(self):
         wanted = self.wanted
         prepends = ''.join('  if prepends >= %d then bgp_path.prepend(%d);\n' % (number, wanted.asn) for number in range(1, 17))
-        own = ''.join('  route %s blackhole;\n' % prefix for prefix in wanted.own())
-        said = HEAD % {'identifier': wanted.identifier, 'own': own,
-                       'prepends': '  if defined(prepends) then {\n%s  }\n' % prepends}
-        for protocol, table in wanted.interior.items():
-            routes = ''.join('  route %s via %s { igp_metric = %d; };\n' % (
-                prefix, "%s%%'%s' onlink" % (way.gateway, way.interface) if way.gateway else '"%s"' % way.interface, way.metric)
-                for prefix, way in sorted(table.items()))
-            said += INTERIOR % (protocol, 250 - DISTANCES[protocol], routes)
+        said = HEAD % {'identifier': wanted.identifier, 'prepends': '  if defined(prepends) then {\n%s  }\n' % prepends}
+        for network in wanted.networks():
+            said += TABLES % {'own': ''.join('  route %s blackhole;\n' % prefix for prefix in network.own()), **NAMES[network.family]}
+            said += ''.join(self.interior(network, protocol) for protocol in network.interior)
         return said + ''.join(self.of_peer(peer) for peer in wanted.peers.values())
+
+    @staticmethod
+    def interior(network, protocol):
+        routes = ''.join('  route %s via %s { igp_metric = %d; };\n' % (
+            prefix, "%s%%'%s' onlink" % (way.gateway, way.interface) if way.gateway else '"%s"' % way.interface, way.metric)
+            for prefix, way in sorted(network.interior[protocol].items()))
+        return INTERIOR % {'protocol': protocol, 'preference': 250 - DISTANCES[protocol], 'routes': routes, **NAMES[network.family]}
 
     def of_peer(self, peer):
         wanted = self.wanted
-        inner = wanted.is_internal(peer)
+        is_reflected = wanted.is_internal(peer) and wanted.reflects
         return PEER % {
             'number': peer.number, 'local': wanted.address, 'own': wanted.asn, 'address': peer.address, 'asn': peer.asn,
-            'self': '' if inner else 'next hop self;',
-            'reflected': ' rr cluster id %s;%s' % (wanted.identifier, ' rr client;' * peer.client) if inner and wanted.reflects else '',
-            'in': ''.join(filtered(wanted.filters['in'].get(peer.number, []), '')),
-            'out': ''.join(filtered(wanted.filters['out'].get(peer.number, []), '' if inner else 'prepended(); '))}
+            'reflected': ' rr cluster id %s;%s' % (wanted.identifier, ' rr client;' * peer.client) if is_reflected else '',
+            'channels': ''.join(self.channel(peer, network) for network in wanted.networks())}
+
+    def channel(self, peer, network):
+        """What is done with the routes of a family that a peer sends and is sent. Over a session of IPv4 a next hop of IPv6 has to be named."""
+        inner = self.wanted.is_internal(peer)
+        own = 'next hop address %s; ' % network.address if network.family == wire.IPV6 else ''
+        return CHANNEL % {
+            'local': network.address, 'self': own + ('' if inner else 'next hop self;'),
+            'in': ''.join(filtered(network.filters['in'].get(peer.number, []), '')),
+            'out': ''.join(filtered(network.filters['out'].get(peer.number, []), '' if inner else 'prepended(); ')), **NAMES[network.family]}
 
     def control(self, words, may_fail=False):
         return self.command(['birdc', '-s', self.path('ctl')] + words.split(), may_fail)
@@ -107,18 +122,19 @@ class Bird(Router):
             self.wait(lambda: 'Daemon is up' in self.control('show status', True))
 
     def best(self):
-        found, prefix, route = {}, None, {}
+        found, route = {}, {}
         numbers = {'peer%d' % number: number for number in self.wanted.peers}
-        for line in self.control('show route primary all table master4').split('\n'):
-            begun = re.match(r'(\S+/\d+)\s+(\w+) .*?\[(\w+)', line)
-            if begun:
-                prefix, kind, protocol = begun.groups()
-                route = {'peer': numbers.get(protocol, 0)}
-                if kind != 'unreachable':
-                    found[prefix] = route
-            said = re.match(r'\tBGP\.(\w+): ?(.*)', line)
-            if said:
-                route[said.group(1)] = said.group(2).strip()
+        for family in self.wanted.families():
+            for line in self.control('show route primary all table %s' % NAMES[family]['main']).split('\n'):
+                begun = re.match(r'(\S+/\d+)\s+(\w+) .*?\[(\w+)', line)
+                if begun:
+                    prefix, kind, protocol = begun.groups()
+                    route = {'peer': numbers.get(protocol, 0)}
+                    if kind != 'unreachable':
+                        found[masked(prefix)] = route
+                said = re.match(r'\tBGP\.(\w+): ?(.*)', line)
+                if said:
+                    route[said.group(1)] = said.group(2).strip()
         return {prefix: self.told(route) for prefix, route in found.items()}
 
     @staticmethod
@@ -127,4 +143,5 @@ class Bird(Router):
             return Best(0, None, None, None, None, None)
         path = flat(route['as_path']) if len(route['as_path']) < SHOWN else None
         preference = int(route['local_pref']) if 'local_pref' in route else None  # it isn't shown where one came from an external peer
-        return Best(route['peer'], preference, int(route.get('med', 0)), path, origin(route['origin']), route['next_hop'])
+        hop = '+'.join(map(plain, route['next_hop'].split()))
+        return Best(route['peer'], preference, int(route.get('med', 0)), path, origin(route['origin']), hop)

@@ -1,4 +1,4 @@
-"""Two tables beside one another: what differs, and how much was compared."""
+"""Two tables beside one another: what differs, and how much was compared. A table has the rows of both families."""
 import collections
 import ipaddress
 
@@ -15,9 +15,15 @@ def same(ours, theirs):
 
 
 def rows_apart(kind, peer, ours, theirs, counts):
-    keys = sorted(set(ours) | set(theirs), key=ipaddress.ip_network)
+    keys = sorted(set(ours) | set(theirs), key=in_order)
     counts[kind] += len(keys)
     return [Difference(kind, peer, key, ours.get(key), theirs.get(key)) for key in keys if not same(ours.get(key), theirs.get(key))]
+
+
+def in_order(prefix):
+    """IPv4 first, then by address and length."""
+    network = ipaddress.ip_network(prefix)
+    return network.version, network
 
 
 def notes_apart(peer, ours, theirs, counts):

@@ -1,4 +1,4 @@
-"""The faults of an UPDATE's attributes, read by RFC 4271, section 6.3, alone: nothing here knows the program."""
+"""The faults of an UPDATE's attributes, read by RFC 4271, section 6.3, and RFC 4760, section 7, alone: nothing here knows the program."""
 from bgp import wire
 
 LENGTHS = {wire.ORIGIN: 1, wire.NEXT_HOP: 4, wire.MED: 4, wire.LOCAL_PREF: 4, wire.ATOMIC_AGGREGATE: 0,
@@ -6,23 +6,69 @@ LENGTHS = {wire.ORIGIN: 1, wire.NEXT_HOP: 4, wire.MED: 4, wire.LOCAL_PREF: 4, wi
 FLAGS = {wire.ORIGIN: 0x40, wire.AS_PATH: 0x40, wire.NEXT_HOP: 0x40, wire.MED: 0x80, wire.LOCAL_PREF: 0x40, wire.ATOMIC_AGGREGATE: 0x40,
          wire.AGGREGATOR: 0xc0, wire.ORIGINATOR_ID: 0x80, wire.CLUSTER_LIST: 0x80}
 
+OF_THE_SECOND = (wire.MP_REACH, wire.MP_UNREACH)
+UNUSABLE = (bytes(16), bytes(15) + b'\1')  # :: and ::1 are no next hops
 
-def faults(octets, announces, width):
+
+def faults(octets, announces, width, second=False):
     """The faults of attributes, from left to right (docs/BGP.md, "Faults"): type and `flags`, `length` or `value`; or `twice`, `unknown`,
-    `missing`, `run out`."""
+    `missing`, `run out`. With `second` types 14 and 15 are read, whose repetition is `14 twice` or `15 twice`."""
     found, seen = set(), set()
+    needed = {wire.ORIGIN, wire.AS_PATH, wire.NEXT_HOP} if announces else set()
     try:
         for one in wire.attributes(octets):
+            is_second = second and one.kind in OF_THE_SECOND
             if one.kind in seen:
-                found.add('twice')
+                found.add('%d twice' % one.kind if is_second else 'twice')
                 continue
             seen.add(one.kind)
-            found |= {'%d %s' % (one.kind, what) if what != 'unknown' else what for what in of_one(*one, width)}
+            what_is_wrong = of_the_second(*one) if is_second else of_one(*one, width)
+            found |= {'%d %s' % (one.kind, what) if what != 'unknown' else what for what in what_is_wrong}
+            if is_second and prefixes(one)[1]:
+                needed |= {wire.ORIGIN, wire.AS_PATH}
     except ValueError:
         return found | {'run out'}
-    if announces and not {wire.ORIGIN, wire.AS_PATH, wire.NEXT_HOP} <= seen:
-        found.add('missing')
-    return found
+    return found if needed <= seen else found | {'missing'}
+
+
+def of_the_second(flags, kind, value):
+    """The faults of an attribute of type 14 or 15; one of another family isn't looked at."""
+    if flags & 0xc0 != 0x80:
+        yield 'flags'
+    elif len(value) < 3:
+        yield 'value'
+    elif value.startswith(wire.IPV6.code):
+        try:
+            hop = wire.reached({kind: (flags, value)})[0] if kind == wire.MP_REACH else None
+            wire.unreached({kind: (flags, value)})
+        except ValueError:
+            yield 'value'
+            return
+        if hop is not None and (len(hop) not in (16, 32) or hop[0] == 0xff or hop[:16] in UNUSABLE):
+            yield 'value'
+
+
+def prefixes(one):
+    """The prefixes of IPv6 that an attribute withdraws and announces; none where they can't be read."""
+    kinds = {one.kind: (one.flags, one.value)}
+    try:
+        return wire.unreached(kinds), wire.reached(kinds)[1]
+    except ValueError:
+        return [], []
+
+
+def second(octets):
+    """The prefixes of IPv6 that attributes withdraw and announce, up to where they can be read; of each type the first attribute counts."""
+    gone, came, seen = [], [], set()
+    try:
+        for one in wire.attributes(octets):
+            if one.kind not in seen:
+                seen.add(one.kind)
+                found = prefixes(one)
+                gone, came = gone + found[0], came + found[1]
+    except ValueError:
+        pass
+    return gone, came
 
 
 def behind(octets, width):
@@ -64,3 +110,14 @@ def is_path(octets, width):
     except ValueError:
         return False
     return '()' not in wire.path(octets, width) and '{}' not in wire.path(octets, width)
+
+
+def is_cut_of_both(octets):
+    """Whether a message announces routes of both families, and lacks an attribute that each route of IPv4 has."""
+    try:
+        _, said, came = wire.fields(octets[19:])
+        kinds = wire.by_type(said)
+    except ValueError:
+        return False
+    needed = {wire.ORIGIN, wire.AS_PATH, wire.NEXT_HOP}
+    return octets[18:19] == bytes([wire.UPDATE]) and bool(came) and wire.MP_REACH in kinds and not needed <= set(kinds)

@@ -115,11 +115,14 @@ def policy(name, peer, rules, asn):
 class GoBgp(Router):
     name, package, programs = 'gobgp', 'gobgpd', ('gobgpd', 'gobgp')
     hold, tries = 240, 20  # it refuses a peer for a while after the end of a session
+    leaves_out = {'both families': "IPv6 isn't set up there"}
     edits = 0  # how often filters have got new rules
 
     @classmethod
     def lacks(cls, events):
         for words in events:
+            if words[0] == 'local6':
+                return 'IPv6 is not set up there'
             if words[:2] == ['filter', 'in'] and 'prepend' in words:
                 return 'an incoming `set-as-path-prepend` makes the path of the decision longer'
             if words[0] == 'filter' and ('nomed' in words or 'origin' in words):

@@ -6,7 +6,7 @@ import ipaddress
 import re
 
 from bgp import eventfile, wire
-from faults import faults
+from faults import faults, second
 
 # a peer's route at a prefix: the AS that its path begins with, by which BIRD puts routes into groups; its next hop; the interior route
 # that held this when it came, as `match` says it; and its attributes
@@ -26,15 +26,17 @@ class Happened:
         words = step.words
         if step.ignored or words[0] == 'idle':
             return
-        before = self.matches() if words[0] in ('route', 'lost') else None
+        before = self.matches() if words[0] in ('route', 'lost', 'lost6') else None
         self.wanted.take(words)
         if before is not None and before != self.matches():
-            self.stale.clear()  # BIRD goes over all routes
+            changed = next(hop for hop, match in self.matches().items() if before[hop] != match)
+            # BIRD goes over all routes of the family
+            self.stale = {one for one in self.stale if wire.family(one[1]) != wire.family(changed)}
         elif words[0] in ('up', 'down'):
             for prefix in list(self.routes):
                 self.gone(int(words[1]), prefix)
-        elif words[:2] == ['filter', 'in']:
-            self.edited(int(words[2]))
+        elif words[0] in eventfile.FILTERS and words[1] == 'in':
+            self.edited(int(words[2]), wire.FAMILIES[eventfile.FILTERS.index(words[0])])
         elif words[0] == 'bgp':
             self.message(int(words[1]), bytes.fromhex(words[2]))
 
@@ -42,9 +44,9 @@ class Happened:
 
     def match(self, hop):
         """The interior route that holds an address: the longest, of those the one of the least distance; None where none does."""
-        held, address = [], ipaddress.ip_address(hop)
+        held, address, interior = [], ipaddress.ip_address(hop), self.wanted.of(hop).interior
         for place, protocol in enumerate(eventfile.PROTOCOLS):
-            for prefix, way in self.wanted.interior[protocol].items():
+            for prefix, way in interior[protocol].items():
                 network = ipaddress.ip_network(prefix)
                 if address in network:
                     held.append((-network.prefixlen, place, Match(protocol, prefix, way)))
@@ -54,10 +56,10 @@ class Happened:
         hops = {route.hop for peers in self.routes.values() for route in peers.values()}
         return {hop: self.match(hop) for hop in hops}
 
-    def edited(self, number):
-        """A peer's routes are taken as they came, with the next hops of that time."""
+    def edited(self, number, family):
+        """A peer's routes of a family are taken as they came, with the next hops of that time."""
         for prefix, peers in self.routes.items():
-            if number in peers and reached(peers[number].match) != reached(self.match(peers[number].hop)):
+            if wire.family(prefix) == family and number in peers and reached(peers[number].match) != reached(self.match(peers[number].hop)):
                 self.stale.add((number, prefix))
 
     # ---- messages
@@ -70,8 +72,10 @@ class Happened:
             gone, announced = ({wire.prefix(one) for one in wire.split(field)} for field in (gone, came))
         except ValueError:
             return
-        width = 4 if self.wanted.wide else 2
-        if faults(attributes, bool(came), width):
+        width, has_second = 4 if self.wanted.wide else 2, self.wanted.second is not None
+        if has_second:
+            gone, announced = (set(own).union(more) for own, more in zip((gone, announced), second(attributes)))
+        if faults(attributes, bool(came), width, has_second):
             for prefix in gone | announced:
                 self.gone(number, prefix)
             return
@@ -86,7 +90,8 @@ class Happened:
         self.stale.discard((number, prefix))
 
     def came(self, number, prefix, kinds, attributes):
-        hop = wire.address(kinds[wire.NEXT_HOP][1])
+        family = wire.family(prefix)
+        hop = wire.address(wire.of_family(kinds, family)[wire.NEXT_HOP][1][:family.size])
         route = Route(self.neighbour(kinds[wire.AS_PATH][1]), hop, self.match(hop), attributes)
         old = self.routes[prefix].get(number)
         if old and old.attributes == attributes:
@@ -103,7 +108,8 @@ class Happened:
 
     def is_beside(self, prefix, neighbour):
         """Whether a peer whose incoming filter rejects nothing has a route of that AS."""
-        return any(route.neighbour == neighbour and not any(rule.verdict == 'reject' for rule in self.wanted.filters['in'].get(number, ()))
+        filters = self.wanted.of(prefix).filters['in']
+        return any(route.neighbour == neighbour and not any(rule.verdict == 'reject' for rule in filters.get(number, ()))
                    for number, route in self.routes[prefix].items())
 
     # ---- what the reasons ask
@@ -111,12 +117,12 @@ class Happened:
     def is_useless(self, number, prefix):
         """Whether a peer's route there has the local address as its next hop, or one that nothing holds."""
         route = self.routes[prefix].get(number)
-        return route is not None and (route.hop == self.wanted.address or self.match(route.hop) is None)
+        return route is not None and (route.hop == self.wanted.of(prefix).address or self.match(route.hop) is None)
 
     def is_own_over_a_gateway(self, number, prefix):
         """Whether its next hop is the local address, and what holds that is no network of this speaker's."""
         route = self.routes[prefix].get(number)
-        if route is None or route.hop != self.wanted.address:
+        if route is None or route.hop != self.wanted.of(prefix).address:
             return False
         match = self.match(route.hop)
         return match is not None and (match.way.gateway is not None or match.way.interface != self.wanted.shared()[1])

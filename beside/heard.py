@@ -13,11 +13,10 @@ class Heard(session.Connection):
     def __init__(self, made, width):
         super().__init__(made)
         self.width, self.held, self.notes, self.is_up, self.last = width, {}, [], False, time.monotonic()
-        self.again = None  # what it was sent since it asked for all again, if it did
+        self.again = {}  # by each family of which it asked for all again, what it was sent since it did
 
-    def begin(self, peer, hold=0, refreshes=False):
-        families = wire.OF_IPV4 + (wire.OF_REFRESHES if refreshes else b'')
-        self.open(wire.opening(peer.asn, peer.identifier, hold, self.width == 4, families), OPENED_WITHIN)
+    def begin(self, peer, hold=0, capabilities=wire.OF_IPV4):
+        self.open(wire.opening(peer.asn, peer.identifier, hold, self.width == 4, capabilities), OPENED_WITHIN)
         self.is_up = True
         threading.Thread(target=self.listen, daemon=True).start()
 
@@ -28,8 +27,7 @@ class Heard(session.Connection):
                 self.last = time.monotonic()
                 if kind == wire.UPDATE:
                     wire.take(self.held, body)
-                    if self.again is not None:
-                        wire.take(self.again, body)
+                    wire.take_each(dict(self.again), body)
                 elif kind == wire.NOTIFICATION:
                     self.notes.append(wire.message(kind, body).hex())
         except (OSError, EOFError):
@@ -43,5 +41,9 @@ class Heard(session.Connection):
         """What it holds, as rows; nothing once the session has ended."""
         return self.texts(self.held)
 
+    def rows_again(self):
+        """What it was sent again."""
+        return self.texts(wire.joined(dict(self.again)))
+
     def texts(self, held):
-        return {prefix: wire.text(said, self.width) for prefix, said in list(held.items())} if self.is_up else {}
+        return wire.texts(held, self.width) if self.is_up else {}

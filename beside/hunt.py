@@ -10,6 +10,7 @@ stays the same difference, and told once: a scenario that run.py takes is writte
   --jobs N         so many daemons at once, each in two network namespaces of its own
   --groups N       ends after so many groups of differences
   --known FOLDER   leaves out what the scenarios of a folder show (the lines `# group` in them)
+  --topics A,B     each file has these topics (docs/HUNT.md), beside those that are drawn
   --programs FOLDER  the daemon's programs are there (a build of one's own), and not where Debian has them
   --show SEED      prints the file of a seed, and runs nothing
 
@@ -27,7 +28,7 @@ import time
 
 sys.path.insert(0, os.path.join(os.path.dirname(os.path.abspath(__file__)), '..', 'python'))
 from bgp import program
-from hunting import files, groups, needs, scenario, work
+from hunting import files, groups, needs, scenario, topics, work
 from routers import ROUTERS
 from run import told
 
@@ -160,6 +161,15 @@ def seeds(text):
     return int(first), int(last) if last else 0
 
 
+def names(text):
+    """Topics, each of which has to be one."""
+    found = text.split(',')
+    unknown = sorted(set(found) - set(topics.TOPICS))
+    if unknown:
+        raise argparse.ArgumentTypeError('no %s among %s' % (', '.join(unknown), ', '.join(topics.TOPICS)))
+    return found
+
+
 def words():
     found = argparse.ArgumentParser(description=__doc__, formatter_class=argparse.RawDescriptionHelpFormatter)
     found.add_argument('--daemon', choices=sorted(ROUTERS), required=True)
@@ -169,6 +179,7 @@ def words():
     found.add_argument('--groups', type=int, default=0)
     found.add_argument('--into', metavar='FOLDER', default='found')
     found.add_argument('--known', metavar='FOLDER', action='append', default=[])
+    found.add_argument('--topics', type=names, default=[])
     found.add_argument('--programs', metavar='FOLDER')
     found.add_argument('--program', default=program.BUILT, help='the words of another program than the built one')
     found.add_argument('--show', type=int, metavar='SEED')
@@ -197,9 +208,10 @@ def run(asked):
 
 def main():
     asked = words().parse_args()
+    ROUTERS[asked.daemon].topics = asked.topics
     if asked.show is not None:
-        names, lines = files.made(asked.show, ROUTERS[asked.daemon])
-        print('# seed %d: %s\n%s' % (asked.show, ', '.join(names), '\n'.join(lines)))
+        chosen, lines = files.made(asked.show, ROUTERS[asked.daemon])
+        print('# seed %d: %s\n%s' % (asked.show, ', '.join(chosen), '\n'.join(lines)))
         return 0
     for sign in (signal.SIGINT, signal.SIGTERM):
         signal.signal(sign, signal.default_int_handler)

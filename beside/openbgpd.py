@@ -1,9 +1,10 @@
 """OpenBGPD beside `replay` (Debian's `openbgpd`). On Linux it sees no routes of the kernel: each next hop is taken to be reachable."""
 import json
 
-from bgp import eventfile
-from bgp.eventfile import masked
+from bgp import eventfile, namespaces, wire
+from bgp.eventfile import masked, plain
 from bgp.program import Best
+import faults
 from router import Failed, Router, adds_up, bounds, flat, origin
 
 HEAD = '''AS %(asn)d
@@ -19,21 +20,23 @@ PEER = '''neighbor %(address)s {
   remote-as %(asn)d
   passive
   enforce neighbor-as no
-%(reflected)s}
+%(families)s%(reflected)s}
 '''
+FAMILIES = '  announce IPv4 unicast\n  announce IPv6 unicast\n'
+INET = {wire.IPV4: ' inet', wire.IPV6: ' inet6'}
 
 
-def condition(words):
+def condition(words, inet):
     if words[0] == 'any':
-        return ''
+        return inet
     if words[0] == 'path':
-        return ' AS %s' % words[1]
+        return '%s AS %s' % (inet, words[1])
     network, least, most = bounds(words)
     return ' prefix %s prefixlen %d - %d' % (masked(network), least, most)
 
 
-def rule_lines(way, address, rules):
-    """The lines of a peer's filter; the first rule that decides is `quick`."""
+def rule_lines(way, address, rules, inet=''):
+    """The lines of a peer's filter, of one family where there are two; the first rule that decides is `quick`."""
     for rule in rules:
         if rule.condition[0] not in ('any', 'path', 'origin') and not bounds(rule.condition):
             continue
@@ -43,7 +46,7 @@ def rule_lines(way, address, rules):
         if rule.verdict == 'next' and not sets:
             continue
         said = ' set { %s }' % sets if sets and rule.verdict != 'reject' else ''
-        yield '%s %s %s%s%s\n' % (verb, way, address, condition(rule.condition), said)
+        yield '%s %s %s%s%s\n' % (verb, way, address, condition(rule.condition, inet), said)
 
 
 class OpenBgpd(Router):
@@ -55,12 +58,15 @@ class OpenBgpd(Router):
     @classmethod
     def lacks(cls, events):
         for words in events:
-            if words[:2] == ['filter', 'in'] and 'prepend' in words:
+            is_filter = words[0] in eventfile.FILTERS
+            if is_filter and words[1] == 'in' and 'prepend' in words:
                 return 'an incoming `prepend-self` makes the path of the decision longer'
-            if words[0] == 'filter' and ('nomed' in words or 'origin' in words):
+            if is_filter and ('nomed' in words or 'origin' in words):
                 return 'its filters have neither `nomed` nor a condition on ORIGIN'
-            if words[0] == 'filter' and adds_up(eventfile.rules(words[3:])):
+            if is_filter and adds_up(eventfile.rules(words[3:])):
                 return 'the `prepend-self` of two rules add up'
+            if words[0] == 'bgp' and faults.is_cut_of_both(bytes.fromhex(words[2])):
+                return 'UPDATEs of both families that lack a well-known attribute are not sent there'
         return None
 
     def config(self):
@@ -68,20 +74,25 @@ class OpenBgpd(Router):
         said = HEAD % {'asn': wanted.asn, 'identifier': wanted.identifier, 'address': wanted.address, 'socket': self.path('ctl')}
         for peer in wanted.peers.values():
             reflected = '  route-reflector %s\n' % wanted.identifier if peer.client else ''
-            said += PEER % {'address': peer.address, 'asn': peer.asn, 'reflected': reflected}
-        said += ''.join('network %s set origin incomplete\n' % prefix for prefix in wanted.own())
+            said += PEER % {'address': peer.address, 'asn': peer.asn, 'reflected': reflected, 'families': FAMILIES if wanted.second else ''}
+        said += ''.join('network %s set origin incomplete\n' % prefix for network in wanted.networks() for prefix in network.own())
         said += 'allow from any\nallow to any\n'
         for peer in wanted.peers.values():
-            if not wanted.is_internal(peer):
-                said += 'match to %s set nexthop self\n' % peer.address
-            for way, word in (('in', 'from'), ('out', 'to')):
-                said += ''.join(rule_lines(word, peer.address, wanted.filters[way].get(peer.number, [])))
+            said += '' if wanted.is_internal(peer) else 'match to %s set nexthop self\n' % peer.address
+            for network in wanted.networks():
+                inet = INET[network.family] if wanted.second else ''
+                for way, word in (('in', 'from'), ('out', 'to')):
+                    said += ''.join(rule_lines(word, peer.address, network.filters[way].get(peer.number, []), inet))
         return said
 
     def control(self, words, may_fail=False):
         return self.command(['bgpctl', '-s', self.path('ctl')] + words.split(), may_fail)
 
     def start(self):
+        if self.wanted.second:
+            # over a session of IPv4 its next hop of IPv6 is the first one of `lo`, ::1; where that has none it ends by its first route
+            namespaces.ip('-n %s addr add %s/128 dev lo nodad' % (self.namespace, self.wanted.second.address))
+            namespaces.ip('-n %s addr del ::1/128 dev lo' % self.namespace)
         self.run(['bgpd', '-d', '-f', self.write('conf', self.config())])
         self.wait(lambda: 'Neighbor' in self.control('show', True))
         # its parts read the configuration each in its own time; it takes no other one before all have
@@ -98,10 +109,9 @@ class OpenBgpd(Router):
         self.control('neighbor %s up' % peer.address, True)
 
     def best(self):
-        numbers = self.numbers()
-        found = {}
+        numbers, found = self.numbers(), {}
         for one in json.loads(self.control('-j show rib best')).get('rib', []):
-            number = numbers.get(one['neighbor']['remote_addr'], 0)
-            found[one['prefix']] = Best(number, one['localpref'], one['metric'], flat(one['aspath']), origin(one['origin']),
-                                        one.get('exit_nexthop')) if number else Best(0, None, None, None, None, None)
+            number, hop = numbers.get(one['neighbor']['remote_addr'], 0), one.get('exit_nexthop')
+            found[masked(one['prefix'])] = Best(number, one['localpref'], one['metric'], flat(one['aspath']), origin(one['origin']),
+                                                hop and plain(hop)) if number else Best(0, None, None, None, None, None)
         return found

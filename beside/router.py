@@ -38,6 +38,7 @@ class Router:
     run_folder = None  # its own place in /run, which its service makes
     limit = LIMIT  # seconds that one command to it may take
     keeps, leaves_out = False, {}
+    topics = ()  # those that each file of a hunt has
 
     def __init__(self, folder, namespace, wanted):
         self.folder, self.namespace, self.wanted, self.started, self.pids = folder, namespace, wanted, [], set()

@@ -12,6 +12,8 @@ and compares
   best           the daemon's best routes, as it shows them, with `best`: the peer, preference, MED, path, ORIGIN and next hop
   notifications  that a peer was sent since the last `idle`, with the lines `note`
 
+Where the file says `local6` the daemon has routes of both families over the same sessions, and all of this is done for both.
+
 Each difference is printed with the words of docs/BGP.md that explain it (explained.py), or as `unexplained`. `work`, `ask`, `show`,
 `cover` and `settled` do nothing here. Statuses: 0, 1 where a difference is unexplained, 2 where nothing was compared: also of a file without
 `idle`, and of one that isn't for the daemon.
@@ -52,18 +54,22 @@ class Run:
             if step.words[0] in eventfile.DECLARATIONS:
                 self.wanted.take(step.words)
         # the capability is said where some peer asks for all routes again: a daemon needs it, and else may ask itself
-        self.refreshes = any(step.words[0] == 'bgp' and step.words[2][36:38] == '05' for step in steps)
+        refreshes = any(step.words[0] == 'bgp' and step.words[2][36:38] == '05' for step in steps)
+        self.capabilities = wire.OF_IPV4 + wire.OF_IPV6 * (self.wanted.second is not None) + wire.OF_REFRESHES * refreshes
         self.router_class, self.folder, self.router = router_class, folder, None
 
     def place(self):
         """Makes the namespaces: the router's, and that of the peers, with one link between them, and one for each other interface."""
         router_name, peers_name = self.names
-        shared, interface = self.shared()
+        first = self.before_sessions()
+        shared, interface = first.shared()
         length = shared.partition('/')[2]
         namespaces.make(router_name)
         namespaces.make(peers_name)
         namespaces.link(router_name, interface, peers_name, 'peers0')
         namespaces.ip('-n %s addr add %s/%s dev %s' % (router_name, self.wanted.address, length, interface))
+        if self.wanted.second:
+            namespaces.attach(router_name, interface, self.wanted.second.address, first.second.attached())
         for peer in self.wanted.peers.values():
             namespaces.ip('-n %s addr add %s/%s dev peers0' % (peers_name, peer.address, length))
         # what the router says to its peers goes over their link, whatever interior routes it has
@@ -74,15 +80,15 @@ class Run:
             namespaces.link(router_name, name, peers_name, 'other%d' % place)
         namespaces.enter(peers_name)
 
-    def shared(self):
-        """The network of the peers and its interface, by the events before the first session."""
+    def before_sessions(self):
+        """What is wanted behind the events before the first session."""
         first = copy.deepcopy(self.wanted)
         for step in self.steps:
             if step.words[0] == 'up':
                 break
             if step.words[0] == 'route':
                 first.take(step.words)
-        return first.shared()
+        return first
 
     def take(self, step):
         words = step.words
@@ -119,7 +125,7 @@ class Run:
             heard = self.sessions[number] = Heard(made, 4 if self.wanted.wide else 2)
             heard.notes += notes
             try:
-                heard.begin(peer, self.router.hold, self.refreshes)
+                heard.begin(peer, self.router.hold, self.capabilities)
                 return
             except session.Refused:
                 heard.close()
@@ -140,9 +146,10 @@ class Run:
         if self.sender not in (None, number):
             self.rest()
         self.sender = number
-        if wire.asks_again(bytes.fromhex(octets)):
+        asked = wire.asks_again(bytes.fromhex(octets))
+        if asked in self.wanted.families():
             self.rest()
-            heard.again = {}
+            heard.again[asked] = {}
         try:
             heard.socket.sendall(bytes.fromhex(octets))
         except OSError:
@@ -185,7 +192,7 @@ class Run:
             elif is_up:
                 found += rows_apart('adv', number, moment.sent[number], heard.rows(), counts)
                 if number in moment.again:
-                    found += rows_apart('again', number, moment.again[number], heard.texts(heard.again or {}), counts)
+                    found += rows_apart('again', number, moment.again[number], heard.rows_again(), counts)
             said = [octets for peer, octets in moment.notes if peer == number]
             found += notes_apart(number, said, heard.notes if heard else [], counts)
         ours = {prefix: program.best_of_the_row(value) for prefix, value in moment.best.items()}
@@ -196,7 +203,7 @@ class Run:
     def end_of_moment(self):
         for heard in self.sessions.values():
             heard.notes.clear()
-            heard.again = None
+            heard.again = {}
 
     def stop(self):
         """Takes everything away again, whatever signals come."""
@@ -229,6 +236,7 @@ def report(name, place, step, found, counts, explain):
         key = explain(one)
         unexplained += key is None
         where = {'adv': 'adv.%d %s', 'again': 'again.%d %s', 'best': 'best%.0s %s', 'session': 'session %d%.0s', 'notification': 'notification %d%.0s'}[one.kind]
+        where = (wire.family(one.prefix).tag if one.prefix else '') + where
         print('  %s: replay %s; %s %s; %s' % (where % (one.peer, one.prefix or ''), told(one.ours), name, told(one.theirs),
                                               'unexplained' if key is None else key))
     return unexplained

@@ -6,13 +6,14 @@ Speaks BGP over TCP, and nothing else: it answers the OPENs of the peers that SE
 `replay run`, and each line `out K HEX` or `note K HEX` that comes back goes to the peer as the message. A session that comes up is the line
 `up K`; one that ends by the connection or by the hold timer is `down K`. Behind the messages of each read stands `idle`.
 
-SETUP is the front of an event file (docs/LANGUAGE.md): `as4`, `revised`, `reflect`, `local`, `peer`, `filter`, `route`, `redist`. Lines of these kinds, and
-`show`, `ask`, `settled` and `lost`, may come on standard input at any time; what the program answers goes to standard output. Each is first given to
-another run of the program, behind SETUP: where that refuses it, it is told why, and nothing else happens by it. What becomes of sessions is said on
-standard error, each with the seconds since the begin. It runs until it gets SIGINT or SIGTERM.
+SETUP is the front of an event file (docs/LANGUAGE.md): `as4`, `revised`, `reflect`, `local`, `local6`, `peer`, and `filter`, `route` and `redist` of both
+networks. Lines of these kinds, and `show`, `ask`, `settled`, `lost` and `lost6`, may come on standard input at any time; what the program answers goes to
+standard output. Each is first given to another run of the program, behind SETUP: where that refuses it, it is told why, and nothing else happens by it.
+What becomes of sessions is said on standard error, each with the seconds since the begin. It runs until it gets SIGINT or SIGTERM.
 
 It isn't a router's session layer: it waits for connections and makes none, a second connection of a peer is refused, in place of collision
-detection (RFC 4271, section 6.8), and the only capabilities are IPv4 unicast (RFC 4760) and, where SETUP has `as4`, AS numbers of four octets.
+detection (RFC 4271, section 6.8), and the only capabilities are IPv4 unicast (RFC 4760) and, where SETUP has `local6`, IPv6 unicast, where it has `as4`, AS
+numbers of four octets. All sessions are of IPv4.
 Statuses: 0, 2 where SETUP can't be taken, the address isn't there or is in use, or the program ends.
 """
 import argparse
@@ -32,8 +33,9 @@ for folder in ('reasons', 'python'):
 import refused
 from bgp import eventfile, program, wire
 
-TAKEN = ('as4', 'revised', 'reflect', 'local', 'peer', 'filter', 'route', 'redist')
-ASKED = ('show', 'ask', 'settled')
+ONCE = ('as4', 'revised', 'reflect', 'local', 'local6')
+TAKEN = ONCE + ('peer', 'filter', 'filter6', 'route', 'redist', 'redist6')
+LOST, ASKED = ('lost', 'lost6'), ('show', 'ask', 'settled')
 OPEN_SENT, OPEN_CONFIRM, ESTABLISHED, ENDED = 'OpenSent', 'OpenConfirm', 'Established', 'ended'
 OPENED_WITHIN = 10  # seconds
 READ = 1 << 16
@@ -211,7 +213,8 @@ class Speaker:
             return
         session = self.sessions[peer.number] = Session(made, peer, self.asked.hold)
         self.selector.register(made, selectors.EVENT_READ, session)
-        session.send(wire.opening(self.wanted.asn, self.wanted.identifier, self.asked.hold, self.wanted.wide))
+        families = wire.OF_IPV4 + wire.OF_IPV6 * (self.wanted.second is not None)
+        session.send(wire.opening(self.wanted.asn, self.wanted.identifier, self.asked.hold, self.wanted.wide, families))
 
     def end(self, session, why, tell_the_program):
         if session.state == ENDED:
@@ -279,7 +282,8 @@ class Speaker:
             return 2, 6
         if body[5:9] == bytes(4):
             return 2, 3
-        return (2, 7) if self.wanted.wide and wire.WIDE not in wire.capabilities(body) else None
+        lacks_width = self.wanted.wide and wire.WIDE not in wire.capabilities(body)
+        return (2, 7) if lacks_width or self.wanted.second and wire.IPV6 not in wire.families(body) else None
 
     def timers(self):
         now = time.monotonic()
@@ -307,8 +311,8 @@ class Speaker:
     def take_input(self, line):
         """One line of standard input: taken where the program takes it behind SETUP, which is tried first."""
         words = line.split()
-        if words[0] not in TAKEN + ASKED + ('lost',):
-            self.say('not taken: %s: it comes from the network, or isn\'t one of %s' % (ascii(line)[1:-1], ' '.join(TAKEN[4:] + ASKED + ('lost',))))
+        if words[0] not in TAKEN + ASKED + LOST:
+            self.say('not taken: %s: it comes from the network, or isn\'t one of %s' % (ascii(line)[1:-1], ' '.join(TAKEN[len(ONCE):] + ASKED + LOST)))
             return
         why = refusal(self.program.words, self.setup + [line])
         if why:

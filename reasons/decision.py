@@ -35,7 +35,7 @@ def clusters(one):
 
 
 def of_address(function):
-    return lambda one: values.address_number(function(one))
+    return lambda one: values.address(function(one))
 
 
 STEPS = [

@@ -5,6 +5,7 @@ import collections
 import difflib
 import os
 import re
+import socket
 
 PAGE = os.path.join(os.path.dirname(os.path.abspath(__file__)), '..', 'docs', 'LANGUAGE.md')
 PROTOCOLS = ('connected', 'static', 'ospf', 'rip')
@@ -56,10 +57,10 @@ def sentence(text, name):
         return section_of_rules(text)
     if name == 'LINK':
         names = [found for bullet in bullets(text) if bullet.startswith('  - ') for found in re.findall('`([^`]*)`', bullet.split(': ')[0])]
-        return 'LINK is one of ' + ', '.join('`%s`' % found for found in names)
+        return 'LINK is one of ' + ', '.join('`%s`' % found for found in names) + ', or one of these with `6.` in front'
     for bullet in bullets(text):
         for one in re.split(r'(?<=\.) (?=[A-Z])', bullet[2:].strip()):
-            subject = re.match(r'[A-Z, a-z`]*?(?: is| are)\b', one)
+            subject = re.match(r'[A-Z, a-z`0-9]*?(?: is| are)\b', one)
             if subject and re.search(r'\b%s\b' % name, subject[0]) and not one.startswith('`'):
                 return one.rstrip('.')
     return 'HEX has at least one octet in hex, either case'
@@ -83,9 +84,40 @@ def is_address(word):
     return len(parts) == 4 and all(re.fullmatch('0|[1-9][0-9]{0,2}', part) and int(part) < 256 for part in parts)
 
 
+def is_address6(word):
+    front, double, back = word.partition('::')
+    groups = [group for side in (front, back) if side for group in side.split(':')]
+    return all(re.fullmatch('[0-9a-fA-F]{1,4}', group) for group in groups) and (len(groups) < 8 if double else len(groups) == 8)
+
+
+def is_any_address(word):
+    return is_address(word) or is_address6(word)
+
+
 def is_prefix(word):
     address, slash, length = word.partition('/')
     return bool(slash) and is_address(address) and is_number(length, 33)
+
+
+def is_prefix6(word):
+    address, slash, length = word.partition('/')
+    return bool(slash) and is_address6(address) and is_number(length, 129)
+
+
+def is_any_prefix(word):
+    return is_prefix(word) or is_prefix6(word)
+
+
+def is_host6(word):
+    if not is_address6(word):
+        return False
+    number = int.from_bytes(socket.inet_pton(socket.AF_INET6, word), 'big')
+    return 1 < number < 0xff << 120
+
+
+def is_of_ipv6(word):
+    """Whether a word of an event is of IPv6: an address, a prefix, or a name with a mark."""
+    return word.startswith('6.') or ':' in word
 
 
 def is_speaker(word):
@@ -100,12 +132,14 @@ def is_numbered(word, *parts):
 
 
 def is_link(word):
+    word = word.removeprefix('6.')
     return (is_numbered(word, ('in', 'filt', 'res'), None) or is_numbered(word, ('peer', 'read', 'outf', 'adv'), None, None)
             or is_numbered(word, ('org',), PROTOCOLS) or is_numbered(word, ('org',), PROTOCOLS, None)
             or word in ('red', 'best', 'read.rib', 'low', 'dyn', 'int', 'ebgp', 'ibgp', 'ext', 'fib'))
 
 
 def is_task(word):
+    word = word.removeprefix('6.')
     return (is_numbered(word, ('del',), None, None) or is_numbered(word, ('fin', 'nh', 'out', 'ref'), None)
             or is_numbered(word, ('rdel',), PROTOCOLS, None) or word in ('rd.rib', 'red', 'ext'))
 
@@ -114,24 +148,25 @@ def word_tests(is_wide):
     """What each kind of word of a form has to be."""
     return {
         'AS': lambda word: is_number(word, 1 << 32 if is_wide else 1 << 16) and word != '0',
-        'ID': lambda word: is_address(word) and word != '0.0.0.0', 'ADDR': is_speaker, 'GATEWAY': is_address,
+        'ID': lambda word: is_address(word) and word != '0.0.0.0', 'ADDR': is_speaker, 'ADDR6': is_host6, 'GATEWAY': is_any_address,
         'K': lambda word: is_number(word) and word != '0', 'N': is_number, 'METRIC': is_number,
         'HEX': lambda word: re.fullmatch('([0-9a-fA-F]{2})+', word) is not None,
-        'PROTO': lambda word: word in PROTOCOLS, 'PREFIX': is_prefix, 'IF': lambda word: re.fullmatch('[a-z0-9._-]{1,15}', word) is not None,
+        'PROTO': lambda word: word in PROTOCOLS, 'PREFIX': is_any_prefix, 'IF': lambda word: re.fullmatch('[a-z0-9._-]{1,15}', word) is not None,
         'LINK': is_link, 'TASK': is_task,
     }
 
 
 # ---- lines
 
-def rule_fault(words, at, tests):
-    """The place of the first word that is none of a rule, and what is wanted there; or the place behind the rule."""
+def rule_fault(words, at, tests, is_ipv6):
+    """The place of the first word that is none of a rule of a family, and what is wanted there; or the place behind the rule."""
     forms_of = {'any': (), 'path': (('a number of an AS', lambda word: is_number(word) and (word == '0' or tests['AS'](word))),),
                 'origin': (('a number', is_number),)}
     if words[at] in forms_of:
         wanted = forms_of[words[at]]
-    elif is_prefix(words[at]):
-        bound = ('a number from 0 to 32', lambda word: is_number(word, 33))
+    elif (is_prefix6 if is_ipv6 else is_prefix)(words[at]):
+        bits = 128 if is_ipv6 else 32
+        bound = ('a number from 0 to %d' % bits, lambda word: is_number(word, bits + 1))
         wanted = (('`ge`', 'ge'.__eq__), bound, ('`le`', 'le'.__eq__), bound)
     else:
         return Fault(at, 'a condition: `any`, a PREFIX, `path` or `origin`', None), at
@@ -153,11 +188,12 @@ def rule_fault(words, at, tests):
 def form_fault(form, words, tests):
     """The first word that departs from a form; None where all fit."""
     parts = form.split(' ')
+    families = set()
     for place, part in enumerate(parts):
         if part == 'RULES':
             at = place
             while at < len(words):
-                fault, at = rule_fault(words, at, tests)
+                fault, at = rule_fault(words, at, tests, words[0] == 'filter6')
                 if fault:
                     return fault._replace(form=form)
             return None
@@ -165,6 +201,10 @@ def form_fault(form, words, tests):
         test = tests['GATEWAY'] if form.startswith('cover') and part == 'ADDR' else tests.get(part, part.__eq__)
         if place == len(words) or not test(words[place]):
             return Fault(place, part if part in tests else '`%s`' % part, form)
+        if part in ('LINK', 'PREFIX', 'GATEWAY'):
+            families.add(is_of_ipv6(words[place]))
+        if len(families) == 2:
+            return Fault(place, part, form)
     return Fault(len(parts), 'the end of the line', form) if len(words) > len(parts) else None
 
 

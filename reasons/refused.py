@@ -47,7 +47,8 @@ class Refusal:
         yield from ('  ' + reason for reason in reasons)
 
     def means(self):
-        return grammar.codes(self.text)[self.code].split(';' if self.code in ('E2', 'E5') else '\n')[0].replace(' above', ' (docs/LANGUAGE.md)')
+        told = grammar.codes(self.text)[self.code].split(';' if self.code in ('E2', 'E5', 'E9') else '\n')[0]
+        return told.replace('grammar above', 'grammar (docs/LANGUAGE.md)')
 
     def column(self, place):
         """The column of a word, from 1; that of the end of the line where there are no more words."""
@@ -84,14 +85,31 @@ class Refusal:
                 + ('most like it: %s' % '; '.join('`%s`' % form for form in known[near]) if near else 'these do: ' + ' '.join(sorted(known)))]
         reasons = ['wanted there: %s' % found.wanted, 'the form: `%s`' % found.form]
         if found.wanted.isupper():
-            reasons.append(grammar.sentence(self.text, found.wanted))
-            if ':' in ''.join(self.words[found.place:found.place + 1]):
-                reasons.append('an event file has IPv4 alone')
+            # ADDR of `cover` is any address
+            reasons.append(grammar.sentence(self.text, 'GATEWAY' if found.form == 'cover ADDR' else found.wanted))
+            reasons += self.of_family(found)
         elif found.form.endswith('RULES') and found.place >= 3:
-            reasons.append(grammar.sentence(self.text, 'RULES'))
+            reasons += self.of_family(found) + [grammar.sentence(self.text, 'RULES')]
         others = [form for form in known[self.words[0]] if form != found.form and len(form.split(' ')) > found.place
                   and form.split(' ')[:found.place] == found.form.split(' ')[:found.place]]
         return self.column(found.place), reasons + (['or: ' + '; '.join('`%s`' % form for form in others)] if others else [])
+
+    def of_family(self, found):
+        """What a word has to do with the family of addresses of its line, if that is what is wrong."""
+        word = ''.join(self.words[found.place:found.place + 1])
+        if found.wanted in ('ADDR', 'ID') and self.words[0] in ('peer', 'local') and grammar.is_address6(word):
+            return ['this speaker and its peers are known by addresses of IPv4']
+        if found.wanted == 'ADDR6' and grammar.is_address(word):
+            return ['`local6` has an address of IPv6']
+        if self.words[0] in ('filter', 'filter6') and grammar.is_any_prefix(word):
+            return ['`filter` has prefixes of IPv4, `filter6` those of IPv6']
+        if ':' in word and not grammar.is_address6(word.partition('/')[0]):
+            return ['an address of IPv6 is eight groups of one to four hex digits with colons between them, or fewer with one `::`']
+        fits = {'PREFIX': grammar.is_any_prefix, 'GATEWAY': grammar.is_any_address}.get(found.wanted, lambda word: False)
+        if self.words[0] in ('ask', 'route') and fits(word):
+            both = self.words[1 if self.words[0] == 'ask' else 3], word
+            return [' and '.join('`%s` is of IPv%d' % (one, 6 if grammar.is_of_ipv6(one) else 4) for one in both)]
+        return []
 
     def hints(self):
         """What is outside the grammar by lines before."""
@@ -123,15 +141,15 @@ class Refusal:
 
     def number_of(self, place, word):
         """The number of the peer that a word names, if it names one."""
-        if self.words[0] in ('up', 'down', 'bgp') and place == 1 or self.words[0] == 'filter' and place == 2:
+        if self.words[0] in ('up', 'down', 'bgp') and place == 1 or self.words[0] in ('filter', 'filter6') and place == 2:
             return word
-        named = re.fullmatch(r'(?:in|peer|filt|res|read|outf|adv|del|fin|nh|out|ref)\.([0-9]+)(?:\.[0-9]+)?', word)
+        named = re.fullmatch(r'(?:6\.)?(?:in|peer|filt|res|read|outf|adv|del|fin|nh|out|ref)\.([0-9]+)(?:\.[0-9]+)?', word)
         return named[1] if named and self.words[0] in ('show', 'ask', 'work') and place == 1 else None
 
     def of_e6(self):
         if self.words[:1] == ['peer']:
             return self.column(1), ['a router has at most %d peers' % PEERS]
-        if self.words[:1] == ['filter']:
+        if self.words[:1] in (['filter'], ['filter6']):
             return self.column(3), ['a filter has at most %d rules; this one has %d' % (
                 RULES, sum(word in grammar.ENDS for word in self.words))]
         if self.words[:1] == ['up']:
@@ -139,13 +157,18 @@ class Refusal:
         return None, []
 
     def of_e7(self):
-        before = list(self.earlier('local', self.words[0]))
+        before = list(self.earlier('peer' if self.words[0] == 'local6' else 'local', self.words[0]))
         number, words = before[0]
         return 1, ['`%s` stands in line %d' % (words[0], number)]
 
     def of_e8(self):
         number, words = next(self.earlier('local'))
         return self.column(2), ['the local AS is %s (line %d)' % (words[1], number)]
+
+    def of_e9(self):
+        later = [number for number, line in enumerate(self.lines, 1) if line.split()[:1] == ['local6']]
+        place = next((place for place, word in enumerate(self.words) if grammar.is_of_ipv6(word)), 0)
+        return self.column(place), ['`local6` stands in line %d' % later[0] if later else 'the file has no line `local6 ADDR6`']
 
 
 def explain(asked, lines):

@@ -5,7 +5,7 @@ Takes each line `row` of an output (of OUTPUT, or of standard input): its link, 
 (docs/OUTPUT.md, "Values"). Without an option as columns, with --csv as comma-separated values with a head, with --json an object a line.
 
   --count        how many rows each link has, by peer where rows name one
-  --link LINK    of this link alone, or of all of a kind (in, adv)
+  --link LINK    of this link alone, or of all of a kind (in, 6.adv), or of IPv6's network (6)
   --for ADDR     of each link the row of the longest prefix that holds the address
   --names FILE   peers by name: FILE has lines `K NAME`, or is an event file, whose peers have their addresses for names
   --last         of each link the rows of its last `show` alone
@@ -60,7 +60,7 @@ class Shown:
 def longest(rows, address):
     """Of rows that one of the longest prefix that holds an address, if there is one."""
     holding = [row for row in rows if values.holds(row[0], address)]
-    return [max(holding, key=lambda row: values.prefix_key(row[0])[1])] if holding else []
+    return [max(holding, key=lambda row: values.prefix_key(row[0]).length)] if holding else []
 
 
 def names_of(path):
@@ -78,7 +78,7 @@ def names_of(path):
 def fields(link, prefix, value, names):
     """A row by names."""
     row = {'link': link, 'prefix': prefix, **values.named(link, value)}
-    parts = link.split('.')
+    parts = values.words_of_link(link)
     peer = row.get('peer') or (parts[1] if len(parts) > 1 and parts[1].isdigit() else None)
     if names and peer in names:
         row['name'] = names[peer]
@@ -133,7 +133,7 @@ def main():
     asked = words.parse_args()
     shown = Shown()
     try:
-        asked.address = values.address_number(asked.address) if asked.address else None
+        asked.address = values.address(asked.address) if asked.address else None
         for path in asked.outputs:
             with open(0 if path == '-' else path, encoding='ascii', errors='replace') as file:
                 for line in file:

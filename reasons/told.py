@@ -2,7 +2,7 @@
 """What each line of an event file does: told.py FILE [WORD..] [--program WORDS | --printed OUTPUT]
 
 FILE is an event file (`-`: standard input). Of each event stand the number and the text of its line, and below it the lines that the program
-prints of it: what changed on which link, what was sent. Messages are told in words. With WORDs, as a prefix (10.0.0.0/8), a link (best, in.1,
+prints of it: what changed on which link, what was sent. Messages are told in words. With WORDs, as a prefix (10.0.0.0/8), a link (best, 6.in.1,
 adv for all of a kind) or the first word of a line (out, settled), the lines that have all of them are told alone, and the events that have such
 lines.
 
@@ -19,14 +19,15 @@ import sys
 sys.dont_write_bytecode = True
 sys.path.insert(0, os.path.join(os.path.dirname(os.path.abspath(__file__)), '..', 'python'))
 import tables
+import values
 
-from bgp import program, wire
+from bgp import messages, program, wire
 
 SHOWN = 200  # characters of a line
 
 
 def message(octets, width):
-    """A message in words: its type, and of an UPDATE what it withdraws and announces."""
+    """A message in words: its type, and of an UPDATE what it withdraws and announces, of each family with its attributes."""
     if len(octets) < 19:
         return 'a message of %d octets' % len(octets)
     said = wire.told(octets[18], octets[19:])
@@ -34,9 +35,11 @@ def message(octets, width):
         return said
     try:
         found = wire.update(octets[19:])
-        words = ['-' + prefix for prefix in found.withdrawn] + ['+' + prefix for prefix in found.announced]
-        if found.announced:
-            words.append(wire.text(found.attributes, width))
+        words = ['-' + prefix for prefix in found.withdrawn]
+        for family in wire.FAMILIES:
+            came = [prefix for prefix in found.announced if wire.family(prefix) == family]
+            if came:
+                words += ['+' + prefix for prefix in came] + [wire.text(wire.of_family(found.attributes, family), width)]
         return ' '.join([said] + words) if words else said + ' without prefixes'
     except (ValueError, KeyError, IndexError):
         return said + ' that can\'t be read'
@@ -55,6 +58,16 @@ def told(text, width):
         except ValueError:
             pass
     return shortened(text)
+
+
+def as_printed(word):
+    """A word that is asked for, as the output has it: an address of IPv6 has eight groups there."""
+    try:
+        if ':' in word:
+            return values.masked(word) if '/' in word else values.address_text(values.address(word))
+    except ValueError:
+        pass
+    return word
 
 
 def has(line, wanted):
@@ -82,8 +95,9 @@ def tell(asked, text):
     """Prints what each event does; the status."""
     marked, events, numbers = program.marked(text)
     width, source, found = 4 if any(words == ['as4'] for _, words, _ in events) else 2, text.split('\n'), 0
+    wanted = list(map(as_printed, asked.words))
     for number, _, block in blocks(tables.printed(asked.program.split(' '), marked.split('\n'), asked.printed), events):
-        kept = [line for line in block if has(line, asked.words)]
+        kept = [line for line in block if has(line, wanted)]
         if kept or not asked.words:
             found += 1
             print('%d: %s' % (number, told(source[number - 1].rstrip('\r'), width)))

@@ -31,10 +31,10 @@ class Reasons:
     """What stands at one prefix, and why."""
 
     def __init__(self, found, wanted, prefix):
-        self.found, self.wanted, self.prefix = found, wanted, prefix
+        self.found, self.wanted, self.prefix, self.mark = found, wanted, prefix, values.mark(prefix)
 
     def row(self, link):
-        return self.found.row(link, self.prefix)
+        return self.found.row(self.mark + link, self.prefix)
 
     def lines(self):
         yield '%s: %s' % (self.prefix, self.settled())
@@ -59,7 +59,7 @@ class Reasons:
         return 'settled' if told == ['yes'] else 'not settled: %s has work there (docs/LANGUAGE.md, "Settled prefixes")' % told[1]
 
     def own(self, row):
-        route = self.found.row('int', self.prefix)
+        route = self.row('int')
         yield 'own route: best, since the router originates it (docs/BGP.md, "The decision"); made of %s' % (route or 'an interior route that went')
         yield '  ' + shortened(row)
 
@@ -104,14 +104,14 @@ class Reasons:
         said = values.words_of(heard)
         if self.wanted.asn in values.path_numbers(said['p']):
             return 'the AS path has the local AS %d (RFC 4271, 9.1.2)' % self.wanted.asn
-        if said['n'] == self.wanted.address:
+        if values.address(said['n']) == values.address(self.wanted.of(self.prefix).address):
             return 'the next hop is the local address (RFC 4271, 5.1.3)'
-        for place, rule in enumerate(self.wanted.filters['in'].get(number, []), 1):
+        for place, rule in enumerate(self.wanted.of(self.prefix).filters['in'].get(number, []), 1):
             if rule.verdict != 'next' and self.applies(rule.condition, said):
                 if rule.verdict == 'reject':
                     return 'rule %d, `%s reject`' % (place, ' '.join(rule.condition))
                 break
-        return 'by rules that were in force before the last edit: fin.%d has work' % number
+        return 'by rules that were in force before the last edit: %sfin.%d has work' % (self.mark, number)
 
     def applies(self, condition, said):
         """Whether a rule's condition holds of the route."""
@@ -121,17 +121,17 @@ class Reasons:
             return said['o'] == condition[1]
         if condition[0] == 'any':
             return True
-        network, length = eventfile.masked(condition[0]), int(self.prefix.partition('/')[2])
-        return (int(network.partition('/')[2]) <= length and int(condition[2]) <= length <= int(condition[4])
-                and values.holds(network, values.prefix_key(self.prefix)[0]))
+        network, ours = values.masked(condition[0]), values.prefix_key(self.prefix)
+        return (values.prefix_key(network).length <= ours.length and int(condition[2]) <= ours.length <= int(condition[4])
+                and values.holds(network, ours.address))
 
     def unresolved(self, filtered):
         """Why a next hop isn't: by the interior routes that are there now."""
-        hop = values.address_number(values.route(filtered).attributes['n'])
-        found = [prefix for prefix in self.found.links.get('int', {}) if values.holds(prefix, hop)]
+        hop = values.address(values.route(filtered).attributes['n'])
+        found = [prefix for prefix in self.found.links.get(self.mark + 'int', {}) if values.holds(prefix, hop)]
         if not found:
             return 'no interior route holds it'
-        return '%s holds it, but nh.%s has yet to bring that into force' % (max(found, key=values.prefix_key), filtered.partition(':')[0])
+        return '%s holds it, but %snh.%s has yet to bring that into force' % (max(found, key=values.prefix_key), self.mark, filtered.partition(':')[0])
 
 
 def shortened(value):
@@ -149,10 +149,11 @@ def declared(lines):
 
 def looked_up(found, address):
     """The longest prefix that holds an address and has a best route, else one with a route of a peer; None where there is none."""
-    for links in (['best'], [link for link in found.links if link.startswith('in.')]):
+    for kind in ('best', 'in'):
+        links = [link for link in found.links if values.words_of_link(link)[0] == kind]
         holding = {prefix for link in links for prefix in found.links.get(link, {}) if values.holds(prefix, address)}
         if holding:
-            return max(holding, key=lambda prefix: values.prefix_key(prefix)[1])
+            return max(holding, key=lambda prefix: values.prefix_key(prefix).length)
     return None
 
 
@@ -169,14 +170,15 @@ def tables_of(asked, lines, question, wanted):
 def answer(asked, lines):
     """Prints why; the status."""
     is_address = '/' not in asked.prefix
-    address = values.prefix_key(values.masked(asked.prefix))[0]
     prefix = None if is_address else values.masked(asked.prefix)
     if is_address:
+        address = values.address(asked.prefix)
         prefix = looked_up(tables_of(asked, lines, [], lambda link, one: values.holds(one, address)), address)
         if prefix is None:
             print('no route holds %s' % asked.prefix)
             return 1
-    found = tables_of(asked, lines, ['settled ' + prefix, ''], lambda link, one: one == prefix or link == 'int')
+    interior = values.mark(prefix) + 'int'
+    found = tables_of(asked, lines, ['settled ' + prefix, ''], lambda link, one: one == prefix or link == interior)
     made = Reasons(found, declared(lines), prefix)
     print('\n'.join(made.lines()))
     return 0 if any(made.row('in.%d' % number) for number in found.peers()) or made.row('red') else 1
@@ -185,8 +187,9 @@ def answer(asked, lines):
 def decided_at(found, wanted, prefix):
     """The row that the steps give at a prefix, the one on `best`, and the number of the last step at which a route lost; 0 where there is one
     alone, or an own one. Rows are None where there is no route."""
-    own, best = found.row('red', prefix), found.row('best', prefix)
-    rows = {number: found.row('res.%d' % number, prefix) for number in wanted.peers}
+    mark = values.mark(prefix)
+    own, best = found.row(mark + 'red', prefix), found.row(mark + 'best', prefix)
+    rows = {number: found.row('%sres.%d' % (mark, number), prefix) for number in wanted.peers}
     candidates = [decision.candidate(wanted, number, row) for number, row in rows.items() if row]
     if own or not candidates:
         return own, best, 0
@@ -197,7 +200,7 @@ def decided_at(found, wanted, prefix):
 def prefixes(found, wanted):
     """All prefixes with a route that may be the best one, or with one that is."""
     links = ['best', 'red'] + ['res.%d' % number for number in wanted.peers]
-    return sorted(set().union(*(found.links[link] for link in links)), key=values.prefix_key)
+    return sorted(set().union(*(found.links.get(mark + link, ()) for mark in ('', values.OF_IPV6) for link in links)), key=values.prefix_key)
 
 
 def agree(asked, lines):

@@ -2,8 +2,8 @@
 """Checks the page view/index.html in a headless Chromium and a headless Firefox: view/check.py [--browser chromium | firefox] [--program PATH]
                                                                                   [--only NAME] [--pictures]
 
-Journals of examples/ are dropped on the page, and what it shows is read from its elements: how many rows each link of the
-picture has, behind each line, and the rows of a link, at each line of a `show` or an `ask`. It is compared with what the
+Journals of examples/, and of both families of journals/, are dropped on the page, and what it shows is read from its elements: how many rows each
+link of the picture has, behind each line, and the rows of a link, at each line of a `show` or an `ask`. It is compared with what the
 program printed there, and with a walk over the journal's lines by this script. Also: files that are no journal or break a
 rule, with the line that `replay check` names; a file that is too large; windows from 390 to 2560 pixels with visible scroll bars, and letters of
 200 %; what keys and the filter do; and in Chromium journals of 100,000 lines, with timings.
@@ -13,6 +13,7 @@ Status 0 where all is as expected, 1 where something differs, 2 where nothing wa
 import argparse
 import collections
 import glob
+import ipaddress
 import json
 import os
 import random
@@ -36,6 +37,8 @@ BROWSERS = {'chromium': (browser.find, browser.Browser), 'firefox': (firefox.fin
 # width, height and scale of windows: a telephone, a tablet, letters of 200 %, screens
 WINDOWS = ((390, 844, 2), (768, 1024, 1), (640, 400, 2), (1280, 800, 1), (1920, 1080, 1), (2560, 1440, 1))
 STORIES = ('two_peers', 'loss', 'comes_in_the_middle', 'lost_under_redistribution', 'sixteen_losses')
+BOTH = ('both_families', 'second_losses')  # journals of two networks
+JOURNALS = (os.path.join(TOP, 'examples'), os.path.join(HERE, 'journals'))
 
 # What the page shows, read from its elements; put into the page, so that many questions cost one call.
 PROBE = '''var probe = {
@@ -94,14 +97,16 @@ PROBE = '''var probe = {
     return probe.places();
   },
   places: () => {
-    const boxes = ['#heads', '#lanes svg', '#core'].map(name => document.querySelector(name).getBoundingClientRect());
+    const networks = Array.from(document.querySelectorAll('.network:not([hidden])'),
+      network => ['.heads', '.lanes svg', '.core'].map(name => network.querySelector(name).getBoundingClientRect()));
     const page = document.documentElement;
     const out = Array.from(document.querySelectorAll('button, select, input, #says'), part => part.getBoundingClientRect())
       .filter(box => box.width && (box.left < 0 || box.right > page.clientWidth + 0.5));
     const says = document.querySelector('#says');
     return {
       wider: page.scrollWidth - page.clientWidth,
-      apart: Math.max(...boxes.map(box => Math.abs(box.left - boxes[0].left) + Math.abs(box.right - boxes[0].right))) > 0.6,
+      apart: Math.max(...networks.flatMap(boxes => boxes.map(
+        box => Math.abs(box.left - boxes[0].left) + Math.abs(box.right - boxes[0].right)))) > 0.6,
       out: out.length, cut: says.scrollHeight > says.clientHeight + 1 || says.scrollWidth > says.clientWidth + 1,
     };
   },
@@ -118,6 +123,14 @@ STEPS = '''(() => { const spent = []; for (const told of %s) { const begun = per
 REVEALED = '''(row => row !== null && row.children[0].textContent === "%s" &&
   row.getBoundingClientRect().bottom <= document.querySelector('#rows').getBoundingClientRect().bottom + 1
 )(document.querySelector('#rows .row.found:not([hidden])'))'''
+SHOWN_NETWORKS = '''Array.from(document.querySelectorAll('.network:not([hidden])'), network => network.id)'''
+# the link that is marked as that of the present line, and whether its name and rows are within the picture
+IN_VIEW = '''(() => { const [drawn] = document.querySelectorAll('#picture .link.now:not(.legend .link)');
+  if (!drawn) return null;
+  const [outer, inner] = [drawn.closest('.lanes') || document.querySelector('#picture'), drawn.querySelector('.touch')].map(part => part.getBoundingClientRect());
+  const whole = document.querySelector('#picture').getBoundingClientRect();
+  return [drawn.dataset.link, inner.top >= whole.top - 20 && inner.bottom <= whole.bottom + 20 && inner.bottom > outer.top && inner.top < outer.bottom];
+})()'''
 FRAMES = '''(async () => { view.go(1); document.querySelector('#speed').value = 4096; view.play(); let frames = 0;
   const begun = performance.now();
   while (performance.now() - begun < 2000) { await new Promise(requestAnimationFrame); frames++; }
@@ -169,10 +182,7 @@ class Walk:
 
     def rows(self, name):
         """The rows of a link by address, then length."""
-        def order(row):
-            address, length = row[0].split('/')
-            return [int(part) for part in address.split('.')], int(length)
-        return [list(row) for row in sorted(self.links[name].items(), key=order)]
+        return [list(row) for row in sorted(self.links[name].items(), key=lambda row: ipaddress.ip_network(row[0]))]
 
 
 def lines_of(path):
@@ -182,7 +192,13 @@ def lines_of(path):
 
 
 def example(name):
-    return os.path.join(TOP, 'examples', name)
+    return next(path for path in (os.path.join(folder, name) for folder in JOURNALS) if os.path.exists(path))
+
+
+def examples(ending):
+    """The files of that ending, in the order of their names."""
+    found = [path for folder in JOURNALS for path in glob.glob(os.path.join(folder, '*' + ending))]
+    return sorted(found, key=os.path.basename)
 
 
 def open_page(page):
@@ -246,8 +262,8 @@ def check_each_line(page, name, lines):
     expect('%s: the line that keys come to' % name, len(lines), page.ask('view.line'))
     for _ in range(6):
         check_any_line(page, name, walk, random.randint(1, len(lines)))
-    if len(lines) < 300:
-        for link in ('best', 'fib', 'adv.2.1'):
+    if len(lines) < 300 or name in BOTH:
+        for link in ('6.best', '6.fib', '6.adv.2.1') if name in BOTH else ('best', 'fib', 'adv.2.1'):
             check_kept_table(page, name, walk, link)
 
 
@@ -286,26 +302,26 @@ def check_any_line(page, name, walk, number, most=40):
 
 
 def check_stories(page, only):
-    """The journals of examples/ that have a `show` or an `ask`."""
-    for path in sorted(glob.glob(example('*.events'))):
+    """The journals that have a `show` or an `ask`."""
+    for path in examples('.events'):
         name = os.path.basename(path)[:-len('.events')]
         path = example(name + '.out')
         lines = lines_of(path)
         if only not in (None, name) or not any(line.startswith('b ') for line in lines):
             continue
-        if not any(line.startswith(('rows ', '? ')) for line in lines) and name not in STORIES:
+        if not any(line.startswith(('rows ', '? ')) for line in lines) and name not in STORIES + BOTH:
             continue
         expect('%s opens' % name, '', open_file(page, path))
         check_answers(page, name, lines)
-        if name in STORIES:
+        if name in STORIES + BOTH:
             check_each_line(page, name, lines)
         compared['journals of stories'] += 1
         expect('%s: errors of the page' % name, [], page.failures)
 
 
 def check_verdicts(page):
-    """The journals of examples/ that `replay check` judges: the page names the same line and rule."""
-    for path in sorted(glob.glob(example('*.journal'))):
+    """The journals that `replay check` judges: the page names the same line and rule."""
+    for path in examples('.journal'):
         name = os.path.basename(path)
         verdict = lines_of(path[:-len('.journal')] + '.out')[0].split(' ')
         said = open_file(page, path)
@@ -410,7 +426,7 @@ def check_layout(made, program):
     whole = {'wider': 0, 'apart': False, 'out': 0, 'cut': False}
     for width, height, scale in WINDOWS:
         with made(program, width, height, scale=scale) as page:
-            for name, count in (('loss', 60), ('sixty_four_peers', 8), ('cluster_list_of_1000', 8)):
+            for name, count in (('loss', 60), ('sixty_four_peers', 8), ('cluster_list_of_1000', 8), ('both_families', 40)):
                 expect('opens', '', open_file(page, example(name + '.out')))
                 expect('width of the window', width, page.ask('innerWidth'))
                 last = page.ask('view.journal.last')
@@ -426,12 +442,14 @@ def check_actions(page, folder):
     open_page(page)
     page.press('Tab')
     expect('Tab comes to', 'open', page.focused())
-    for name in STORIES + ('each_step', 'four_octets', 'never_sent', 'faults_in_messages'):
+    for name in STORIES + BOTH + ('each_step', 'four_octets', 'never_sent', 'faults_in_messages'):
         lines = lines_of(example(name + '.out'))
         expect('%s opens' % name, '', open_file(page, example(name + '.out')))
         check_candidates(page, name, lines)
         check_numbers(page, name, lines)
         check_messages(page, name, lines)
+        check_addresses(page, name, lines)
+    check_networks(page)
     check_keys(page)
     check_revealed(page, folder)
     expect('errors of the page', [], page.failures)
@@ -442,10 +460,11 @@ def check_candidates(page, name, lines):
     walk = Walk(lines)
     for number in sorted(random.sample(range(1, len(lines) + 1), min(len(lines), 30))):
         walk.go(number)
-        best = sorted(walk.links.get('best', {}))
-        for prefix in random.sample(best, min(2, len(best))):
-            links = [link for link in walk.links if link == 'red' or link.startswith('res.')]
-            wanted = [[link, walk.links[link][prefix]] for link in sorted(links, key=lambda link: int(link[4:] or 0)) if prefix in walk.links[link]]
+        best = [(tag, prefix) for tag in ('', '6.') for prefix in sorted(walk.links.get(tag + 'best', {}))]
+        for tag, prefix in random.sample(best, min(2, len(best))):
+            links = [link for link in walk.links if link == tag + 'red' or link.startswith(tag + 'res.')]
+            links.sort(key=lambda link: int(link.rpartition('res.')[2]) if 'res.' in link else 0)
+            wanted = [[link, walk.links[link][prefix]] for link in links if prefix in walk.links[link]]
             found = asked(page, ['line', number], ['candidates', prefix])[1]
             expect('%s:%d candidates at %s' % (name, number, prefix), wanted, found)
             compared['candidates'] += 1
@@ -467,6 +486,37 @@ def check_numbers(page, name, lines):
         expect('%s: lines of AS %s' % (name, asn), wanted, found)
         compared['filters by AS'] += 1
     page.ask('view.setFilter("")')
+
+
+def check_addresses(page, name, lines):
+    """The filter by an address: the lines of which the prefix holds it; and by a prefix of IPv6 that is written shorter than it is printed."""
+    prefixes = {number: ipaddress.ip_network(line.split(' ')[2]) for number, line in enumerate(lines, 1) if line[0] in '+-=?'}
+    for network in random.sample(sorted(set(prefixes.values()), key=str), min(4, len(set(prefixes.values())))):
+        address = network[random.randrange(min(network.num_addresses, 1000))]
+        wanted = [number for number, one in prefixes.items() if one.version == address.version and address in one]
+        found = page.ask('view.setFilter("%s"); Array.from(view.matches)' % address)
+        expect('%s: lines of %s' % (name, address), wanted, found)
+        wanted = [number for number, one in prefixes.items() if one == network]
+        found = page.ask('view.setFilter("%s"); Array.from(view.matches)' % network)
+        expect('%s: lines of %s' % (name, network), wanted, found)
+        compared['filters by address'] += 2
+    page.ask('view.setFilter("")')
+
+
+def check_networks(page):
+    """A journal of one family has one picture, as before; one of both has two, and the link of the present line is in view."""
+    for name in STORIES[:1] + BOTH:
+        expect('%s opens' % name, '', open_file(page, example(name + '.out')))
+        expect('%s: networks' % name, ['first', 'second'][:1 + (name in BOTH)], page.ask(SHOWN_NETWORKS))
+        lines = lines_of(example(name + '.out'))
+        for number, line in enumerate(lines, 1):
+            words = line.split(' ')
+            if words[0] not in '+-=?' or number % 3:
+                continue
+            wanted = [words[1], True]
+            expect('%s:%d in view' % (name, number), wanted, page.ask('view.go(%d); view.keepInView(); %s' % (number, IN_VIEW)))
+            compared['links in view'] += 1
+    expect('errors of the page', [], page.failures)
 
 
 def check_messages(page, name, lines):
@@ -493,7 +543,8 @@ def in_words(kind, body, width):
         yield 'withdraws ' + ', '.join(found.withdrawn)
     if found.announced:
         yield 'announces ' + ', '.join(found.announced)
-        yield 'next hop ' + wire.address(found.attributes[wire.NEXT_HOP][1])
+        said = wire.of_family(found.attributes, wire.family(found.announced[0]))
+        yield 'next hop ' + wire.address(said[wire.NEXT_HOP][1])
         yield 'AS path ' + (re.sub('[().]+', ' ', wire.path(found.attributes[wire.AS_PATH][1], width)).strip() or 'empty')
 
 

@@ -19,9 +19,10 @@ const [ADD, DELETE, REPLACE, ASK, BEGIN, COPY, WELD, END, OUT, NOTE, ROW, ROWS, 
   REFUSED, TOTAL, SETTLED] = KINDS.keys();
 
 const NUMBER = '([1-9][0-9]{0,9})';
-const LINK_NAME = new RegExp(`^(?:(in|filt|res)\\.${NUMBER}|(peer|read|outf|adv)\\.${NUMBER}\\.${NUMBER}` +
+const LINK_NAME = new RegExp(`^(6\\.)?(?:(in|filt|res)\\.${NUMBER}|(peer|read|outf|adv)\\.${NUMBER}\\.${NUMBER}` +
   `|(org)\\.(connected|static|ospf|rip)(?:\\.${NUMBER})?|(red|best|read\\.rib|low|dyn|int|ebgp|ibgp|ext|fib))$`);
 const PREFIX_TEXT = /^(\d{1,3})\.(\d{1,3})\.(\d{1,3})\.(\d{1,3})\/(\d{1,2})$/;
+const SECOND_TEXT = /^([0-9a-f]{1,4}(?::[0-9a-f]{1,4}){7})\/(\d{1,3})$/;
 
 /** A sentence for the reader: why a file isn't shown. */
 class Refusal extends Error {}
@@ -32,25 +33,56 @@ function isEventFile(text) {
   return line !== undefined && /^ *(as4|revised|reflect|local [0-9]+ .*)\r?$/.test(line);
 }
 
-/** The parts of a link's name, or null where it is none: its family, its numbers, its protocol. */
+/** The parts of a link's name, or null where it is none: what stands in front of the names of its network, its family, its numbers, its
+ * protocol. */
 function linkParts(name) {
   const found = LINK_NAME.exec(name);
   if (!found) return null;
-  const [, one, k, two, j, s, origin, protocol, loss, alone] = found;
+  const [, tag = '', one, k, two, j, s, origin, protocol, loss, alone] = found;
   const numbers = [k, j, s, loss].filter(word => word !== undefined).map(Number);
   if (numbers.some(number => number >= 2 ** 32)) return null;
-  return {family: one || two || origin || alone, numbers, protocol};
+  return {tag, family: one || two || origin || alone, numbers, protocol};
 }
 
-/** A prefix as a number that grows with address, then length; -1 where the text isn't a printed prefix. */
+/** An address of IPv6 as a BigInt, or null where the text is none: eight groups, of which one `::` may stand for some. */
+function secondAddress(text) {
+  const halves = text.toLowerCase().split('::');
+  const [front, behind = []] = halves.map(half => (half === '' ? [] : half.split(':')));
+  const missing = 8 - front.length - behind.length;
+  if (halves.length > 2 || (halves.length === 2 ? missing < 1 : missing !== 0)) return null;
+  const groups = [...front, ...Array(missing).fill('0'), ...behind];
+  return groups.every(group => /^[0-9a-f]{1,4}$/.test(group)) ? groups.reduce((sum, group) => sum << 16n | BigInt(`0x${group}`), 0n) : null;
+}
+
+/** The text of an address of IPv6 as it is printed. */
+function secondText(address) {
+  return Array.from({length: 8}, (_, place) => (address >> BigInt(112 - 16 * place) & 0xffffn).toString(16)).join(':');
+}
+
+/** A prefix as a number that grows with address, then length, of IPv6 a BigInt; -1 where the text isn't a printed prefix. */
 function prefixKey(text) {
   const found = PREFIX_TEXT.exec(text);
-  if (!found) return -1;
+  if (!found) return secondKey(text);
   const [a, b, c, d, length] = found.slice(1).map(Number);
   if (a > 255 || b > 255 || c > 255 || d > 255 || length > 32) return -1;
   const address = ((a * 256 + b) * 256 + c) * 256 + d;
   if (`${a}.${b}.${c}.${d}/${length}` !== text || address % 2 ** (32 - length) !== 0) return -1;
   return address * 64 + length;
+}
+
+function secondKey(text) {
+  const found = SECOND_TEXT.exec(text);
+  if (!found) return -1;
+  const address = secondAddress(found[1]);
+  const length = Number(found[2]);
+  if (length > 128 || `${secondText(address)}/${length}` !== text || BigInt.asUintN(128 - length, address) !== 0n) return -1;
+  return address << 8n | BigInt(length);
+}
+
+/** Which of two prefixes comes first: those of IPv4 before those of IPv6. */
+function inOrder(key, other) {
+  if (typeof key !== typeof other) return typeof key === 'bigint' ? 1 : -1;
+  return key < other ? -1 : key > other ? 1 : 0;
 }
 
 /** How many of a sorted list's first entries are at most `bound`. */
@@ -118,6 +150,7 @@ class Journal {
     this.linkOf = new Map();
     this.prefixes = [];
     this.prefixOf = new Map();
+    this.tags = [];             // of each prefix what stands in front of the names of its network
     this.values = [];
     this.valueOf = new Map();
     this.broken = null;         // the line that breaks a rule, and which: the journal is shown up to the line before
@@ -214,7 +247,7 @@ class Journal {
       return other === -1 ? null : [link, -1, other, -1];
     }
     const prefix = this.prefixNumber(words[2]);
-    if (prefix === -1 || words.includes('') || (kind !== ASK && words.indexOf('-', 1) !== -1)) return null;
+    if (prefix === -1 || this.tagOf(prefix) !== this.links[link].tag || words.includes('') || (kind !== ASK && words.indexOf('-', 1) !== -1)) return null;
     const value = this.valueNumber(words[3]);
     if (kind === ADD) return [link, prefix, -1, value];
     if (kind === DELETE) return [link, prefix, value, -1];
@@ -240,9 +273,20 @@ class Journal {
       if (prefixKey(text) === -1) return -1;
       prefix = this.prefixes.length;
       this.prefixes.push(text);
+      this.tags.push(text.includes(':') ? '6.' : '');
       this.prefixOf.set(text, prefix);
     }
     return prefix;
+  }
+
+  /** What stands in front of the names of the network that a prefix is of. */
+  tagOf(prefix) {
+    return this.tags[prefix];
+  }
+
+  /** Whether there are two networks. */
+  isOfBoth() {
+    return this.links.some(link => link.tag !== '');
   }
 
   valueNumber(text) {
@@ -284,7 +328,7 @@ class Journal {
   /** Behind the last line: prefixes in order, and of each link the changes by prefix. */
   close() {
     const keys = this.prefixes.map(prefixKey);
-    this.byRank = Array.from(keys.keys()).sort((a, b) => keys[a] - keys[b]);
+    this.byRank = Array.from(keys.keys()).sort((a, b) => inOrder(keys[a], keys[b]));
     this.rank = new Array(keys.length);
     this.byRank.forEach((prefix, rank) => { this.rank[prefix] = rank; });
     this.keys = keys;

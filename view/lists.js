@@ -162,10 +162,11 @@ class Table {
 /** The candidates at one prefix side by side: the rows there of all links whose routes the decision compares; the best one is marked. */
 class Candidates {
   constructor(journal, rank) {
-    const links = journal.links.filter(({family}) => family === 'res' || family === 'red');
+    const tag = journal.tagOf(journal.byRank[rank]);
+    const links = journal.links.filter(link => link.tag === tag && (link.family === 'res' || link.family === 'red'));
     links.sort((a, b) => (a.numbers[0] || 0) - (b.numbers[0] || 0));
     Object.assign(this, {journal, rank, links, line: -1, names: [], values: [], best: -1, first: 'link'});
-    this.link = journal.links[journal.linkOf.get('best')];
+    this.link = journal.links[journal.linkOf.get(`${tag}best`)];
   }
 
   moveTo(line) {

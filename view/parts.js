@@ -9,6 +9,7 @@
 
 /** Whether a change of the one link may be caused by one of the other in the same fall. */
 function isBelow(link, upper) {
+  if (link.tag !== upper.tag) return false;
   const [peer, session] = link.numbers;
   const same = upper.numbers[0] === peer && upper.protocol === link.protocol;
   switch (link.family) {
@@ -34,6 +35,10 @@ function isBelow(link, upper) {
 
 /** What a fall is a turn of, or the event that it is: told by its first link. */
 function causeOf(link) {
+  return link.tag + causeInNetwork(link);
+}
+
+function causeInNetwork(link) {
   switch (link.family) {
     case 'peer': case 'in': return `routes ${link.numbers[0]}`;
     case 'org': return `interior ${link.protocol}`;
@@ -86,8 +91,16 @@ function goesWith(journal, line) {
   if (kind[line] === END) return before === END && links[link[line]].family !== 'read';
   if (kind[line] === COPY) return before === BEGIN && links[link[line]].family === 'read.rib';
   if (kind[line] !== BEGIN || !isLink(before)) return false;
-  const {family, numbers} = links[link[line]];
-  return !(family === 'in' || family === 'peer' && before !== END || family === 'org' && numbers.length > 0);
+  const {family, numbers, protocol} = links[link[line]];
+  return !(family === 'in' || family === 'peer' && before !== END || family === 'org' && (numbers.length > 0 || protocol === 'connected'));
+}
+
+/** Whether a line begins what an event does to the second network: a declared peer, a session, and its loss are one event for both. */
+function isSecondHalf(journal, line) {
+  const {kind, link, links} = journal;
+  if (![BEGIN, COPY, END].includes(kind[line])) return false;
+  const {tag, family} = links[link[line]];
+  return tag !== '' && family === (kind[line] === BEGIN ? 'in' : 'read');
 }
 
 function markEvents(journal, fall) {
@@ -112,18 +125,26 @@ function markEvents(journal, fall) {
 function beginsEvent(journal, fall, event, line) {
   const {kind, link, links, after, prefix} = journal;
   const before = fall[line - 1];
-  if (kind[line] === WORK) return false;
+  if (kind[line] === WORK || isSecondHalf(journal, line)) return false;
   if (kind[line] > REPLACE) return !(kind[line] === END && kind[line - 1] === NOTE);
   if (kind[before] > REPLACE) return true;
   const cause = causeOf(links[link[line]]);
-  if (cause !== causeOf(links[link[before]]) || cause.startsWith('interior')) return true;
-  if (!cause.startsWith('routes')) return false;
+  if (cause !== causeOf(links[link[before]]) || isInterior(cause)) return true;
+  if (!isRoutes(cause)) return false;
   if (kind[line] === DELETE && kind[before] !== DELETE) return true;
   if (kind[line] !== DELETE && kind[before] !== DELETE && after[line] !== after[before]) return true;
   for (let other = before; other >= event[line - 1] && other > 0; other = fall[other - 1]) {
     if (prefix[other] === prefix[line]) return true;
   }
   return false;
+}
+
+function isRoutes(cause) {
+  return /^(6\.)?routes/.test(cause);
+}
+
+function isInterior(cause) {
+  return /^(6\.)?interior/.test(cause);
 }
 
 /** Gives a line `work M` the turns before it. */
@@ -136,7 +157,7 @@ function takeTurns(journal, fall, event, line, answered) {
     const start = fall[first - 1];
     if (kind[start] > REPLACE) break;
     const found = causeOf(links[link[start]]);
-    const isTurn = kind[start] === DELETE || !(found.startsWith('routes') || found.startsWith('interior'));
+    const isTurn = kind[start] === DELETE || !(isRoutes(found) || isInterior(found));
     if (!isTurn || (cause !== null && found !== cause)) break;
     cause = found;
     first = start;

@@ -1,5 +1,6 @@
-// The picture of the network (docs/ARCHITECTURE.md): a lane for each peer, and below them the decision, the interior
+// The picture of a network (docs/ARCHITECTURE.md): a lane for each peer, and below them the decision, the interior
 // routes and the way to the forwarding table. Each link has its name and how many rows it has behind the present line.
+// A journal of both families has two networks, and a picture for each.
 'use strict';
 
 const SVG = 'http://www.w3.org/2000/svg';
@@ -167,8 +168,10 @@ class Chain {
 }
 
 class Picture {
-  constructor(heads, lanes, core, choose) {
-    Object.assign(this, {heads, lanes, core, choose});
+  /** The picture in a box of the page, of the network that has this in front of its links' names. */
+  constructor(box, tag, choose) {
+    const [heads, lanes, core] = ['.heads', '.lanes svg', '.core'].map(part => box.querySelector(part));
+    Object.assign(this, {box, tag, heads, lanes, core, choose});
     for (const drawn of [lanes, core]) {
       drawn.addEventListener('click', event => this.touched(event));
       drawn.addEventListener('keydown', event => { if (event.key === 'Enter') this.touched(event); });
@@ -180,8 +183,9 @@ class Picture {
     if (link && link.dataset.link) this.choose(link.dataset.link);
   }
 
-  /** Draws the picture of a journal. */
+  /** Draws the picture of a journal, if that has the network. */
   open(journal) {
+    this.box.hidden = this.tag !== '' && !journal.isOfBoth();
     this.journal = journal;
     this.wires = new Map();
     this.marked = [];
@@ -189,7 +193,7 @@ class Picture {
     this.sessions = [];
     const peers = new Set();
     for (const link of journal.links) {
-      if (['in', 'filt', 'res', 'peer', 'read', 'outf', 'adv'].includes(link.family)) peers.add(link.numbers[0]);
+      if (link.tag === this.tag && ['in', 'filt', 'res', 'peer', 'read', 'outf', 'adv'].includes(link.family)) peers.add(link.numbers[0]);
     }
     this.peers = Array.from(peers).sort((a, b) => a - b).slice(0, MOST_PEERS);
     this.height = this.peers.length > 8 ? 42 : 48;
@@ -207,7 +211,12 @@ class Picture {
   }
 
   family(family, peer) {
-    return this.journal.links.filter(link => link.family === family && (peer === undefined || link.numbers[0] === peer));
+    return this.journal.links.filter(link => link.tag === this.tag && link.family === family && (peer === undefined || link.numbers[0] === peer));
+  }
+
+  /** The link of a name in this network, or null. */
+  linkOf(name) {
+    return this.journal.links[this.journal.linkOf.get(this.tag + name)] || null;
   }
 
   drawHeads() {
@@ -232,10 +241,10 @@ class Picture {
   }
 
   wire(parent, name, path, x, y, options) {
-    const link = this.journal.links[this.journal.linkOf.get(name)];
+    const link = this.linkOf(name);
     const wire = new Wire(parent, path, x, y, options);
-    wire.be(link || null);
-    if (!link) wire.label.textContent = name;
+    wire.be(link);
+    if (!link) wire.label.textContent = this.tag + name;
     this.plain.push(wire);
     return wire;
   }
@@ -243,7 +252,7 @@ class Picture {
   drawLane(peer, y) {
     const lane = draw(this.lanes, 'g', {class: 'lane'});
     drawBox(lane, 8, y, 74, 26, `peer ${peer}`, `the live routes of peer ${peer}`);
-    const bottom = this.journal.links[this.journal.linkOf.get(`in.${peer}`)] || null;
+    const bottom = this.linkOf(`in.${peer}`);
     this.chains.push(new Chain(this, lane, this.journal, this.family('peer', peer), bottom, {x: 82, y, end: 398, at: 354}));
     drawBox(lane, 398, y, 58, 26, 'filter', 'the incoming filter');
     this.wire(lane, `filt.${peer}`, `M456,${y}H544`, 500, y);
@@ -281,7 +290,7 @@ class Picture {
     wire('ext', 'M1010,129H1094', 1050, 129);
     drawBox(core, 1094, 129, 56, 28, 'ExtInt', 'external routes, by the interior routes to their next hops');
     wire('fib', 'M1150,129H1236', 1191, 129);
-    this.drawLegend(core);
+    if (this.tag === '') this.drawLegend(core);
   }
 
   /** The tree of the interior routes, and what `int` goes to. */
@@ -293,7 +302,7 @@ class Picture {
       const y = 32 + place * 48;
       drawBox(core, 8, y, 74, 26, protocol, `the live routes of ${protocol}`);
       const stages = this.family('org').filter(link => link.protocol === protocol && link.numbers.length);
-      const bottom = this.journal.links[this.journal.linkOf.get(`org.${protocol}`)] || null;
+      const bottom = this.linkOf(`org.${protocol}`);
       this.chains.push(new Chain(this, core, this.journal, stages, bottom, {x: 82, y, end: 318, at: 270}));
     });
     for (const [x, from, to] of [[318, 32, 80], [318, 128, 176], [428, 56, 152]]) {
@@ -352,15 +361,12 @@ class Picture {
     putText(session.told, text);
     if (number === session.number) return;
     session.number = number;
-    for (const family in session.wires) {
-      const link = this.journal.linkOf.get(`${family}.${session.peer}.${number}`);
-      session.wires[family].be(link === undefined ? null : this.journal.links[link]);
-    }
+    for (const family in session.wires) session.wires[family].be(this.linkOf(`${family}.${session.peer}.${number}`));
   }
 
   /** How many changes of the best routes a reader hasn't read behind a line. */
   unread(reader, line) {
-    const best = this.journal.links[this.journal.linkOf.get('best')];
+    const best = this.linkOf('best');
     const life = this.journal.lifeAt(reader, line);
     if (!best || life === -1) return 0;
     const since = link => atMost(link.changes, line) - atMost(link.changes, reader.begins[life]);
@@ -384,7 +390,9 @@ class Picture {
     }
     const kind = journal.kind[line];
     if (kind === OUT || kind === NOTE) {
-      const session = this.sessions.find(found => found.peer === Number(journal.text(line).split(' ')[1]));
+      const [, peer, hex] = journal.text(line).split(' ');
+      if (this.tag !== (kind === OUT ? tagOfUpdate(hex || '') : '')) return;
+      const session = this.sessions.find(found => found.peer === Number(peer));
       if (session) put(session.sent, 'now');
       if (session) this.now = session.wires.adv;
       return;

@@ -24,7 +24,7 @@ class View {
     this.playing = null;
     this.stripWidth = 0;
     this.opened = 0;            // how many files were opened, or refused
-    this.picture = new Picture(at('#heads'), at('#lanes svg'), at('#core'), name => this.choose(name));
+    this.pictures = [['#first', ''], ['#second', '6.']].map(([box, tag]) => new Picture(at(box), tag, name => this.choose(name)));
     this.lines = new VirtualList(at('#lines .list'), 20, () => this.makeLine(), (row, place) => this.fillLine(row, place));
     this.rows = new VirtualList(at('#rows .list'), 20, () => this.makeRow(), (row, place) => this.fillRow(row, place));
     this.heads = document.createElement('div');
@@ -69,7 +69,8 @@ class View {
         'The lines before it are shown.');
     }
     Object.assign(this, {line: 0, matches: null, rank: -1});
-    this.picture.open(journal);
+    for (const picture of this.pictures) picture.open(journal);
+    document.body.classList.toggle('both', journal.isOfBoth());
     this.lines.setLength(journal.last);
     at('#filter').value = '';
     this.choose(journal.linkOf.has('best') ? 'best' : journal.links[0].name);
@@ -138,7 +139,7 @@ class View {
 
   render() {
     const {journal, line} = this;
-    this.picture.show(line, this.chosen, this.rank);
+    for (const picture of this.shown()) picture.show(line, this.chosen, this.rank);
     const [told, rest] = lineInWords(journal, line);
     putText(at('#says b'), told);
     putText(at('#says span'), rest);
@@ -154,14 +155,24 @@ class View {
     this.keepInView();
   }
 
-  /** Scrolls the lanes to the link of the present line. */
+  /** The pictures of the networks that the journal has. */
+  shown() {
+    return this.pictures.filter(picture => !picture.box.hidden);
+  }
+
+  /** Scrolls the lanes to the link of the present line, and where there are two networks the picture to the one that it is of. */
   keepInView() {
-    const {box, now} = {box: at('#lanes'), now: this.picture.now};
-    if (!now || !box.contains(now.drawn) || this.lanes.height <= this.lanes.seen) return;
-    const scale = this.lanes.width / WIDTH;
-    const [upper, lower] = [(now.y - 24) * scale, (now.y + 30) * scale];
-    if (upper < box.scrollTop) box.scrollTop = upper - 10;
-    else if (lower > box.scrollTop + this.lanes.seen) box.scrollTop = lower - this.lanes.seen + 10;
+    const picture = this.shown().find(found => found.now);
+    if (!picture) return;
+    const {now, size: {width, seen, height}} = picture;
+    const lanes = picture.lanes.parentNode;
+    if (lanes.contains(now.drawn) && height > seen) {
+      const scale = width / WIDTH;
+      const [upper, lower] = [(now.y - 24) * scale, (now.y + 30) * scale];
+      if (upper < lanes.scrollTop) lanes.scrollTop = upper - 10;
+      else if (lower > lanes.scrollTop + seen) lanes.scrollTop = lower - seen + 10;
+    }
+    if (this.shown().length > 1) revealPart(at('#picture'), now.drawn.querySelector('.touch'));
   }
 
   makeLine() {
@@ -215,8 +226,12 @@ class View {
     const heads = columnHeads(this.table.link.family);
     this.keys = this.printed ? ['value'] : heads.map(([key]) => key);
     const names = this.printed ? ['value'] : heads.map(([, head]) => head);
-    const widths = this.keys.map(key => (WIDE.includes(key) ? `minmax(${WIDTHS[key]}ch, 1fr)` : `${WIDTHS[key]}ch`));
-    const least = this.keys.reduce((sum, key) => sum + WIDTHS[key] + 1.5, 17);
+    const isSecond = this.table.link !== undefined && this.table.link.tag !== '';
+    const widthOf = key => (isSecond && key === 'hop' ? SECOND_WIDTHS.hop : WIDTHS[key]);
+    const widths = this.keys.map(key => (WIDE.includes(key) ? `minmax(${widthOf(key)}ch, 1fr)` : `${widthOf(key)}ch`));
+    const first = isSecond && this.table.first === 'prefix' ? SECOND_WIDTHS.prefix : 17;
+    const least = this.keys.reduce((sum, key) => sum + widthOf(key) + 1.5, first);
+    at('#rows').style.setProperty('--first', `${first}ch`);
     at('#rows').style.setProperty('--columns', widths.join(' '));
     at('#rows').style.setProperty('--least', `calc(${least}ch + 24px)`);
     this.heads.replaceChildren();
@@ -289,14 +304,20 @@ class View {
   lineTest(word) {
     const {journal} = this;
     const {prefix, link, kind, before, after} = journal;
-    if (/^[0-9.]+\/[0-9]+$/.test(word)) {
-      const number = journal.prefixOf.get(word);
+    if (/^([0-9.]+|[0-9a-f:]*:[0-9a-f:]*)\/[0-9]+$/i.test(word)) {
+      const number = journal.prefixOf.get(printedPrefix(word));
       if (number !== undefined) this.rank = journal.rank[number];
       return line => prefix[line] === number;
+    }
+    if (word.includes(':') && secondAddress(word) !== null) {
+      const address = secondAddress(word);
+      const holds = journal.keys.map(key => typeof key === 'bigint' && (address ^ key >> 8n) >> 128n - (key & 255n) === 0n);
+      return line => prefix[line] !== -1 && holds[prefix[line]];
     }
     if (/^([0-9]+\.){3}[0-9]+$/.test(word)) {
       const address = prefixKey(`${word}/32`) / 64;
       const holds = journal.keys.map(key => {
+        if (typeof key === 'bigint') return false;
         const size = 2 ** (32 - key % 64);
         return Math.floor(address / size) === Math.floor(Math.floor(key / 64) / size);
       });
@@ -397,6 +418,21 @@ class View {
     act();
   }
 
+  /** Keeps how large a picture's lanes are, and makes its other parts as wide as they are beside their scroll bar. */
+  measure(picture) {
+    const lanes = picture.lanes.parentNode;
+    const measure = () => {
+      picture.size = {width: lanes.clientWidth, seen: lanes.clientHeight, height: lanes.scrollHeight};
+      const bar = `${lanes.offsetWidth - lanes.clientWidth}px`;
+      if (bar === picture.bar) return;
+      picture.bar = bar;
+      requestAnimationFrame(() => picture.box.style.setProperty('--bar', bar));
+    };
+    const observer = new ResizeObserver(measure);
+    for (const element of [lanes, picture.lanes]) observer.observe(element);
+    measure();
+  }
+
   chooseHere() {
     const link = this.journal && this.journal.link[this.line];
     if (this.journal && link !== -1) this.choose(this.journal.links[link].name);
@@ -447,19 +483,24 @@ class View {
       this.drawStrip();
       if (this.journal) this.render();
     }).observe(at('#strip'));
-    const measure = () => {
-      const box = at('#lanes');
-      this.lanes = {width: box.clientWidth, seen: box.clientHeight, height: box.scrollHeight};
-      const bar = `${box.offsetWidth - box.clientWidth}px`;
-      if (bar === this.bar) return;
-      this.bar = bar;
-      requestAnimationFrame(() => at('#picture').style.setProperty('--bar', bar));
-    };
-    const observer = new ResizeObserver(measure);
-    for (const element of [at('#lanes'), at('#lanes svg')]) observer.observe(element);
-    measure();
+    this.pictures.forEach(picture => this.measure(picture));
     window.matchMedia('(prefers-color-scheme: dark)').addEventListener('change', () => this.drawStrip());
   }
+}
+
+/** Scrolls a box as far as it takes to have a part of it in view. */
+function revealPart(box, part) {
+  if (box.scrollHeight <= box.clientHeight) return;
+  const [outer, inner] = [box, part].map(element => element.getBoundingClientRect());
+  if (inner.top < outer.top + 30) box.scrollTop += inner.top - outer.top - 50;
+  else if (inner.bottom > outer.bottom - 10) box.scrollTop += inner.bottom - outer.bottom + 30;
+}
+
+/** A prefix as it is printed: of IPv6 one may be written with `::`. */
+function printedPrefix(text) {
+  const [address, length] = text.split('/');
+  const found = address.includes(':') ? secondAddress(address) : null;
+  return found === null ? text : `${secondText(found)}/${length}`;
 }
 
 /** What is so where a rule is broken. */
@@ -472,5 +513,6 @@ const RULES = {
 /** How wide the columns of a table are at least, in characters, and which take more. */
 const WIDTHS = {value: 40, hop: 15, path: 12, origin: 10, pref: 5, med: 5, from: 9, metric: 6, via: 12, other: 10};
 const WIDE = ['value', 'path', 'other'];
+const SECOND_WIDTHS = {prefix: 26, hop: 26};
 
 const view = new View();

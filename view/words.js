@@ -30,6 +30,10 @@ const WITH_ATTRIBUTES = ['in', 'peer', 'outf', 'adv'];
 
 /** A link in words: its term, and whose it is. */
 function linkInWords(link) {
+  return linkOfNetwork(link) + (link.tag ? ', IPv6' : '');
+}
+
+function linkOfNetwork(link) {
   const [peer, session] = link.numbers;
   const term = TERMS[link.family];
   if (link.family === 'org') {
@@ -49,7 +53,7 @@ function attributes(text) {
     const rest = word.slice(1);
     if (word in ORIGINS) told.origin = ORIGINS[word];
     else if (/^p([({][0-9.]*[)}])*$/.test(word)) told.path = rest.replace(/[().]+/g, ' ').trim() || 'empty';
-    else if (/^n[0-9.]+$/.test(word)) told.hop = rest;
+    else if (/^n[0-9a-f.:]+$/.test(word)) told.hop = rest;
     else if (/^m[0-9]+$/.test(word)) told.med = rest;
     else if (/^l[0-9]+$/.test(word)) told.pref = rest;
     else if (word === 'a') other.push('atomic aggregate');
@@ -82,10 +86,13 @@ function columnsOf(family, value) {
     if (found[5] !== '-') told.metric = found[5];
     return told;
   }
-  if (family === 'fib' && parts.length === 3) return {from: parts[0], hop: parts[1], via: parts[2]};
-  if (['ebgp', 'ibgp', 'ext'].includes(family) && parts.length === 2) return {from: parts[0], hop: parts[1]};
-  if (parts.length === 4) return {from: parts[0], hop: parts[1], via: parts[2], metric: parts[3]};
-  return null;
+  // an address of IPv6 has colons of its own
+  const [from, ...rest] = parts;
+  const behind = ['ebgp', 'ibgp', 'ext'].includes(family) ? [] : rest.splice(family === 'fib' ? -1 : -2);
+  const hop = rest.join(':');
+  if (rest.length !== 1 && secondAddress(hop) === null) return null;
+  const [via, metric] = behind;
+  return Object.assign({from, hop}, via === undefined ? {} : {via}, metric === undefined ? {} : {metric});
 }
 
 /** The columns of a link's table: key and head. */
@@ -137,16 +144,36 @@ function noteInWords(hex) {
   return `${code}/${subcode}, ${told}` + (hex.length > 42 ? `, with the data ${shortened(hex.slice(42))}` : '');
 }
 
-/** The prefixes of a field of an UPDATE. */
-function prefixesOf(octets) {
+/** The prefixes of a field of an UPDATE, whose addresses have so many octets. */
+function prefixesOf(octets, size = 4) {
   const found = [];
   for (let at = 0; at < octets.length;) {
     const length = octets[at];
-    const part = Array.from({length: 4}, (_, place) => (place < Math.ceil(length / 8) ? octets[at + 1 + place] || 0 : 0));
-    found.push(`${part.join('.')}/${length}`);
+    const part = Array.from({length: size}, (_, place) => (place < Math.ceil(length / 8) ? octets[at + 1 + place] || 0 : 0));
+    found.push(`${addressOf(part)}/${length}`);
     at += 1 + Math.ceil(length / 8);
   }
   return found;
+}
+
+/** The text of an address of four octets, or of sixteen. */
+function addressOf(octets) {
+  return octets.length === 16 ? secondText(octets.reduce((sum, octet) => sum << 8n | BigInt(octet), 0n)) : Array.from(octets).join('.');
+}
+
+/** Type and value of each attribute of an UPDATE. */
+function* eachAttribute(octets) {
+  for (let at = 0; at < octets.length;) {
+    const wide = octets[at] & 0x10 ? 2 : 1;
+    const size = wide === 2 ? octets[at + 2] * 256 + octets[at + 3] : octets[at + 2];
+    yield [octets[at + 1], octets.slice(at + 2 + wide, at + 2 + wide + size)];
+    at += 2 + wide + size;
+  }
+}
+
+/** Whether a value of type 14 or 15 is of IPv6 unicast. */
+function isSecond(value) {
+  return value[0] === 0 && value[1] === 2 && value[2] === 1;
 }
 
 /** The text of an AS_PATH whose numbers have so many octets; null where it doesn’t fit. */
@@ -167,12 +194,8 @@ function pathOf(octets, width) {
 /** The attributes of an UPDATE in the form of a value. The width of its AS numbers is told by the value on the line before, if by any. */
 function valueOf(octets, near) {
   const words = [];
-  for (let at = 0; at < octets.length;) {
-    const wide = octets[at] & 0x10 ? 2 : 1;
-    const size = wide === 2 ? octets[at + 2] * 256 + octets[at + 3] : octets[at + 2];
-    const value = octets.slice(at + 2 + wide, at + 2 + wide + size);
+  for (const [kind, value] of eachAttribute(octets)) {
     const number = value.reduce((sum, octet) => sum * 256 + octet, 0);
-    const kind = octets[at + 1];
     if (kind === 1) words.push(`o${number}`);
     if (kind === 2) {
       const paths = [pathOf(value, 2), pathOf(value, 4)];
@@ -182,22 +205,41 @@ function valueOf(octets, near) {
     if (kind === 4) words.push(`m${number}`);
     if (kind === 5) words.push(`l${number}`);
     if (kind === 6) words.push('a');
-    if (kind > 6) words.push(`x${kind}:${Array.from(value, octet => octet.toString(16).padStart(2, '0')).join('')}`);
-    at += 2 + wide + size;
+    if (kind === 14 && isSecond(value)) words.push(`n${addressOf(value.slice(4, 20))}`);
+    else if (kind > 6 && kind !== 15) words.push(`x${kind}:${Array.from(value, octet => octet.toString(16).padStart(2, '0')).join('')}`);
   }
   return words.join(',');
 }
 
-/** What an UPDATE withdraws and announces, and with which attributes. */
-function updateInWords(hex, near) {
+/** What an UPDATE withdraws and announces, as texts, and its attributes as octets; null where its lengths don’t fit. */
+function updateOf(hex) {
   const octets = octetsOf(hex);
   const gone = octets[19] * 256 + octets[20];
   const at = 23 + gone;
   const size = octets[at - 2] * 256 + octets[at - 1];
-  if (!(at + size <= octets.length)) return `${octets.length} octets`;
-  const told = [['withdraws', prefixesOf(octets.slice(21, 21 + gone))], ['announces', prefixesOf(octets.slice(at + size))]]
-    .filter(([, found]) => found.length).map(([verb, found]) => `${verb} ${found.join(', ')}`);
-  if (size) told.push(valueInWords('adv', valueOf(octets.slice(at, at + size), near)));
+  if (!(at + size <= octets.length)) return null;
+  const found = {withdrawn: prefixesOf(octets.slice(21, 21 + gone)), announced: prefixesOf(octets.slice(at + size)), said: octets.slice(at, at + size)};
+  for (const [kind, value] of eachAttribute(found.said)) {
+    if (kind === 14 && isSecond(value)) found.announced.push(...prefixesOf(value.slice(5 + value[3]), 16));
+    if (kind === 15 && isSecond(value)) found.withdrawn.push(...prefixesOf(value.slice(3), 16));
+  }
+  return found;
+}
+
+/** What stands in front of the names of the network that an UPDATE is of: each is of one. */
+function tagOfUpdate(hex) {
+  const found = updateOf(hex);
+  return found && found.withdrawn.concat(found.announced).some(prefix => prefix.includes(':')) ? '6.' : '';
+}
+
+/** What an UPDATE withdraws and announces, and with which attributes. */
+function updateInWords(hex, near) {
+  const found = updateOf(hex);
+  if (!found) return `${hex.length / 2} octets`;
+  const told = [['withdraws', found.withdrawn], ['announces', found.announced]]
+    .filter(([, prefixes]) => prefixes.length).map(([verb, prefixes]) => `${verb} ${prefixes.join(', ')}`);
+  const value = valueOf(found.said, near);
+  if (value) told.push(valueInWords('adv', value));
   return told.join('; ') || 'nothing';
 }
 

@@ -11,6 +11,7 @@ import explained
 from bgp import namespaces, program, session
 import router
 from compare import Difference
+from hunting.routes import SHARED_SECOND
 from run import Run
 
 LENGTH, INTERFACES, ADDRESSES = 24, ('eth0', 'eth1', 'eth2'), tuple('192.0.2.%d' % last for last in range(1, 9))
@@ -89,7 +90,7 @@ class Bed:
         self.router_class, self.name, self.words = router_class, name, words
         self.names = ['%s-%s' % (name, part) for part in ('router', 'peers')]
         self.folder = self.router = None
-        self.is_open = False
+        self.is_open = self.is_attached = False
 
     # ---- the place
 
@@ -119,10 +120,13 @@ class Bed:
             namespaces.delete(name)
         if self.folder:
             shutil.rmtree(self.folder, ignore_errors=True)
-        self.folder, self.is_open = None, False
+        self.folder, self.is_open, self.is_attached = None, False, False
 
     def lend(self, wanted):
         """The daemon, with what a file wants of it: the one that is there, else a new one."""
+        if wanted.second and not self.is_attached:
+            namespaces.attach(self.names[0], INTERFACES[0], wanted.second.address, SHARED_SECOND + '/64')
+            self.is_attached = True
         if self.router:
             self.router.renew(wanted)
         else:

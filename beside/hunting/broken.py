@@ -1,5 +1,6 @@
 """Messages with one fault, as docs/BGP.md names them ("Faults"): made of a sound UPDATE."""
 from bgp import wire
+from faults import OF_THE_SECOND
 from hunting import parts
 
 # attributes with a fault of flags, length or value, by what the fault is
@@ -12,18 +13,25 @@ FAULTY = (
     (0xc0, wire.ATOMIC_AGGREGATE, b''), (0xc0, wire.AGGREGATOR, bytes(5)), (0x40, wire.AGGREGATOR, bytes(6)),
 )
 REFLECTED = ((0x80, wire.ORIGINATOR_ID, bytes(3)), (0x80, wire.CLUSTER_LIST, bytes(3)), (0x80, wire.CLUSTER_LIST, b''))
+HOP = bytes.fromhex('3fff0000006000000000000000000060')
+# of type 14 the flags, the length of the next hop, the next hop, a prefix that is too long, or cut short, and too few octets; so of type 15
+OF_IPV6 = (
+    (0xc0, wire.MP_REACH, b'\0\2\1\x10' + HOP + b'\0\x20\x20\1\r\xb8'), (0x80, wire.MP_REACH, b'\0\2\1\4' + HOP[:4] + b'\0\x20\x20\1\r\xb8'),
+    (0x80, wire.MP_REACH, b'\0\2\1\x10' + b'\xff\2' + HOP[2:] + b'\0'), (0x80, wire.MP_REACH, b'\0\2\1\x10' + HOP + b'\0\x81' + bytes(17)),
+    (0x80, wire.MP_REACH, b'\0\2\1\x10' + HOP + b'\0\x20\x20\1'), (0x80, wire.MP_REACH, b'\0\2'), (0x40, wire.MP_UNREACH, b'\0\2\1'),
+    (0x80, wire.MP_UNREACH, b'\0\2\1\x81' + bytes(17)), (0x80, wire.MP_UNREACH, b'\0\2\1\x20\x20'), (0x80, wire.MP_UNREACH, b''))
 UNKNOWN = (0x40, 98, b'\0')
 READ = set(range(1, 8)) | {98, 99, 100, 200}  # types that a changed octet may make: daemons know others that the program doesn't
 
 
-def faulty(random, sound, reflects):
+def faulty(random, sound, reflects, second=False):
     """A sound UPDATE with one fault put into it, as octets."""
     made = random.choice((attribute, attribute, attribute, twice, missing, unknown, run_out, prefix, lengths))
-    return made(random, sound, reflects)
+    return made(random, sound, FAULTY + REFLECTED * reflects + OF_IPV6 * second)
 
 
-def attribute(random, sound, reflects):
-    one = wire.Attribute(*random.choice(FAULTY + REFLECTED * reflects))
+def attribute(random, sound, faults):
+    one = wire.Attribute(*random.choice(faults))
     kept = [other for other in sound.attributes if other.kind != one.kind]
     return parts.written(sound._replace(attributes=sorted(kept + [one], key=lambda other: other.kind)))
 
@@ -60,17 +68,17 @@ def lengths(random, sound, _):
     return octets[:19] + random.choice((b'\xff\xff', b'\1\0')) + octets[21:]
 
 
-def changed(random, sound):
+def changed(random, sound, second=False):
     """A sound UPDATE with one bit changed behind its header; none of the types that only the daemons know."""
     octets = parts.written(sound)
     while True:
         at = random.randrange(19, len(octets))
         found = octets[:at] + bytes([octets[at] ^ 1 << random.randrange(8)]) + octets[at + 1:]
-        if is_known(found):
+        if is_known(found, READ | set(OF_THE_SECOND) if second else READ):
             return found
 
 
-def is_known(octets):
+def is_known(octets, read):
     """Whether no attribute is of a type that the daemons know, and the program doesn't."""
     try:
         said = wire.fields(octets[19:])[1]
@@ -78,7 +86,7 @@ def is_known(octets):
         return True
     at = 0
     while at + 2 < len(said):
-        if said[at + 1] not in READ:
+        if said[at + 1] not in read:
             return False
         wide = 2 if said[at] & 0x10 else 1
         at += 2 + wide + int.from_bytes(said[at + 2:at + 2 + wide], 'big')

@@ -3,7 +3,7 @@ import random
 
 from bgp import eventfile, wire
 from hunting import broken, parts, topics
-from hunting.routes import FAR, NEIGHBOURS, WIDE, Routes
+from hunting.routes import FAR, LOCAL_SECOND, NEIGHBOURS, SHARED_SECOND, WIDE, Routes
 
 LOCAL = 'local 65000 192.0.2.254 192.0.2.254'
 SHARED = 'route add connected 192.0.2.0/24 direct eth0 0'
@@ -13,6 +13,11 @@ APART = ('172.16.0.0/16', '172.16.1.0/24', '172.17.0.0/16')  # each holds one of
 METRICS = (0, 1, 5, 10, 20)
 ATTACHED = ('172.16.0.0/16', '172.16.1.0/24', '172.17.0.0/16')
 OWN = ('10.1.0.0/16', '10.2.0.0/16', '10.9.0.0/16', '10.1.1.0/24')
+# what stands for these in files of both families
+IN_THE_SECOND = {
+    '172.16.0.0/16': '3fff:a::/32', '172.16.0.0/15': '3fff:a::/31', '172.16.1.0/24': '3fff:a:1::/48', '172.16.1.9/32': '3fff:a:1::9/128',
+    '172.17.0.0/16': '3fff:b::/32', '0.0.0.0/0': '::/0', '192.0.2.60/32': '3fff:0:60::60/128', '192.0.2.128/25': '3fff:0:60::200/120',
+    '10.1.0.0/16': '2001:db8:1::/48', '10.2.0.0/16': '2001:db8:2::/48', '10.9.0.0/16': '2001:db8:9::/48', '10.1.1.0/24': '2001:db8:1:1::/64'}
 REFRESHES = (bytes([0, 1, 0, 1]),) * 4 + (bytes([0, 1, 7, 1]), bytes([0, 2, 0, 1]), bytes([0, 1, 0, 2]))
 ANY, MOST = 4, 40  # how often more often `any` stands in a rule than another condition; how often a line is drawn anew
 
@@ -23,9 +28,9 @@ class Maker:
     def __init__(self, seed, router_class):
         self.random, self.router_class = random.Random('%s %s' % (router_class.name, seed)), router_class
         self.topics, self.steps = topics.drawn(self.random, router_class)
-        self.wide, self.reflects = ('four octets' in self.topics), ('reflection' in self.topics)
+        self.wide, self.reflects, self.both_families = (name in self.topics for name in ('four octets', 'reflection', 'both families'))
         self.local = eventfile.Peer(0, 65000, '192.0.2.254', '192.0.2.254', False)
-        self.routes = Routes(self.random, self.local, self.wide, self.reflects, 'next hops' in self.topics)
+        self.routes = Routes(self.random, self.local, self.wide, self.reflects, 'next hops' in self.topics, self.both_families)
         self.peers, self.up = {}, set()
         self.ways = {}  # by protocol and prefix: how it is reached, without the metric, and the metric
         self.said, self.announced = {}, {}  # by peer: its messages in hex, and the prefixes in them
@@ -39,9 +44,11 @@ class Maker:
         words = ['as4'] * self.wide + ['revised'] * ('revised' in self.topics) + ['reflect'] * self.reflects
         yield from words
         yield LOCAL
+        yield from ['local6 ' + LOCAL_SECOND] * self.both_families
         self.draw_peers()
         yield from (self.declared(peer) for peer in self.peers.values())
         yield SHARED
+        yield from ['route add connected %s/64 direct eth0 0' % SHARED_SECOND] * self.both_families
         if 'next hops' in self.topics:
             if self.chance(.8):
                 yield from self.apart()
@@ -96,7 +103,7 @@ class Maker:
     def update(self, peer, made):
         text = parts.written(made).hex()
         self.said.setdefault(peer.number, []).append(text)
-        self.announced.setdefault(peer.number, set()).update(wire.prefix(one) for one in made.announced)
+        self.announced.setdefault(peer.number, set()).update(parts.texts(made)[1])
         yield 'bgp %d %s' % (peer.number, text)
 
     def sound(self, made):
@@ -158,13 +165,14 @@ class Maker:
         peer = self.some_peer()
         if peer:
             sound = self.routes.announcement(peer, announced=self.told(peer))
-            yield from self.ends(peer, broken.faulty(self.random, sound, self.reflects))
+            yield from self.ends(peer, broken.faulty(self.random, sound, self.reflects, self.both_families))
 
     def octet(self):
         peer = self.some_peer()
         if peer:
             gone = self.routes.prefixes(2) if self.chance(.3) else ()
-            yield from self.ends(peer, broken.changed(self.random, self.routes.announcement(peer, withdrawn=gone, announced=self.told(peer))))
+            sound = self.routes.announcement(peer, withdrawn=gone, announced=self.told(peer))
+            yield from self.ends(peer, broken.changed(self.random, sound, self.both_families))
 
     def other(self):
         peer = self.some_peer()
@@ -219,19 +227,21 @@ class Maker:
     def filtered(self, way):
         peer = self.some_peer(up=False)
         for _ in range(self.random.choice((1, 1, 1, 2))):
-            rules = [self.rule(way, peer) for _ in range(self.random.choice((0, 1, 1, 2, 3)))]
-            yield ' '.join(['filter', way, str(peer.number)] + rules)
+            word = eventfile.FILTERS[self.is_second()]
+            rules = [self.rule(way, peer, word == 'filter6') for _ in range(self.random.choice((0, 1, 1, 2, 3)))]
+            yield ' '.join([word, way, str(peer.number)] + rules)
 
-    def rule(self, way, peer):
+    def rule(self, way, peer, is_second):
         actions = [self.action(way, peer) for _ in range(self.random.choice((0, 1, 1, 2)))]
         verdict = self.random.choice(('accept', 'accept', 'reject', 'reject', 'next'))
-        return ' '.join([self.condition()] + sorted({one.split()[0]: one for one in actions}.values()) + [verdict])
+        return ' '.join([self.condition(is_second)] + sorted({one.split()[0]: one for one in actions}.values()) + [verdict])
 
-    def condition(self):
-        prefix, least = self.routes.prefix(), self.random.choice((0, 8, 16, 24))
+    def condition(self, is_second):
+        lengths = (0, 32, 48, 64, 128) if is_second else (0, 8, 16, 24, 32)
+        prefix, least = self.routes.prefix(is_second), self.random.choice(lengths[:4])
         return self.random.choice(('any',) * ANY + (
             'path %d' % self.random.choice(self.routes.numbers() + NEIGHBOURS), 'origin %d' % self.random.randint(0, 2),
-            '%s ge %d le %d' % (prefix, least, self.random.choice((least, 16, 24, 32)))))
+            '%s ge %d le %d' % (prefix, least, self.random.choice((least,) + lengths[2:]))))
 
     def action(self, way, peer):
         said = ['pref %d' % self.random.choice((50, 100, 200)), 'med %d' % self.random.choice((0, 5, 20))]
@@ -246,23 +256,26 @@ class Maker:
         if self.ways and self.chance(.6):
             yield self.changed(*self.random.choice(sorted(self.ways)))
         elif self.chance(.08):
-            protocol = self.random.choice(eventfile.PROTOCOLS[1:])
-            self.ways = {way: reached for way, reached in self.ways.items() if way[0] != protocol}
-            yield 'lost %s' % protocol
+            protocol, family = self.random.choice(eventfile.PROTOCOLS[1:]), wire.FAMILIES[self.is_second()]
+            self.ways = {way: reached for way, reached in self.ways.items() if (way[0], wire.family(way[1])) != (protocol, family)}
+            yield 'lost%s %s' % ('6' if family == wire.IPV6 else '', protocol)
         elif self.chance(.15):
-            yield self.way('connected', self.random.choice(ATTACHED), 'direct %s' % self.random.choice(INTERFACES[1:]), 0)
+            yield self.way('connected', self.of_either(self.random.choice(ATTACHED)), 'direct %s' % self.random.choice(INTERFACES[1:]), 0)
         else:
-            yield self.way(self.random.choice(eventfile.PROTOCOLS[1:]), self.random.choice(HELD), *self.reached())
+            yield self.way(self.random.choice(eventfile.PROTOCOLS[1:]), self.of_either(self.random.choice(HELD)), *self.reached())
 
     def apart(self):
         """Routes that hold one next hop each, of different metrics."""
         for prefix, metric in zip(APART, self.random.sample(METRICS, len(APART))):
             yield self.way(self.random.choice(eventfile.PROTOCOLS[1:]), prefix, self.over(), metric)
+        for prefix, metric in zip(APART, self.random.sample(METRICS, len(APART)) if self.both_families else ()):
+            yield self.way(self.random.choice(eventfile.PROTOCOLS[1:]), IN_THE_SECOND[prefix], self.over(), metric)
 
     def metric(self):
         """The metric of a route changes, and nothing else."""
-        ways = sorted(way for way in self.ways if way[0] != 'connected' and way[1] not in OWN)
-        near = [way for way in ways if way[1] in APART]
+        own, apart = (names + tuple(IN_THE_SECOND[name] for name in names) for names in (OWN, APART))
+        ways = sorted(way for way in self.ways if way[0] != 'connected' and way[1] not in own)
+        near = [way for way in ways if way[1] in apart]
         if ways:
             way = self.random.choice(near if near and self.chance(.7) else ways)
             reached, metric = self.ways[way]
@@ -277,7 +290,17 @@ class Maker:
 
     def way(self, protocol, prefix, reached, metric):
         self.ways[protocol, prefix] = reached, metric
+        if wire.family(prefix) == wire.IPV6:
+            reached = reached.replace('192.0.2.', SHARED_SECOND)
         return 'route add %s %s %s %d' % (protocol, prefix, reached, metric)
+
+    def is_second(self):
+        """Whether what comes next is of IPv6."""
+        return self.both_families and self.chance(.5)
+
+    def of_either(self, prefix):
+        """A prefix, or what stands for it in the second network."""
+        return IN_THE_SECOND[prefix] if self.is_second() else prefix
 
     def reached(self):
         return self.over(), self.random.choice(METRICS)
@@ -287,7 +310,7 @@ class Maker:
 
     def own(self):
         """A route that may be redistributed comes or goes."""
-        protocol, prefix = self.random.choice(eventfile.PROTOCOLS[1:]), self.random.choice(OWN)
+        protocol, prefix = self.random.choice(eventfile.PROTOCOLS[1:]), self.of_either(self.random.choice(OWN))
         if (protocol, prefix) in self.ways and self.chance(.6):
             self.ways.pop((protocol, prefix), None)
             yield 'route del %s %s' % (protocol, prefix)
@@ -295,7 +318,8 @@ class Maker:
             yield self.way(protocol, prefix, 'via 192.0.2.99 eth0', self.random.choice((1, 5)))
 
     def redistribute(self):
-        yield 'redist %s %s' % (self.random.choice(eventfile.PROTOCOLS[1:]), self.random.choice(('on', 'on', 'off')))
+        word = 'redist6' if self.is_second() else 'redist'
+        yield '%s %s %s' % (word, self.random.choice(eventfile.PROTOCOLS[1:]), self.random.choice(('on', 'on', 'off')))
 
 
 def made(seed, router_class):

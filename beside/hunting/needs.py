@@ -2,11 +2,12 @@
 import re
 
 from bgp import eventfile, wire
-from faults import faults
+from faults import OF_THE_SECOND, faults, second
+from hunting.routes import SHARED_SECOND
 
 NAMES = {wire.ORIGIN: 'ORIGIN', wire.MED: 'MULTI_EXIT_DISC', wire.LOCAL_PREF: 'LOCAL_PREF', wire.ATOMIC_AGGREGATE: 'ATOMIC_AGGREGATE',
          wire.AGGREGATOR: 'AGGREGATOR', wire.ORIGINATOR_ID: 'ORIGINATOR_ID', wire.CLUSTER_LIST: 'CLUSTER_LIST'}
-SHARED = ('route', 'add', 'connected', '192.0.2.0/24')
+SHARED = [('route', 'add', 'connected', prefix) for prefix in ('192.0.2.0/24', SHARED_SECOND + '/64')]
 KINDS = {wire.OPEN: 'OPEN', wire.NOTIFICATION: 'NOTIFICATION', wire.KEEPALIVE: 'KEEPALIVE', wire.ROUTE_REFRESH: 'ROUTE-REFRESH'}
 
 
@@ -32,6 +33,9 @@ class Needs:
     def of_reflect(self, _):
         yield 'reflect'
 
+    def of_local6(self, _):
+        yield 'both families'
+
     def of_peer(self, words):
         yield from ['client'] if words[-1] == 'client' else []
 
@@ -39,13 +43,15 @@ class Needs:
         yield 'filter %s' % words[1]
 
     def of_route(self, words):
-        yield from ['interior routes'] if tuple(words[:4]) != SHARED else []
+        yield from ['interior routes'] if tuple(words[:4]) not in SHARED else []
 
     def of_lost(self, _):
         yield 'interior routes'
 
     def of_redist(self, _):
         yield 'redistribution'
+
+    of_filter6, of_lost6, of_redist6 = of_filter, of_lost, of_redist
 
     def of_down(self, _):
         yield 'a lost session'
@@ -63,14 +69,18 @@ class Needs:
     def of_update(self, octets, peer):
         gone, said, came = wire.fields(octets[19:])
         width = 4 if self.wanted.wide else 2
-        prefixes = [wire.prefix(one) for one in wire.split(came)]
-        if gone:
-            yield 'a withdrawal beside an announcement' if came else 'a withdrawal'
-        if 'revised' in self.found or faults(said, bool(came), width):
-            yield from ('fault: %s' % one for one in faults(said, bool(came), width))
-        if faults(said, bool(came), width):
+        prefixes, withdrawn = [wire.prefix(one) for one in wire.split(came)], [wire.prefix(one) for one in wire.split(gone)]
+        if self.wanted.second:
+            withdrawn, prefixes = (own + more for own, more in zip((withdrawn, prefixes), second(said)))
+        if withdrawn:
+            yield 'a withdrawal beside an announcement' if prefixes else 'a withdrawal'
+        found = faults(said, bool(came), width, self.wanted.second is not None)
+        yield from ('fault: %s' % one for one in found)
+        if found:
             return
         for one in wire.attributes(said):
+            if self.wanted.second and one.kind in OF_THE_SECOND:
+                continue
             if one.kind in NAMES and (one.kind != wire.ORIGIN or one.value != b'\0'):
                 yield NAMES[one.kind]
             elif one.kind > wire.AGGREGATOR and one.kind not in NAMES:
@@ -91,6 +101,8 @@ class Needs:
                 yield "another peer's address as NEXT_HOP"
         if len(prefixes) > 1:
             yield 'several prefixes'
+        if len({wire.family(one) for one in prefixes}) > 1:
+            yield 'prefixes of both families'
 
 
 def needs(lines):

@@ -2,6 +2,7 @@
 import collections
 
 from bgp import wire
+import faults
 
 Parts = collections.namedtuple('Parts', 'withdrawn attributes announced')  # prefixes as octets, length in front
 
@@ -12,6 +13,12 @@ def read(octets):
         raise ValueError('no UPDATE')
     gone, said, came = wire.fields(octets[19:])
     return Parts(list(wire.split(gone)), list(wire.attributes(said)), list(wire.split(came)))
+
+
+def texts(parts):
+    """The prefixes of both families that an UPDATE withdraws and announces."""
+    gone, came = faults.second(b''.join(map(wire.attribute, parts.attributes)))
+    return [wire.prefix(one) for one in parts.withdrawn] + gone, [wire.prefix(one) for one in parts.announced] + came
 
 
 def written(parts):

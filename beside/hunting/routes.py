@@ -1,8 +1,15 @@
 """Announcements at random: few prefixes, and attributes that are alike up to some step of the decision."""
+import ipaddress
+
 from bgp import wire
 from hunting import parts
 
 PREFIXES = ('10.1.0.0/16', '10.1.0.0/16', '10.1.0.0/16', '10.2.0.0/16', '10.1.1.0/24', '10.1.128.0/17', '10.0.0.0/8', '10.1.1.1/32', '0.0.0.0/0')
+SECOND = ('2001:db8:1::/48', '2001:db8:1::/48', '2001:db8:1::/48', '2001:db8:2::/48', '2001:db8:1:1::/64', '2001:db8:1:8000::/49', '2001:db8::/32',
+          '2001:db8:1:1::1/128', '::/0')
+# where next hops of IPv6 are, beside those of IPv4: on the shared network, where a peer has the last number of its address, and elsewhere
+SHARED_SECOND, LOCAL_SECOND = '3fff:0:60::', '3fff:0:60::254'
+PLACES = {'172.16.0.9': '3fff:a::9', '172.16.1.9': '3fff:a:1::9', '172.17.0.9': '3fff:b::9'}
 NEAR = ('192.0.2.60', '192.0.2.61', '192.0.2.200')  # next hops on the shared network that are nobody's
 FAR = ('172.16.0.9', '172.16.1.9', '172.17.0.9')  # next hops that interior routes resolve
 NEIGHBOURS = (65001, 65002)
@@ -15,8 +22,8 @@ UNKNOWN = (99, 100, 200)  # types that no standard has
 class Routes:
     """What the routes of one file are like. `random` is the file's."""
 
-    def __init__(self, random, local, wide, reflects, far):
-        self.random, self.local, self.wide, self.reflects, self.far = random, local, wide, reflects, far
+    def __init__(self, random, local, wide, reflects, far, both):
+        self.random, self.local, self.wide, self.reflects, self.far, self.both = random, local, wide, reflects, far, both
         self.width = 4 if wide else 2
         # one value in the whole file for those before some step of the decision, and for some behind it
         depth = len(CHOICES) - 1 if far and self.chance(.7) else random.randrange(len(CHOICES) + 1)
@@ -31,8 +38,11 @@ class Routes:
         """A value that is the same in the whole file, or drawn anew."""
         return self.random.choice(CHOICES[name]) if self.fixed[name] is None else self.fixed[name]
 
-    def prefix(self):
-        return self.random.choice(PREFIXES)
+    def prefix(self, is_second=None):
+        """A prefix, of IPv6 or not, or of either."""
+        if is_second is None:
+            is_second = self.both and self.chance(.5)
+        return self.random.choice(SECOND if is_second else PREFIXES)
 
     def prefixes(self, most):
         return sorted({self.prefix() for _ in range(self.random.randint(1, most))})
@@ -105,15 +115,17 @@ class Routes:
 
     def tied(self, peer, prefix, hop):
         """An announcement by a next hop."""
-        made = self.announcement(peer, announced=[prefix])
-        octets = bytes(int(octet) for octet in hop.split('.'))
-        return made._replace(attributes=[one._replace(value=octets) if one.kind == wire.NEXT_HOP else one for one in made.attributes])
+        return self.announcement(peer, announced=[prefix], hop=hop)
 
-    def announcement(self, peer, most=1, withdrawn=(), announced=()):
+    def announcement(self, peer, most=1, withdrawn=(), announced=(), hop=None):
         """An UPDATE that announces some prefixes, drawn unless they are given, and withdraws others."""
-        came = [self.octets(prefix) for prefix in announced or self.prefixes(most)]
-        gone = [one for one in (wire.prefix_octets(prefix) for prefix in sorted(set(withdrawn))) if one not in came]
-        return parts.Parts(gone, self.attributes(peer), came)
+        came = [[self.octets(one) for one in found] for found in split(announced or self.prefixes(most))]
+        gone = [[wire.prefix_octets(one) for one in found] for found in split(sorted(set(withdrawn)))]
+        said = self.attributes(peer)
+        if hop:
+            said = [one._replace(value=bytes(int(octet) for octet in hop.split('.'))) if one.kind == wire.NEXT_HOP else one for one in said]
+        said = with_second(said, *([one for one in gone[1] if one not in came[1]], came[1]), bool(came[0]))
+        return parts.Parts([one for one in gone[0] if one not in came[0]], said, came[0])
 
     def octets(self, prefix):
         """A prefix; now and then with bits beyond its length."""
@@ -121,4 +133,20 @@ class Routes:
         return said[:-1] + bytes([said[-1] | 1]) if said[0] % 8 and self.chance(self.odd) else said
 
     def withdrawal(self, prefixes):
-        return parts.Parts([wire.prefix_octets(prefix) for prefix in prefixes], [], [])
+        gone, gone_too = ([wire.prefix_octets(one) for one in found] for found in split(prefixes))
+        return parts.Parts(gone, [wire.unreaching(gone_too)] if gone_too else [], [])
+
+
+def split(prefixes):
+    """The prefixes of IPv4, and those of IPv6."""
+    return ([one for one in prefixes if wire.family(one) == family] for family in wire.FAMILIES)
+
+
+def with_second(said, gone, came, has_first):
+    """Attributes, with the routes of IPv6 that they withdraw and announce. NEXT_HOP is for those of IPv4, and says where the other next hop is."""
+    if not gone and not came:
+        return said
+    place = next(wire.address(one.value) for one in said if one.kind == wire.NEXT_HOP)
+    hop = ipaddress.ip_address(PLACES.get(place) or SHARED_SECOND + place.rpartition('.')[2]).packed
+    found = [one for one in said if has_first or one.kind != wire.NEXT_HOP]
+    return found + [wire.unreaching(gone)] * bool(gone) + [wire.reaching(hop, came)] * bool(came)

@@ -5,14 +5,17 @@
 import re
 
 from bgp import eventfile, wire
+from faults import OF_THE_SECOND
 from hunting import parts
+from hunting.routes import SHARED_SECOND
 
-STAYS = re.compile('local |route add connected 192.0.2.0/24 ')  # without them there is no file, and no NEXT_HOP is resolved
+# without them there is no file, and no NEXT_HOP is resolved; the second network goes as a whole
+STAYS = re.compile('local6? |route add connected (192.0.2.0/24|%s/64) ' % SHARED_SECOND)
 
 
 def smaller(lines, shows):
     """The smallest file that was found, with no line that can go alone."""
-    for way in (without_peers, without_idles):
+    for way in (without_second, without_peers, without_idles):
         lines = way(lines, shows)
     while True:
         before = lines
@@ -28,6 +31,25 @@ def cut(lines, number):
     return [line for line in lines[:number] if line.split() and not line.startswith('#')]
 
 
+def without_second(lines, shows):
+    """Without the second network, where there is one, and what messages say of it."""
+    left = [first_alone(line) for line in lines if not re.match('(local6|filter6|lost6|redist6) |route .*:', line)]
+    return left if len(left) < len(lines) and shows(left) else lines
+
+
+def first_alone(line):
+    """A message without types 14 and 15, where it can be read."""
+    words = line.split()
+    try:
+        found = parts.read(bytes.fromhex(words[2])) if words[0] == 'bgp' else None
+    except ValueError:
+        found = None
+    if found is None:
+        return line
+    kept = [one for one in found.attributes if one.kind not in OF_THE_SECOND]
+    return ' '.join(words[:2] + [parts.written(found._replace(attributes=kept)).hex()]) if len(kept) < len(found.attributes) else line
+
+
 def without_peers(lines, shows):
     """Without all lines of a peer, peer by peer."""
     for number in sorted({line.split()[1] for line in lines if line.startswith('peer ')}, reverse=True):
@@ -39,7 +61,8 @@ def without_peers(lines, shows):
 
 def is_of(words, number):
     """Whether an event is of a peer."""
-    return words[2 if words[0] == 'filter' else 1:][:1] == [number] and words[0] in ('peer', 'up', 'down', 'bgp', 'filter')
+    is_filter = words[0] in eventfile.FILTERS
+    return words[2 if is_filter else 1:][:1] == [number] and (is_filter or words[0] in ('peer', 'up', 'down', 'bgp'))
 
 
 def without_idles(lines, shows):
@@ -93,7 +116,7 @@ def by_content(lines, shows):
 def less(line, width):
     """Lines that say a little less than this one."""
     words = line.split()
-    if words[0] == 'filter':
+    if words[0] in eventfile.FILTERS:
         yield from (' '.join(words[:3] + rest) for rest in less_rules(words[3:]))
     elif words[0] == 'bgp':
         try:
@@ -145,8 +168,11 @@ def less_update(one, width):
 
 
 def less_value(attribute, width):
-    """Shorter values: a path without one of its segments or numbers, a list without one of its entries, an unrecognized one without any octet."""
-    if attribute.kind == wire.AS_PATH:
+    """Shorter values: a path without one of its segments or numbers, a list without one of its entries, types 14 and 15 without one of their
+    prefixes, an unrecognized one without any octet."""
+    if attribute.kind in OF_THE_SECOND:
+        yield from less_prefixes(attribute)
+    elif attribute.kind == wire.AS_PATH:
         try:
             found = wire.segments(attribute.value, width)
         except ValueError:
@@ -159,6 +185,17 @@ def less_value(attribute, width):
         yield b''
     elif attribute.kind == wire.ORIGIN and attribute.value != b'\0' and len(attribute.value) == 1:
         yield b'\0'
+
+
+def less_prefixes(attribute):
+    """Values of types 14 and 15 with a prefix less, of those of which they have several."""
+    try:
+        front = len(attribute.value) - len(wire.reach(attribute.value)[2]) if attribute.kind == wire.MP_REACH else 3
+        found = list(wire.split(attribute.value[front:], wire.IPV6))
+    except ValueError:
+        return
+    if len(found) > 1:
+        yield from (attribute.value[:front] + b''.join(left) for left in without(found))
 
 
 def less_path(found):

@@ -57,6 +57,11 @@ TOPICS = {
         3, {'fault': 5, 'octet': 3, 'back': 1},
         'the same with `revised`',
         'the same'),
+    'both families': Topic(
+        4, {'announce': 2, 'spread': 2, 'withdraw': 1, 'both': 1, 'refresh': .5},
+        '`local6`: half of the routes, rules, interior routes and refreshes are of IPv6, beside any other topic; UPDATEs of both families, '
+        'faults of types 14 and 15',
+        'next hops of 32 octets, a NEXT_HOP beside type 14'),
 }
 
 
@@ -68,7 +73,7 @@ def possible(router_class):
 def drawn(random, router_class):
     """The topics of one file, and its steps with their weights."""
     names = possible(router_class)
-    chosen = set(random.choices(names, [TOPICS[name].weight for name in names], k=random.choice((1, 2, 2, 3))))
+    chosen = set(random.choices(names, [TOPICS[name].weight for name in names], k=random.choice((1, 2, 2, 3)))) | set(router_class.topics)
     steps = collections.Counter(ALWAYS)
     for name in sorted(chosen):
         steps.update(TOPICS[name].steps)

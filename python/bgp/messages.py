@@ -4,9 +4,9 @@
 import collections
 
 from bgp import wire
-from bgp.wire import AS_SEQUENCE, AS_SET, IPV4_UNICAST, Attribute, path_octets, segments
+from bgp.wire import AS_SEQUENCE, AS_SET, IPV4_UNICAST, MP_REACH, MP_UNREACH, Attribute, path_octets, segments
 
-MP_REACH, MP_UNREACH, AS4_PATH, AS4_AGGREGATOR = 14, 15, 17, 18
+AS4_PATH, AS4_AGGREGATOR = 17, 18
 CONFEDERATION = (3, 4)  # types of segments (RFC 5065, section 3)
 OF_A_CONFEDERATION = tuple(bytes([kind]) for kind in CONFEDERATION)  # how such a path begins
 # the flags of attributes whose standard leaves no choice but the partial bit
@@ -102,10 +102,8 @@ def outside(said):
 
 def reached(value):
     """Next hop and prefixes of an attribute of type 14, and its family. ValueError where they don't fit."""
-    size = wire.part(value, 3, 1)[0]
-    behind = 4 + size
-    wire.part(value, behind, 1)
-    return value[:3], first_hop(wire.part(value, 4, size)), value[behind + 1:]
+    family, hop, field = wire.reach(value)
+    return family, first_hop(hop), field
 
 
 def first_hop(octets):

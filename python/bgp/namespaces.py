@@ -29,6 +29,15 @@ def link(name, interface, other, other_interface):
     ip('-n %s link set %s up' % (other, other_interface))
 
 
+def attach(name, interface, address, network):
+    """An address of IPv6 on an interface of a namespace, in a network that it is attached to. It has no link-local address beside it."""
+    for setting in ('addr_gen_mode=1', 'accept_dad=0', 'accept_ra=0'):
+        ip('netns exec %s sysctl -qw net.ipv6.conf.%s.%s' % (name, interface, setting))
+    for scope in ip('-n %s -o -6 addr show dev %s scope link' % (name, interface)).split('\n')[:-1]:
+        ip('-n %s addr del %s dev %s' % (name, scope.split()[3], interface))
+    ip('-n %s addr add %s/%s dev %s nodad' % (name, address, network.partition('/')[2], interface))
+
+
 def delete(name):
     ip('netns del ' + name, check=False)
 

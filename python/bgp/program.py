@@ -14,7 +14,8 @@ MARK = 'settled 255.255.255.255/32'
 
 # `sent` has a table for each peer that is up, `best` the rows of that link, `candidates` those of all `res.K`, `unresolved` the prefixes of
 # routes that no interior route resolves, `notes` the NOTIFICATIONs since the `idle` before: peer and octets; `again`, for each peer that
-# asked for all again since then and is up, what it was sent since it did
+# asked for all again since then in its present session, what it was sent since it did, of the families that it asked for. The rows of both
+# networks stand in one table
 Moment = collections.namedtuple('Moment', 'sent best candidates unresolved notes again')
 Step = collections.namedtuple('Step', 'number words ignored moment')  # `moment` behind an `idle` alone
 Best = collections.namedtuple('Best', 'peer preference med path origin hop')
@@ -74,18 +75,22 @@ def steps(program, path, before=None):
     if status:
         raise Refused(refusal(lines, numbers) or 'the program ended with status %d' % status)
     lines, told, tables, notes, again = iter(lines), [], {}, [], {}
+    families = wire.FAMILIES if any(words[0] == 'local6' for _, words, _ in events) else wire.FAMILIES[:1]
     for number, words, is_marked in events:
         block = until_the_mark(lines) if is_marked else []
-        if words[0] == 'bgp' and 'ignored' not in block and wire.asks_again(bytes.fromhex(words[2])):
-            again[int(words[1])] = {}
+        asked = wire.asks_again(bytes.fromhex(words[2])) if words[0] == 'bgp' and 'ignored' not in block else None
+        if asked in families:
+            again.setdefault(int(words[1]), {})[asked] = {}
         for line in block:
             said = line.split(' ')
             if said[0] == 'note':
                 notes.append((int(said[1]), said[2]))
-            elif said[0] == 'out' and int(said[1]) in again:
-                wire.take(again[int(said[1])], bytes.fromhex(said[2])[19:])
+            elif said[0] == 'out':
+                wire.take_each(again.get(int(said[1]), {}), bytes.fromhex(said[2])[19:])
             elif said[0] in ('b', 'i', 'e', '+', '=', '-'):
                 change(tables, said)
+                if said[0] == 'e' and said[1].startswith('adv.'):
+                    again.pop(int(said[1].split('.')[1]), None)  # who asked was another session
         moment = None
         if words[0] == 'idle':
             moment, notes, again = at(tables, notes, again, 4 if ['as4'] in (event[1] for event in events) else 2), [], {}
@@ -126,22 +131,26 @@ def change(tables, words):
 
 
 def at(tables, notes, again, width):
-    sent = {int(link.split('.')[1]): dict(rows) for link, rows in tables.items() if link.startswith('adv.')}
-    candidates = collections.defaultdict(list)
+    sent, best, candidates = collections.defaultdict(dict), {}, collections.defaultdict(list)
     for link, rows in tables.items():
-        if link.startswith('res.'):
+        name = link.removeprefix(wire.IPV6.tag).split('.')
+        if name[0] == 'adv':
+            sent[int(name[1])].update(rows)
+        elif name[0] == 'best':
+            best.update(rows)
+        elif name[0] == 'res':
             for prefix, value in rows.items():
                 candidates[prefix].append(value)
-    said = {peer: {prefix: wire.text(one, width) for prefix, one in rows.items()} for peer, rows in again.items() if peer in sent}
-    return Moment(sent, dict(tables['best']), candidates, unresolved(tables), notes, said)
+    said = {peer: wire.texts(wire.joined(rows), width) for peer, rows in again.items() if peer in sent}
+    return Moment(dict(sent), best, candidates, unresolved(tables), notes, said)
 
 
 def unresolved(tables):
     """The prefixes at which some peer's route has a next hop that isn't resolved."""
     found = set()
     for link, rows in tables.items():
-        if link.startswith('filt.'):
-            found |= set(rows) - set(tables['res' + link[len('filt'):]])
+        if 'filt.' in link:
+            found |= set(rows) - set(tables[link.replace('filt.', 'res.')])
     return found
 
 

@@ -1,7 +1,8 @@
-"""BGP messages in octets, read and written by RFC 4271, section 4, and RFC 6793 alone: nothing here knows the program.
+"""BGP messages in octets, read and written by RFC 4271, section 4, RFC 4760 and RFC 6793 alone: nothing here knows the program.
 
 What a route says is told as one word, in the form of docs/OUTPUT.md ("Values"), so that it compares with a row. `width` is
-the number of octets of an AS number: 2, or 4 where both speakers announced the capability 65.
+the number of octets of an AS number: 2, or 4 where both speakers announced the capability 65. Routes of both families stand in one
+table: the text of a prefix tells its family.
 """
 import collections
 import ipaddress
@@ -14,6 +15,7 @@ MOST = 4096  # octets of a message without RFC 8654
 AS_TRANS = 23456  # stands for a number of four octets (RFC 6793)
 ORIGIN, AS_PATH, NEXT_HOP, MED, LOCAL_PREF, ATOMIC_AGGREGATE, AGGREGATOR = range(1, 8)
 ORIGINATOR_ID, CLUSTER_LIST = 9, 10  # RFC 4456, section 8
+MP_REACH, MP_UNREACH = 14, 15  # RFC 4760, sections 3 and 4
 EXTENDED = 0x10  # the flag of a length of two octets
 AS_SET, AS_SEQUENCE = 1, 2
 IPV4_UNICAST, IPV6_UNICAST = b'\0\1\1', b'\0\2\1'  # AFI and SAFI
@@ -23,6 +25,9 @@ NAMES = {OPEN: 'OPEN', UPDATE: 'UPDATE', NOTIFICATION: 'NOTIFICATION', KEEPALIVE
 
 Attribute = collections.namedtuple('Attribute', 'flags kind value')
 Update = collections.namedtuple('Update', 'withdrawn attributes announced')
+# a family of unicast addresses: AFI and SAFI, how many octets an address has, and what stands in front of the names of its links
+Family = collections.namedtuple('Family', 'code size tag')
+IPV4, IPV6 = FAMILIES = Family(IPV4_UNICAST, 4, ''), Family(IPV6_UNICAST, 16, '6.')
 
 
 # ---- messages
@@ -46,7 +51,8 @@ def capability(code, value=b''):
     return bytes([2, 2 + len(value), code, len(value)]) + value
 
 
-OF_IPV4, OF_REFRESHES = capability(MULTIPROTOCOL, b'\0\1\0\1'), capability(REFRESHES)  # RFC 4760, RFC 2918
+OF_IPV4, OF_IPV6 = (capability(MULTIPROTOCOL, one.code[:2] + b'\0' + one.code[2:]) for one in FAMILIES)  # RFC 4760, section 8
+OF_REFRESHES = capability(REFRESHES)  # RFC 2918
 # asks for all routes of IPv4 unicast again (RFC 2918, section 3)
 REFRESH = message(ROUTE_REFRESH, b'\0\1\0\1')
 
@@ -57,21 +63,33 @@ def opening(asn, identifier, hold=0, wide=False, families=OF_IPV4):
     return message(OPEN, struct.pack('>BHH4sB', 4, short(asn), hold, socket.inet_aton(identifier), len(said)) + said)
 
 
-def capabilities(body):
-    """The capabilities of an OPEN (RFC 5492), by their codes."""
-    found, at = {}, 10
+def each_capability(body):
+    """Code and value of each capability of an OPEN (RFC 5492)."""
+    at = 10
     while at + 2 <= len(body):
         kind, value = body[at], body[at + 2:at + 2 + body[at + 1]]
         at += 2 + len(value)
         while kind == 2 and len(value) >= 2:
-            found[value[0]] = value[2:2 + value[1]]
+            yield value[0], value[2:2 + value[1]]
             value = value[2 + value[1]:]
-    return found
+
+
+def capabilities(body):
+    """The capabilities of an OPEN by their codes, of each the last one."""
+    return dict(each_capability(body))
+
+
+def families(body):
+    """The families that an OPEN says (RFC 4760, section 8); IPv4 alone, where it says none."""
+    said = [value[:2] + value[3:] for code, value in each_capability(body) if code == MULTIPROTOCOL and len(value) == 4]
+    return [one for one in FAMILIES if one.code in (said or [IPV4.code])]
 
 
 def asks_again(octets):
-    """Whether a message asks for all routes of IPv4 unicast again."""
-    return len(octets) == 23 and octets[18] == ROUTE_REFRESH and octets[19:21] + octets[22:] == IPV4_UNICAST
+    """The family of which a message asks for all routes again; None where it does so of neither."""
+    if len(octets) != 23 or octets[18] != ROUTE_REFRESH:
+        return None
+    return next((one for one in FAMILIES if octets[19:21] + octets[22:] == one.code), None)
 
 
 def told(kind, body):
@@ -94,7 +112,18 @@ def part(octets, at, length):
 
 
 def address(octets):
+    """The text of an address: its octets, or of IPv6 eight groups without leading zeros; a link-local one that stands behind it (RFC 2545,
+    section 3) follows a plus."""
+    if len(octets) == 2 * IPV6.size:
+        return '%s+%s' % (address(octets[:IPV6.size]), address(octets[IPV6.size:]))
+    if len(octets) == IPV6.size:
+        return ':'.join('%x' % group for group in struct.unpack('>8H', octets))
     return '.'.join(str(octet) for octet in octets)
+
+
+def family(text):
+    """The family of an address or a prefix."""
+    return IPV6 if ':' in text else IPV4
 
 
 def prefixes(octets, with_paths=False, most=32):
@@ -114,15 +143,16 @@ def prefixes(octets, with_paths=False, most=32):
         raise ValueError('a path identifier without a prefix')
 
 
-def split(octets):
+def split(octets, of=IPV4):
     """The octets of the prefixes of a field, in the same way."""
-    return (one for _, one in prefixes(octets))
+    return (one for _, one in prefixes(octets, most=8 * of.size))
 
 
-def prefix(octets):
+def prefix(octets, of=IPV4):
     """The text of a prefix; bits beyond its length are masked away."""
-    length, whole = octets[0], int.from_bytes(octets[1:] + bytes(5 - len(octets)), 'big')
-    return '%s/%d' % (address((whole >> 32 - length << 32 - length).to_bytes(4, 'big')), length)
+    length, whole = octets[0], int.from_bytes(octets[1:] + bytes(of.size + 1 - len(octets)), 'big')
+    free = 8 * of.size - length
+    return '%s/%d' % (address((whole >> free << free).to_bytes(of.size, 'big')), length)
 
 
 def prefix_octets(text):
@@ -203,18 +233,73 @@ def made_update(gone, said, come):
 
 
 def update(body):
-    """The parts of an UPDATE."""
+    """The parts of an UPDATE: its prefixes of IPv4, and behind them those of IPv6."""
     gone, said, come = fields(body)
-    return Update([prefix(one) for one in split(gone)], by_type(said), [prefix(one) for one in split(come)])
+    kinds = by_type(said)
+    gone_too, come_too = unreached(kinds), reached(kinds)[1]
+    return Update([prefix(one) for one in split(gone)] + gone_too, kinds, [prefix(one) for one in split(come)] + come_too)
+
+
+def reach(value):
+    """Family, next hop and prefixes, as octets, of an attribute of type 14 (RFC 4760, section 3). ValueError where they don't fit."""
+    behind = 4 + part(value, 3, 1)[0]
+    part(value, behind, 1)
+    return value[:3], part(value, 4, behind - 4), value[behind + 1:]
+
+
+def reached(kinds):
+    """The next hop, as octets, and the prefixes of IPv6 that attributes announce."""
+    value = kinds.get(MP_REACH, (0, b''))[1]
+    if not value.startswith(IPV6.code):
+        return b'', []
+    _, hop, field = reach(value)
+    return hop, [prefix(one, IPV6) for one in split(field, IPV6)]
+
+
+def unreached(kinds):
+    """The prefixes of IPv6 that attributes withdraw (section 4)."""
+    value = kinds.get(MP_UNREACH, (0, b''))[1]
+    return [prefix(one, IPV6) for one in split(value[3:], IPV6)] if value.startswith(IPV6.code) else []
+
+
+def reaching(hop, octets):
+    """The attribute that announces prefixes of IPv6, each as octets, by a next hop."""
+    return Attribute(0x80, MP_REACH, IPV6.code + bytes([len(hop)]) + hop + b'\0' + b''.join(octets))
+
+
+def unreaching(octets):
+    """The attribute that withdraws prefixes of IPv6."""
+    return Attribute(0x80, MP_UNREACH, IPV6.code + b''.join(octets))
+
+
+def of_family(kinds, of):
+    """The attributes of an UPDATE's routes of a family: those of IPv6 have the next hop of type 14 in the place of NEXT_HOP."""
+    said = {kind: one for kind, one in kinds.items() if kind not in (MP_REACH, MP_UNREACH)}
+    if of == IPV6:
+        said[NEXT_HOP] = 0x40, reached(kinds)[0]
+    return said
 
 
 def take(held, body):
     """An Adj-RIB-In, attributes by prefix, after one more UPDATE."""
-    said = update(body)
+    said, of = update(body), {}
     for gone in said.withdrawn:
         held.pop(gone, None)
     for came in said.announced:
-        held[came] = said.attributes
+        here = family(came)
+        of[here] = of.get(here) or of_family(said.attributes, here)
+        held[came] = of[here]
+
+
+def take_each(tables, body):
+    """The same of a table for each of some families."""
+    for table in tables.values():
+        take(table, body)
+
+
+def joined(tables):
+    """The routes of each of these families, in one table."""
+    return {one: said for of, table in tables.items() for one, said in list(table.items()) if family(one) == of}
 
 
 # ---- what a route says
@@ -247,3 +332,8 @@ def text(said, width=2):
     for kind in sorted(set(said) - set(range(1, 8)) - set(added)):
         words.append('x%d:%s' % (kind, said[kind][1].hex()))
     return ','.join(words)
+
+
+def texts(held, width=2):
+    """The words of a table."""
+    return {prefix: text(said, width) for prefix, said in list(held.items())}
