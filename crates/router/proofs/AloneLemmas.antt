@@ -1,23 +1,20 @@
 -- Events of the second network alone, and `local6`.
-use Rattle.std.proofs.Common.{◌≡◌, ℕ, zero, suc, ◌==◌, ◌||◌, Bool, true, false, not, cond, List, [], ◌∷◌, length, Option, Some, None, is_none, refl, sym, ap, subst, ◌∙◌, arith}
+use Rattle.std.proofs.Common.{◌≡◌, ℕ, suc, ◌==◌, ◌||◌, Bool, true, false, not, cond, List, [], ◌∷◌, length, Option, Some, None, is_none, refl, sym, ap, subst, ◌∙◌, arith}
 use Rattle.std.proofs.lemmas.Bool.Decides.{nat_tests}
-use Rattle.addr4.specs.Families.{IsAddress}
-use Rattle.addr4.specs.Hosts.{is_host}
 use Rattle.bgp_attr.specs.Speakers.{Speaker, IsSpeaker}
 use Rattle.bgp_attr.specs.declared.speaker.Profile.{Profile}
 use Rattle.journal_text.specs.declared.line.Code.{Code}
 use Rattle.journal_text.specs.declared.line.Code.TheVariants.{E4, E7, E9}
 use Rattle.event_text.specs.Event.{Event}
-use Rattle.event_text.specs.declared.event.Event.TheVariants.{Nothing, As4, Revised, Reflect, Local, Peer, Up, Down, Bgp, FilterIn, FilterOut, RouteAdd, RouteDel, Lose, Redist, Cover, Settled, Idle, Work, Ask, Show}
-use Rattle.event_text.specs.declared.event.FileEvent.TheVariants.{Local6, Second}
+use Rattle.event_text.specs.declared.event.Event.TheVariants.{Nothing, FilterIn, FilterOut, RouteAdd, RouteDel, Lose, Redist, Cover, Settled, Idle, Work, Ask, Show}
+use Rattle.event_text.specs.declared.event.FileEvent.TheVariants.{Second}
 use Rattle.event_text.specs.declared.declared.DeclaredPeer.{DeclaredPeer}
 use Rattle.event_text.specs.Declarations.{Declaration, refusal, refusal_at, refusal_by, IsDeclaredBy, IsDeclaration}
-use Rattle.event_text.specs.FileEvents.{file_refusal, second_refusal, begin_refusal, is_of_one, IsWellSaid}
+use Rattle.event_text.specs.FileEvents.{file_refusal, second_refusal, is_of_one}
 use Rattle.event_text.specs.WellFormed.{IsWellFormed}
-use Rattle.live_state.specs.Declared.{declared_after}
-use Rattle.router.specs.Ties.{AreTied, in_second, with_addr}
+use Rattle.router.specs.Ties.{in_second, with_addr}
 use Rattle.router.proofs.ToldLemmas.{one_declaration}
-use Rattle.router.specs.Laws.{MayStandAlone, SecondMayStand, MayBegin, Local6MayStand}
+use Rattle.router.specs.Laws.{MayStandAlone, SecondMayStand, Local6MayStand}
 
 -- ---- of the second network alone
 -- what one network is told has no other words of its family in the way of it, and leaves what was declared
@@ -78,14 +75,14 @@ begins (Some me) true peers e = absurd (let clash : ◌≡◌ {A = Option Code} 
 begins (Some me) false [] e = ((me, refl), refl, refl)
 begins (Some me) false (p ∷ ps) e = absurd (let clash : ◌≡◌ {A = Option Code} (Some E7) None = ap (λ b. cond {A = Option Code} (not b) (Some E7) None) (sym (some_are (length ps))) ∙ e in cc)
 
-declared_by : (d : Declaration) (me : Speaker) → d.v6 ≡ false → d.speaker ≡ Some me → IsDeclaration d → IsSpeaker false d.profile.as4 me
-declared_by d me first local is = subst (λ v6. IsSpeaker v6 d.profile.as4 me) first (subst (λ (s : Option Speaker). IsDeclaredBy d.v6 d.profile s d.peers) local is).speaker
+me_declared : (d : Declaration) (me : Speaker) → d.v6 ≡ false → d.speaker ≡ Some me → IsDeclaration d → IsSpeaker false d.profile.as4 me
+me_declared d me first local is = subst (λ v6. IsSpeaker v6 d.profile.as4 me) first (subst (λ (s : Option Speaker). IsDeclaredBy d.v6 d.profile s d.peers) local is).speaker
 
 pub local6_may : Local6MayStand
 unfolding file_refusal
 local6_may d addr declared first admitted said =
     let b = begins d.speaker d.profile.v6 d.peers admitted in
-    let w = declared_by d b.0.0 first b.0.1 declared in
+    let w = me_declared d b.0.0 first b.0.1 declared in
     record {
       me = b.0.0;
       local = b.0.1;

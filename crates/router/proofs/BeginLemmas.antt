@@ -1,18 +1,15 @@
 -- `local6`: the second network begins.
-use Rattle.std.proofs.Common.{◌≡◌, ℕ, ◌+◌, ◌≤◌, ◌<◌, Bool, true, false, [], Option, Some, None, option_map, refl, sym, ap, subst, ◌∙◌, arith, ◌++◌}
+use Rattle.std.proofs.Common.{◌≡◌, ℕ, ◌+◌, ◌<◌, Bool, true, false, [], Option, Some, None, refl, sym, ap, subst, ◌∙◌, arith, ◌++◌}
 use Rattle.bgp_attr.specs.Speakers.{Speaker, IsSpeaker, IsProfileOf}
 use Rattle.bgp_attr.specs.declared.speaker.Profile.{Profile}
 use Rattle.journal_text.specs.Journals.{Journaled}
-use Rattle.event_text.specs.Event.{Event}
 use Rattle.event_text.specs.declared.event.Event.TheVariants.{Local}
 use Rattle.event_text.specs.declared.event.FileEvent.TheVariants.{Local6}
 use Rattle.event_text.specs.Declarations.{Declaration, refusal, no_declaration, with_profile, with_speaker}
 use Rattle.event_text.specs.FileEvents.{file_refusal, IsWellSaid, with_ipv6}
-use Rattle.event_text.specs.WellFormed.{IsWellFormed}
-use Rattle.journal_laws.specs.FamilyLines.{of_family, text_of}
-use Rattle.live_state.specs.Declared.{declared_after}
+use Rattle.journal_laws.specs.FamilyLines.{of_family}
 use Rattle.live_state.specs.Laws.{DeclarationsFollow}
-use Rattle.router_moments.specs.Moments.{Moment, Cored, first_moment, profiled, spoken}
+use Rattle.router_moments.specs.Moments.{Cored, first_moment, profiled, spoken}
 use Rattle.router_moments.specs.Blocks.{Acts}
 use Rattle.router_moments.specs.Stands.{CoreStands}
 use Rattle.router.specs.Ties.{AreTied, in_second, with_addr}
@@ -22,6 +19,7 @@ use Rattle.router.specs.Steps.{GivesBoth, GivesSecond, SecondBegins, SecondActs,
 use Rattle.router.specs.Laws.{MayBegin, Local6MayStand}
 use Rattle.router.proofs.BothLemmas.{declared_by}
 use Rattle.router.proofs.TextLemmas.{of_one}
+use Rattle.router.proofs.RouterLemmas.{both_now, seen_alone}
 
 -- ---- the second network alone
 -- nothing was declared to it, so `local` may stand there
@@ -54,7 +52,7 @@ same_some a b e = cc
 
 module _ (old : Routed) (first : Cored) (o : Option Cored) (failed : Bool) (view : record { first = first; second = o; failed = failed } ≡ old) (stands : BothStand old.first old.second) (addr : ℕ) (law : Local6MayStand) (admitted : file_refusal old.first.moment.declared (Local6 addr) ≡ None) (said : IsWellSaid old.first.moment.declared.profile (Local6 addr)) where
   both_here : BothStand first o
-  both_here = subst (λ (r : Routed). BothStand r.first r.second) (sym view) stands
+  both_here = both_now old first o failed view stands
 
   begins_here : MayBegin first.moment.declared addr
   begins_here =
@@ -76,9 +74,6 @@ module _ (old : Routed) (first : Cored) (o : Option Cored) (failed : Bool) (view
 
   none_here : o ≡ None
   none_here = none_by o both_here.behind
-
-  seen_here : networks_of old ≡ record { first = first.moment; second = None }
-  seen_here = ap networks_of (sym view) ∙ ap (λ x. record { first = first.moment; second = option_map moment_of x }) none_here
 
   module _ (first' : Cored) (is' : first' ≡ record { moment = spoken first.moment; events = first.events + 1; failed = false }) (me : Speaker) (is_me : first.moment.declared.speaker ≡ Some me) (profile : Profile) (is_profile : profile ≡ in_second first'.moment.declared.profile) where
     same_me : begins_here.me ≡ me
@@ -103,7 +98,7 @@ module _ (old : Routed) (first : Cored) (o : Option Cored) (failed : Bool) (view
       begun_both = (
         of_family true g.0,
         g.1 ∙ ap (λ t. record before { text = before.text ++ (before.pending ++ t); pending = [] }) (sym (of_one before.quiet true g.0)),
-        subst (λ (n : Networks). SecondBegins n addr (record { first = first'.moment; second = Some second.moment }) (of_family true g.0)) (sym seen_here)
+        subst (λ (n : Networks). SecondBegins n addr (record { first = first'.moment; second = Some second.moment }) (of_family true g.0)) (sym (seen_alone old first o failed view stands none_here))
             (record { none = refl; first = ap moment_of is'; inner6 = g.0; begins = begins_by; lines = refl }),
       )
 

@@ -1,5 +1,5 @@
 -- What both networks did, put together.
-use Rattle.std.proofs.Common.{◌≡◌, ℕ, ◌+◌, ◌≤◌, ◌<◌, ◌^◌, Bool, true, false, List, [], ◌∷◌, ◌++◌, Option, Some, None, refl, sym, ap, subst, ◌∙◌, arith, append_assoc}
+use Rattle.std.proofs.Common.{◌≡◌, ℕ, ◌+◌, ◌<◌, ◌^◌, Bool, true, false, List, [], ◌∷◌, ◌++◌, Some, None, refl, sym, ap, subst, ◌∙◌, arith, append_assoc}
 use Rattle.std.proofs.lemmas.List.{append-nil}
 use Rattle.journal_text.specs.Lines.{Line}
 use Rattle.journal_text.specs.declared.line.Line.TheVariants as lines
@@ -9,7 +9,7 @@ use Rattle.event_text.specs.Event.{Event}
 use Rattle.event_text.specs.declared.event.Event.TheVariants.{Idle}
 use Rattle.event_text.specs.declared.event.Event.TheVariants as events
 use Rattle.event_text.specs.Declarations.{Declaration}
-use Rattle.journal_laws.specs.FamilyLines.{FamilyLine, of_family}
+use Rattle.journal_laws.specs.FamilyLines.{of_family}
 use Rattle.live_state.specs.Declared.{declared_after}
 use Rattle.live_state.specs.Laws.{DeclarationsFollow}
 use Rattle.router_moments.specs.Moments.{Moment, Cored, Gives, bound_of}
@@ -18,8 +18,8 @@ use Rattle.router_moments.specs.Lives.{live_state}
 use Rattle.router_moments.specs.Stands.{CoreStands}
 use Rattle.router_moments.proofs.ProfileLemmas.{profile_after, profile_follows, family_follows}
 use Rattle.router.specs.Ties.{AreTied}
-use Rattle.router.specs.Networks.{Networks, BothStand, SecondStands}
-use Rattle.router.specs.Steps.{AreJoined, is_idle, idle_lines, CountsIdle, JoinsIdles, BothAct, GivesBoth, GivesSecond}
+use Rattle.router.specs.Networks.{BothStand}
+use Rattle.router.specs.Steps.{AreJoined, is_idle, idle_lines, CountsIdle, BothAct, GivesBoth, GivesSecond}
 use Rattle.router.proofs.TextLemmas.{first_said, then_second, then_first, pushed_first}
 
 -- what was declared behind an event, by what is live

@@ -1,4 +1,5 @@
 pub mod ReadingLemmas
+mod UpdateLemmas
 pub mod ToldLemmas
 pub mod AloneLemmas
 mod TextLemmas

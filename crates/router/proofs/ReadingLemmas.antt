@@ -1,16 +1,15 @@
 -- Whose network reads a message doesn't matter to what is read.
-use Rattle.std.proofs.Common.{◌≡◌, ℕ, zero, suc, Bool, List, [], ◌∷◌, ◌++◌, Option, Some, None, Result, Ok, Err, refl, ap, sym, ◌∙◌, ◌||◌, ◌==◌, cond, false, length}
+use Rattle.std.proofs.Common.{◌≡◌, ℕ, zero, suc, Bool, List, [], ◌∷◌, ◌++◌, Option, Some, None, Result, Ok, Err, refl, ◌==◌, cond, false, length}
 use Rattle.bgp_attr.specs.declared.speaker.Profile.{Profile}
-use Rattle.bgp_wire.specs.Attributes.{Attribute, Kept, rule_of, judgement, attributes_step, attributes_within, attributes_at, attribute_at}
-use Rattle.bgp_wire.specs.Updates.{header_at, reading_at, content_at, fault, fields_at, bad_prefix, refresh_at, opening, notification, keepalive, refresh, update}
+use Rattle.bgp_wire.specs.Attributes.{Attribute, Kept, rule_of, judgement, attributes_step, attributes_within, attribute_at}
+use Rattle.bgp_wire.specs.Updates.{header_at, reading_at, content_at, fields_at, bad_prefix, refresh_at, opening, notification, keepalive, refresh, update}
 use Rattle.bgp_wire.specs.Prefixes.{prefixes_at}
 use Rattle.bgp_wire.specs.Faults.{◌>>=◌}
 use Rattle.bgp_wire.specs.declared.notice.Notice.{Notice}
-use Rattle.live_state.specs.Messages.{ends_session}
 use Rattle.router.specs.Ties.{in_second}
 use Rattle.router.specs.Laws.{SessionsEndInBoth}
 
-judged_same : (p : Profile) (external : Bool) (seen : List ℕ) (a : Attribute) → judgement (in_second p) external seen a ≡ judgement p external seen a
+pub judged_same : (p : Profile) (external : Bool) (seen : List ℕ) (a : Attribute) → judgement (in_second p) external seen a ≡ judgement p external seen a
 unfolding judgement rule_of
 judged_same p external seen a = refl
 

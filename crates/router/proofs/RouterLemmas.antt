@@ -1,10 +1,13 @@
 -- What the router's calls leave, by its parts.
-use Rattle.std.proofs.Common.{◌≡◌, ◌≢◌, ℕ, ◌+◌, ◌≤◌, ◌<◌, ◌^◌, Bool, true, false, List, [], ◌∷◌, Option, Some, None, Result, Ok, Err, option_map, refl, sym, ap, subst, ◌∙◌, arith}
+use Rattle.std.proofs.Common.{◌≡◌, ◌≢◌, ℕ, ◌+◌, ◌<◌, ◌^◌, Bool, true, false, List, [], ◌∷◌, Option, Some, None, Result, Ok, Err, option_map, refl, sym, ap, subst, ◌∙◌}
 use Rattle.std.specs.Result.{OnOk}
 use Rattle.journal_text.specs.Journals.{Journaled, with_lines, flushed}
 use Rattle.journal_text.specs.declared.line.Line.TheVariants as lines
+use Rattle.bgp_attr.specs.Speakers.{IsProfileOf}
+use Rattle.bgp_wire.specs.Readable.{said_of}
+use Rattle.bgp_wire.specs.declared.message.Update.{Update}
 use Rattle.event_text.specs.Event.{Event}
-use Rattle.event_text.specs.declared.event.Event.TheVariants.{Nothing, Idle}
+use Rattle.event_text.specs.declared.event.Event.TheVariants.{Nothing, Bgp, Idle}
 use Rattle.event_text.specs.declared.event.FileEvent.{FileEvent}
 use Rattle.event_text.specs.declared.event.FileEvent.TheVariants.{First, Second}
 use Rattle.event_text.specs.Declarations.{Declaration, refusal}
@@ -12,18 +15,19 @@ use Rattle.event_text.specs.FileEvents.{file_refusal, IsWellSaid}
 use Rattle.event_text.specs.WellFormed.{IsWellFormed}
 use Rattle.live_state.specs.Declared.{declared_after}
 use Rattle.live_state.specs.Laws.{DeclarationsFollow}
-use Rattle.router_moments.specs.Moments.{Moment, Cored, Gives, bound_of}
+use Rattle.router_moments.specs.Moments.{Cored, Gives, bound_of}
 use Rattle.router_moments.specs.Blocks.{Acts}
 use Rattle.router_moments.specs.Laws.{RowsAtRestAreExact}
 use Rattle.router_moments.specs.Scratch.{IsExactAtRest}
 use Rattle.router_moments.specs.Stands.{CoreStands}
+use Rattle.router_core.specs.Heard.{AreUpdate, SayOfFamily}
 use Rattle.router.specs.Ties.{AreTied, with_addr}
 use Rattle.router.specs.Told.{told}
 use Rattle.router.specs.Codes.{told_so_far, told_then}
-use Rattle.router.specs.Networks.{Networks, OfEach, OfSecond, Routed, BothStand, IsSecondOf, networks_of, moment_of}
+use Rattle.router.specs.Networks.{OfEach, OfSecond, Routed, BothStand, IsSecondOf, networks_of, moment_of}
 use Rattle.router.specs.Steps.{is_idle, idle_lines, BothAct, GivesBoth, GivesSecond, MayStep}
-use Rattle.router.specs.Laws.{MayStandAlone, SecondMayStand, MayBeTold, ToldMayStand, ToldInTwo}
-use Rattle.router.proofs.AloneLemmas.{second_is_spoken, idle_may}
+use Rattle.router.specs.Laws.{MayStandAlone, SecondMayStand, MayBeTold, ToldMayStand, ToldInTwo, IsToldUpdate, UpdateIsTold}
+use Rattle.router.proofs.AloneLemmas.{idle_may}
 use Rattle.router.proofs.BothLemmas.{declared_by, both_act, both_idle, both_stand, one_acts, one_stands, one_idles}
 
 -- what a call of the first network says of its moment
@@ -133,6 +137,21 @@ module _ (old : Routed) (first : Cored) (o : Option Cored) (failed : Bool) (view
 
       pub tied_told : (event6 : Event) → event6 ≡ told first.moment.declared event → AreTied (declared_after first.moment.declared event) (declared_after c6.moment.declared event6)
       tied_told event6 is6 = subst (λ e. AreTied (declared_after first.moment.declared event) (declared_after c6.moment.declared e)) (sym is6) told_may.tied
+
+    -- an UPDATE that was read once
+    module _ (k : ℕ) (octets : List ℕ) (u : Update) (law : UpdateIsTold) (are : AreUpdate old.first.moment.declared k octets u) where
+      update_law : IsToldUpdate first.moment.declared c6.moment.declared k octets u
+      update_law = law first.moment.declared c6.moment.declared k octets u two_now.behind.tied (of_first (λ c. AreUpdate c.moment.declared k octets u) are)
+
+      pub is_told_update : Bgp k octets ≡ told first.moment.declared (Bgp k octets)
+      is_told_update = sym update_law.is_told
+
+      pub second_says : IsProfileOf true c6.moment.declared.profile → SayOfFamily c6.moment.declared k octets u.second
+      second_says of = record { update = u; are = update_law.are; of_family = ap (λ b. said_of b u) (sym of.second) }
+
+-- what an UPDATE says of the first network's family, by the profile that its declarations have
+pub says_first : (d : Declaration) (k : ℕ) (octets : List ℕ) (u : Update) → IsProfileOf false d.profile → AreUpdate d k octets u → SayOfFamily d k octets u.first
+says_first d k octets u of are = record { update = u; are = are; of_family = ap (λ b. said_of b u) (sym of.second) }
 
 -- an event that is no idle
 pub no_idle : (event : Event) → event ≢ Idle → is_idle event ≡ false

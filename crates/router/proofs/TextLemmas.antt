@@ -1,9 +1,7 @@
 -- The text of the lines of both networks.
-use Rattle.std.proofs.Common.{◌≡◌, ℕ, ◌+◌, Bool, true, false, List, [], ◌∷◌, ◌++◌, map, refl, sym, ap, ◌∙◌, append_assoc}
+use Rattle.std.proofs.Common.{◌≡◌, Bool, true, false, List, [], ◌∷◌, ◌++◌, refl, sym, ap, ◌∙◌, append_assoc}
 use Rattle.std.proofs.lemmas.List.{append-nil}
-use Rattle.std.specs.List.{flat_map}
 use Rattle.journal_text.specs.Lines.{Line}
-use Rattle.journal_text.specs.declared.line.Line.TheVariants as lines
 use Rattle.journal_text.specs.Journals.{Journaled, with_lines, with_text, flushed}
 use Rattle.journal_text.specs.Texts.{text_of as family_text, shown}
 use Rattle.journal_laws.specs.FamilyLines.{FamilyLine, of_family, text_of, shown_in}

@@ -1,5 +1,5 @@
 -- What the second network is told may stand there, and both know the same after it.
-use Rattle.std.proofs.Common.{◌≡◌, ℕ, zero, suc, ◌++◌, ◌==◌, ◌≤◌, ◌&&◌, ◌||◌, Bool, true, false, not, cond, List, [], ◌∷◌, map, length, Option, Some, None, is_none, is_some, nat_eq, nat_le, refl, sym, ap, subst, ◌∙◌, arith}
+use Rattle.std.proofs.Common.{◌≡◌, ℕ, zero, suc, ◌≤◌, ◌&&◌, ◌||◌, Bool, true, false, not, cond, List, [], ◌∷◌, map, Option, Some, None, is_none, nat_eq, nat_le, refl, sym, ap, subst, ◌∙◌, arith}
 use Rattle.std.proofs.lemmas.Bool.Decides.{nat_tests}
 use Rattle.addr4.specs.Hosts.{is_host}
 use Rattle.bgp_attr.specs.Speakers.{Speaker}
@@ -8,14 +8,14 @@ use Rattle.journal_text.specs.declared.line.Code.{Code}
 use Rattle.event_text.specs.Event.{Event}
 use Rattle.event_text.specs.declared.event.Event.TheVariants.{Nothing, As4, Revised, Reflect, Local, Peer, Up, Down, Bgp, FilterIn, FilterOut, RouteAdd, RouteDel, Lose, Redist, Cover, Settled, Idle, Work, Ask, Show}
 use Rattle.event_text.specs.declared.declared.DeclaredPeer.{DeclaredPeer}
-use Rattle.event_text.specs.Declarations.{Declaration, peer_at, has_addr, to_peers, peer_refusal, session_refusal, undeclared, refusal, refusal_by, with_session, without_session, ended_at}
+use Rattle.event_text.specs.Declarations.{Declaration, peer_at, has_addr, to_peers, peer_refusal, session_refusal, undeclared, refusal, with_session, without_session, ended_at}
 use Rattle.event_text.specs.WellFormed.{IsWellFormed}
 use Rattle.event_text.proofs.Sessions.{Addable, addable_by}
 use Rattle.live_state.specs.Declared.{declared_after, declared_up, declared_down, declared_heard}
 use Rattle.live_state.specs.Messages.{ends_session}
 use Rattle.router.specs.Ties.{AreTied, in_second, with_addr}
 use Rattle.router.specs.Told.{told, told_up, told_down, told_message}
-use Rattle.router.specs.Codes.{told_so_far, told_then, told_if_up, told_if_still}
+use Rattle.router.specs.Codes.{told_then, told_if_up, told_if_still}
 use Rattle.router.specs.Laws.{SessionsEndInBoth, MayBeTold, ToldMayStand, ToldInTwo}
 
 -- ---- a peer that may be declared

@@ -1,14 +1,17 @@
 -- What an event that may stand in a file is to the second network.
-use Rattle.std.specs.Prelude.{◌≡◌, ℕ, Bool, true, false, List, [], Option, Some, None}
+use Rattle.std.specs.Prelude.{◌≡◌, ℕ, Bool, true, false, List, [], Some, None}
 use Rattle.bgp_attr.specs.Speakers.{Speaker, IsSpeaker, IsProfileOf}
 use Rattle.bgp_attr.specs.declared.speaker.Profile.{Profile}
+use Rattle.bgp_wire.specs.declared.message.Update.{Update}
 use Rattle.event_text.specs.Event.{Event}
+use Rattle.event_text.specs.declared.event.Event.TheVariants.{Bgp}
 use Rattle.event_text.specs.declared.event.FileEvent.TheVariants.{Local6, Second}
 use Rattle.event_text.specs.Declarations.{Declaration, no_declaration, refusal, with_profile, with_speaker, IsDeclaration}
 use Rattle.event_text.specs.FileEvents.{IsWellSaid, file_refusal, with_ipv6}
 use Rattle.event_text.specs.WellFormed.{IsWellFormed}
 use Rattle.live_state.specs.Declared.{declared_after}
 use Rattle.live_state.specs.Messages.{ends_session}
+use Rattle.router_core.specs.Heard.{AreUpdate}
 use Rattle.router.specs.Ties.{AreTied, in_second, with_addr}
 use Rattle.router.specs.Told.{told}
 use Rattle.router.specs.Codes.{told_so_far, told_then}
@@ -51,3 +54,11 @@ pub record MayBegin (d : Declaration) (addr : ℕ) : Type 0 where
 
 abbrev pub Local6MayStand : Type 0
 Local6MayStand = (d : Declaration) (addr : ℕ) → IsDeclaration d → d.v6 ≡ false → file_refusal d (Local6 addr) ≡ None → IsWellSaid d.profile (Local6 addr) → MayBegin d addr
+
+-- An UPDATE of a peer that is up is told to the second network, and its octets are the same UPDATE there.
+pub record IsToldUpdate (d d6 : Declaration) (k : ℕ) (octets : List ℕ) (u : Update) : Type 0 where
+  pub is_told : told d (Bgp k octets) ≡ Bgp k octets
+  pub are : AreUpdate d6 k octets u
+
+abbrev pub UpdateIsTold : Type 0
+UpdateIsTold = (d d6 : Declaration) (k : ℕ) (octets : List ℕ) (u : Update) → AreTied d d6 → AreUpdate d k octets u → IsToldUpdate d d6 k octets u

@@ -1,6 +1,6 @@
 -- Two networks of stages, one for each family of addresses, over one declaration of peers. A network is a core of `router_core`, whose
 -- moment is that of `router_moments`, whatever its family.
-use Rattle.std.specs.Prelude.{◌≡◌, ℕ, ◌≤◌, Bool, true, false, Option, Some, None, option_map, refl}
+use Rattle.std.specs.Prelude.{◌≡◌, ◌≤◌, Bool, true, false, Option, Some, None, option_map, refl}
 use Rattle.std.specs.Coded.{Coded, code_by, coded×, coded_bool, coded_option}
 use Rattle.bgp_attr.specs.declared.speaker.Profile.{Profile}
 use Rattle.event_text.specs.FileEvents.{with_ipv6}

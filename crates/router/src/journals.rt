@@ -5,6 +5,7 @@ ghost use Rattle.journal_text.specs.Journals.{with_lines, with_text, flushed};
 ghost use Rattle.event_text.specs.declared.event.Event.TheVariants as events;
 ghost use Rattle.event_text.specs.Declarations.{refusal};
 ghost use Rattle.event_text.specs.WellFormed.{IsWellFormed};
+ghost use Rattle.router_core.specs.Heard.{SayOfFamily};
 ghost use Rattle.router_moments.specs.Moments.{Gives, bound_of};
 ghost use Rattle.router_moments.specs.Blocks.{Acts};
 ghost use Rattle.router_moments.specs.Stands.{CoreStands};
@@ -13,6 +14,7 @@ ghost use Rattle.router.specs.Steps.{idle_lines};
 use addr4::{Addr, Memory, Prefix};
 use addr6::V6;
 use bgp_attr::SharedAttrs;
+use bgp_wire::Said;
 use event_text::Event;
 use journal_text::{Journal, Line};
 use router_core::Core;
@@ -88,6 +90,30 @@ impl Journals {
         stepped
     }
 
+    /// IPv4's network hears what an UPDATE says of its routes, and its lines come behind the others.
+    pub(crate) fn hear(
+        &mut self,
+        core: &mut Core,
+        number: u32,
+        octets: &[u8],
+        said: Said,
+    ) -> Result<(), Memory>
+        requires admitted { refusal core.old.moment.declared (events.Bgp number octets.now) ≡ None }
+        requires formed { IsWellFormed core.old.moment.declared.v6 core.old.moment.declared.profile (events.Bgp number octets.now) }
+        requires said { SayOfFamily core.old.moment.declared number octets.now said }
+        requires few { core.old.events < 4294967295 }
+        requires stands { CoreStands core.old }
+        ensures acts { OnOk result (Gives (Acts core.old.moment (events.Bgp number octets.now) 0 core.new.moment) self.old self.new) }
+        ensures stands { OnOk result (CoreStands core.new) }
+        ensures events { OnOk result (core.new.events ≡ core.old.events + 1) }
+    {
+        let heard = core.hear(number, octets, said, &mut self.first);
+        if heard.is_err() {
+            self.first = Journal::new(self.alloc, self.quiet);
+        }
+        heard
+    }
+
     /// IPv4's network does its work to its end, in an idle of both.
     pub(crate) fn rest(&mut self, core: &mut Core) -> Result<u128, Memory>
         requires admitted { refusal core.old.moment.declared events.Idle ≡ None }
@@ -106,7 +132,7 @@ impl Journals {
     }
 
     /// The lines are those of IPv4's network first.
-    pub fn known(&self)
+    pub(crate) fn known(&self)
         ensures { self.now.v6 ≡ false }
     {
         self.first.known();

@@ -1,6 +1,8 @@
 //! What an event that may stand in a file is to the second network: functions that do nothing, whose contracts are the laws.
 
-ghost use Rattle.router.specs.Laws.{Local6MayStand, SecondMayStand, SessionsEndInBoth, ToldInTwo, ToldMayStand};
+ghost use Rattle.router.specs.Laws.{Local6MayStand, SecondMayStand, SessionsEndInBoth, ToldInTwo, ToldMayStand, UpdateIsTold};
+
+use live_state::sessions_end;
 
 /// Whose network reads a message doesn't matter to whether it ends the session.
 pub(crate) fn sessions_end_in_both()
@@ -24,3 +26,10 @@ pub(crate) fn second_may_stand()
 pub(crate) fn local6_may_stand()
     ensures { Local6MayStand }
 {}
+
+/// An UPDATE of a peer that is up is told to the second network, which reads the same in it.
+pub(crate) fn update_is_told()
+    ensures { UpdateIsTold }
+{
+    sessions_end();
+}

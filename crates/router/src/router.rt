@@ -8,6 +8,7 @@ ghost use Rattle.event_text.specs.declared.event.FileEvent.TheVariants as file;
 ghost use Rattle.event_text.specs.Declarations.{refusal};
 ghost use Rattle.event_text.specs.WellFormed.{IsWellFormed};
 ghost use Rattle.event_text.specs.FileEvents.{file_refusal, IsWellSaid};
+ghost use Rattle.router_core.specs.Heard.{AreUpdate};
 ghost use Rattle.router_moments.specs.Moments.{first_moment};
 ghost use Rattle.router_moments.specs.Scratch.{IsExactAtRest};
 ghost use Rattle.router.specs.Networks.{OfEach, BothStand, RouterStands, networks_of};
@@ -15,12 +16,13 @@ ghost use Rattle.router.specs.Told.{told};
 ghost use Rattle.router.specs.Steps.{FileActs, GivesBoth, BothAct, SecondBegins, IsFew};
 
 use crate::journals::Journals;
-use crate::laws::{local6_may_stand, second_may_stand, told_may_stand};
-use crate::second::{rest_second, second_begun, told_second};
-use crate::told::{told_so_far, told_then};
+use crate::laws::{local6_may_stand, second_may_stand, told_may_stand, update_is_told};
+use crate::second::{hear_second, rest_second, second_begun, told_second};
+use crate::told::{told_so_far, told_then, update_of};
 use addr4::{Addr, Family, Memory, V4};
 use addr6::V6;
-use bgp_attr::Speaker;
+use bgp_attr::{Octets, Speaker};
+use bgp_wire::Update;
 use event_text::{Declared, Event, EventOf, FileEvent};
 use journal_text::Line;
 use live_state::declarations_follow;
@@ -166,11 +168,73 @@ impl Router {
     {
         match event {
             Event::Idle => self.idle(journals),
+            Event::Bgp(number, octets) => self.message(number, octets, journals),
             event => self.step_told(event, journals),
         }
     }
 
-    /// An event that is no idle.
+    /// A message: an UPDATE of a peer that is up is read once, for both networks.
+    fn message(
+        &mut self,
+        number: u32,
+        octets: Octets,
+        journals: &mut Journals,
+    ) -> Result<u128, Memory>
+        requires admitted { refusal self.old.first.moment.declared (events.Bgp number octets) ≡ None }
+        requires formed { IsWellFormed false self.old.first.moment.declared.profile (events.Bgp number octets) }
+        requires few { IsFew self.old.first }
+        requires stands { BothStand self.old.first self.old.second }
+        ensures acts { IfOk result (λ turns. GivesBoth (BothAct (networks_of self.old) (events.Bgp number octets) (told self.old.first.moment.declared (events.Bgp number octets)) turns (networks_of self.new)) journals.old journals.new) }
+        ensures stands { OnOk result (BothStand self.new.first self.new.second) }
+        ensures events { OnOk result (self.new.first.events ≡ self.old.first.events + 1) }
+    {
+        match update_of(self.alloc, self.first.declared(), number, octets.as_slice())? {
+            None => self.step_told(Event::Bgp(number, octets), journals),
+            Some(update) => {
+                let heard = self.hear(number, octets.as_slice(), update, journals);
+                drop(octets);
+                heard
+            }
+        }
+    }
+
+    /// An UPDATE, which was read: each network hears what it says of its family's routes.
+    fn hear(
+        &mut self,
+        number: u32,
+        octets: &[u8],
+        update: Update,
+        journals: &mut Journals,
+    ) -> Result<u128, Memory>
+        requires admitted { refusal self.old.first.moment.declared (events.Bgp number octets.now) ≡ None }
+        requires formed { IsWellFormed false self.old.first.moment.declared.profile (events.Bgp number octets.now) }
+        requires are { AreUpdate self.old.first.moment.declared number octets.now update }
+        requires few { IsFew self.old.first }
+        requires stands { BothStand self.old.first self.old.second }
+        ensures acts { IfOk result (λ turns. GivesBoth (BothAct (networks_of self.old) (events.Bgp number octets.now) (told self.old.first.moment.declared (events.Bgp number octets.now)) turns (networks_of self.new)) journals.old journals.new) }
+        ensures stands { OnOk result (BothStand self.new.first self.new.second) }
+        ensures events { OnOk result (self.new.first.events ≡ self.old.first.events + 1) }
+    {
+        told_may_stand();
+        journals.known();
+        declarations_follow();
+        update_is_told();
+        self.first.declared().known();
+        let Update {
+            first: said,
+            second: said6,
+        } = update;
+        journals.hear(&mut self.first, number, octets, said)?;
+        let Some(second) = &mut self.second else {
+            drop(said6);
+            return Ok(0);
+        };
+        second.declared().known();
+        hear_second(second, number, octets, said6, journals)?;
+        Ok(0)
+    }
+
+    /// An event that is neither an idle nor an UPDATE that was read.
     fn step_told(&mut self, event: Event, journals: &mut Journals) -> Result<u128, Memory>
         requires admitted { refusal self.old.first.moment.declared event ≡ None }
         requires formed { IsWellFormed false self.old.first.moment.declared.profile event }

@@ -4,6 +4,7 @@ ghost use Rattle.std.specs.Prelude.{◌≡◌, ◌+◌, ◌<◌, ◌^◌, ◌∷
 ghost use Rattle.bgp_attr.specs.Speakers.{IsProfileOf, IsSpeaker};
 ghost use Rattle.event_text.specs.declared.event.Event.TheVariants as events;
 ghost use Rattle.event_text.specs.Declarations.{refusal};
+ghost use Rattle.router_core.specs.Heard.{SayOfFamily};
 ghost use Rattle.router_moments.specs.Blocks.{Acts};
 ghost use Rattle.router_moments.specs.Moments.{first_moment, profiled, bound_of};
 ghost use Rattle.router_moments.specs.Stands.{CoreStands};
@@ -13,6 +14,7 @@ use crate::journals::Journals;
 use addr4::{Addr, Memory};
 use addr6::V6;
 use bgp_attr::{Profile, Speaker};
+use bgp_wire::Said;
 use event_text::{Event, EventOf};
 use router_core::Core;
 use std::alloc::Global;
@@ -53,6 +55,28 @@ pub(crate) fn told_second(
     let stepped = second.step(told, &mut own);
     journals.take_back(own);
     stepped
+}
+
+/// The second network hears what an UPDATE says of its routes.
+pub(crate) fn hear_second(
+    second: &mut Core<V6>,
+    number: u32,
+    octets: &[u8],
+    said: Said<V6>,
+    journals: &mut Journals,
+) -> Result<(), Memory>
+    requires may { MayStep (events.Bgp number octets.now) second.old }
+    requires said { SayOfFamily second.old.moment.declared number octets.now said }
+    requires few { IsFew second.old }
+    requires stands { CoreStands second.old }
+    ensures acts { OnOk result (GivesSecond (Acts second.old.moment (events.Bgp number octets.now) 0 second.new.moment) journals.old journals.new) }
+    ensures stands { OnOk result (CoreStands second.new) }
+    ensures events { OnOk result (second.new.events ≡ second.old.events + 1) }
+{
+    let mut own = journals.lend()?;
+    let heard = second.hear(number, octets, said, &mut own);
+    journals.take_back(own);
+    heard
 }
 
 /// The second network does its work to its end.

@@ -1,15 +1,17 @@
 //! What the second network is told of an event of the first.
 
-ghost use Rattle.std.specs.Prelude.{◌≡◌, ◌≢◌, IfOk};
+ghost use Rattle.std.specs.Prelude.{◌≡◌, ◌≢◌, IfOk, IfSome};
 ghost use Rattle.event_text.specs.Declarations.{peer_at};
 ghost use Rattle.event_text.specs.declared.event.Event.TheVariants as events;
 ghost use Rattle.router.specs.Codes.{told_so_far, told_then, told_if_up};
 ghost use Rattle.router.specs.Told.{told_up, told_down};
+ghost use Rattle.router_core.specs.Heard.{AreUpdate};
 ghost use Rattle.router_moments.specs.Peers.{is_up};
 
 use addr4::Memory;
 use addr6::V6;
 use bgp_attr::Octets;
+use bgp_wire::{Message, Update, read_message};
 use event_text::{Declared, Event, EventOf};
 use std::alloc::Global;
 
@@ -64,6 +66,30 @@ fn told_if_up(
     match declared.peer(number) {
         Some(peer) if peer.up => Ok(Event::Bgp(number, copy_of(alloc, octets)?)),
         _ => Ok(Event::Nothing),
+    }
+}
+
+/// The UPDATE that octets of a peer are, where it is up. None for other messages, a fault among them.
+pub(crate) fn update_of(
+    alloc: Global,
+    declared: &Declared,
+    number: u32,
+    octets: &[u8],
+) -> Result<Option<Update>, Memory>
+    ensures { IfOk result (λ update. IfSome update (AreUpdate declared.now number octets.now)) }
+{
+    let Some(peer) = declared.peer(number) else {
+        return Ok(None);
+    };
+    if !peer.up {
+        return Ok(None);
+    }
+    match read_message(alloc, declared.profile(), octets, !peer.words.internal)? {
+        Message::Update(update) => Ok(Some(update)),
+        other => {
+            drop(other);
+            Ok(None)
+        }
     }
 }
 

@@ -1,5 +1,5 @@
 -- A core behind `local6`, one to which nothing was declared yet, and one that does its work in an idle of several networks.
-use Rattle.router_moments.proofs.Common.{sym, subst, ◌∙◌, ap, ◌≡◌, ℕ, ◌+◌, ◌<◌, ◌++◌, refl, List, true, false, Bool, Profile, Journaled, flushed, with_lines, Line, live_state, Moment, Gives, bound_of, Stands, HaveReaders, HasStepped}
+use Rattle.router_moments.proofs.Common.{sym, subst, ◌∙◌, ap, ◌≡◌, ℕ, ◌+◌, ◌<◌, ◌++◌, refl, List, false, Bool, Profile, Journaled, flushed, with_lines, Line, live_state, Moment, Gives, bound_of, HasStepped}
 use Rattle.std.proofs.Common.{◌^◌, [], ◌∷◌, None}
 use Rattle.journal_text.specs.declared.line.Line.TheVariants as lines
 use Rattle.event_text.specs.declared.event.Event.TheVariants.{Idle}

@@ -1,8 +1,9 @@
-//! The router: events and turns of background work, and the lines that they give.
+//! One network of stages at work: events and turns of background work, and the lines that they give.
 //!
-//! A [`Core`] has a network of stages (`router_network`), and counts events. [`Core::step`] steps an event, and its lines go into the text of a journal; it asks that the event may stand there,
-//! as `event_text` judges. [`Core::unit`], [`Core::drain`] and [`Core::idle`] do background work alone: one turn of a task, a
-//! phase of an idle, all of it. [`Core::chain`], [`Core::resolver`], [`Core::tree`], [`Core::external`] and [`Core::count`] look
+//! A [`Core`] has a network of stages (`router_network`), and counts events. [`Core::step`] steps an event, and its lines go into
+//! the text of a journal; it asks that the event may stand there, as `event_text` judges. [`Core::hear`] does the same with an
+//! UPDATE that was read already, as for the networks of several families. [`Core::unit`], [`Core::drain`] and [`Core::idle`] do
+//! background work alone: one turn of a task, a phase of an idle, all of it. [`Core::chain`], [`Core::resolver`], [`Core::tree`], [`Core::external`] and [`Core::count`] look
 //! at what is there. Each turn's lines are made into text at once, so that a long idle holds few lines.
 //!
 //! What contracts see is in `router_moments`: the moment (`Moments`), what holds between two steps (`Stands`), what each event

@@ -18,11 +18,13 @@ ghost use Rattle.router_moments.specs.Turns.{has_work};
 ghost use Rattle.router_moments.specs.Blocks.{Acts};
 ghost use Rattle.router_moments.specs.Lookups.{IsCountOf};
 ghost use Rattle.router_moments.specs.Works.{Comes, HaveDrained, HasIdled};
+ghost use Rattle.router_core.specs.Heard.{SayOfFamily};
 
 use crate::hears::Hears;
-use crate::steps::step;
+use crate::steps::{hear_said, step};
 use addr4::{Family, Memory, Prefix, Texts, V4};
 use bgp_attr::Profile;
+use bgp_wire::Said;
 use decision::Contests;
 use event_text::{Declared, EventOf};
 use ext_int::ExtInt;
@@ -191,6 +193,43 @@ impl<F: Hears> Core<F> {
         self.events += 1;
         self.failed = false;
         Ok(turns)
+    }
+
+    /// An UPDATE of a peer that is up does what it says of this family's routes (RFC 4760), as the event `bgp` does; `octets` are
+    /// those that it was read from. So one reading serves several networks. This counts as an event. After want of memory the core
+    /// answers nothing else.
+    pub fn hear(
+        &mut self,
+        number: u32,
+        octets: &[u8],
+        said: Said<F>,
+        journal: &mut Journal<F>,
+    ) -> Result<(), Memory>
+        requires admitted { refusal self.old.moment.declared (events.Bgp number octets.now) ≡ None }
+        requires formed { IsWellFormed self.old.moment.declared.v6 self.old.moment.declared.profile (events.Bgp number octets.now) }
+        requires said { SayOfFamily self.old.moment.declared number octets.now said }
+        requires few { self.old.events < 4294967295 }
+        requires stands { self.old.failed ≡ false → CoreStands self.old }
+        ensures acts { OnOk result (Gives (Acts self.old.moment (events.Bgp number octets.now) 0 self.new.moment) journal.old journal.new) }
+        ensures stands { OnOk result (CoreStands self.new) }
+        ensures exact { OnOk result (IsExactAtRest self.new.moment) }
+        ensures events { OnOk result (self.new.events ≡ self.old.events + 1) }
+        ensures good { OnOk result (self.new.failed ≡ false) }
+        ensures memory { OnErr result (self.new.failed ≡ true) }
+        ensures stays { self.old.failed ≡ true → IsErr result }
+    {
+        if self.failed {
+            drop(said);
+            return Err(Memory);
+        }
+        rows_at_rest_are_exact();
+        declarations_follow();
+        self.network.declared().known();
+        self.failed = true;
+        hear_said(&mut self.network, number, said, &mut self.contests, journal)?;
+        self.events += 1;
+        self.failed = false;
+        Ok(())
     }
 
     /// One turn of a task, and the text of its lines. [`Done::Nothing`] comes exactly where the task has no work; then

@@ -8,19 +8,23 @@ ghost use Rattle.event_text.specs.WellFormed.{IsWellFormed};
 ghost use Rattle.bgp_wire.specs.Notices.{HasShortNotice};
 ghost use Rattle.bgp_wire.specs.Spelling.{notification_octets};
 ghost use Rattle.exit_side.specs.Exits.{chain_at as exit_at};
-ghost use Rattle.live_state.specs.Messages.{Says, changes_of};
+ghost use Rattle.bgp_wire.specs.Readable.{said_of};
+ghost use Rattle.bgp_wire.specs.declared.message.Message.TheVariants as messages;
+ghost use Rattle.bgp_wire.specs.declared.message.Update.{Update};
+ghost use Rattle.event_text.specs.declared.declared.DeclaredPeer.{DeclaredPeer};
+ghost use Rattle.live_state.specs.Messages.{Says, changes_in};
 ghost use Rattle.rib_tree.specs.Trees.{AreNumbered};
 ghost use Rattle.router_moments.specs.Blocks.{AreMessageOctets};
 ghost use Rattle.router_moments.specs.Moments.{Gives};
 ghost use Rattle.router_moments.specs.Stands.{Stands, AllHaveExits};
-ghost use Rattle.router_moments.specs.Works.{HasStepped, HasHeard, IsHeardMessage};
+ghost use Rattle.router_moments.specs.Works.{HasStepped, HasHeard, IsHeardMessage, IsUpAt, AreHeard};
 ghost use Rattle.router_network.specs.Informed.{Informed};
 
 use crate::hears::Hears;
 use crate::updates::changes;
-use addr4::{Memory, Prefix};
-use bgp_attr::{Octets, Profile, SharedAttrs};
-use bgp_wire::{Message, Notice, Update, read_message, write_notification};
+use addr4::Memory;
+use bgp_attr::{Octets, Profile};
+use bgp_wire::{Message, Notice, Said, read_message, write_notification};
 use decision::Contests;
 use event_text::{DeclaredPeer, Event, EventOf};
 use journal_text::{Journal, Line};
@@ -137,9 +141,8 @@ fn hear<F: Hears>(
 {
     match message {
         Message::Update(update) => {
-            let changes = heard(network, update)?;
-            network.feed(number, changes.as_slice(), contests, journal)?;
-            journal.flush()
+            network.declared().known();
+            hear_said(network, number, F::said(update), contests, journal)
         }
         Message::Keepalive => journal.flush(),
         Message::Skip => journal.flush(),
@@ -156,15 +159,25 @@ fn hear<F: Hears>(
     }
 }
 
-/// What an UPDATE does to the routes of the network; what it says of the other family is dropped.
-fn heard<F: Hears>(
-    network: &Network<F>,
-    update: Update,
-) -> Result<Vec<(Prefix<F>, Option<SharedAttrs<F>>)>, Memory>
-    ensures { IfOk result (λ changes. changes.items ≡ changes_of network.now.declared.profile update) }
+/// What an UPDATE says of the family's routes is done, prefix by prefix.
+pub(crate) fn hear_said<F: Hears>(
+    network: &mut Network<F>,
+    number: u32,
+    said: Said<F>,
+    contests: &mut Contests<F>,
+    journal: &mut Journal<F>,
+) -> Result<(), Memory>
+    requires stands { Stands network.old }
+    requires up { IsUpAt number network.old }
+    requires heard { AreHeard network.old.declared.profile (changes_in F.V6 said) }
+    requires informed { Informed contests.old network.old }
+    ensures hears { OnOk result ((p : DeclaredPeer) (u : Update) → said ≡ said_of F.V6 u → Gives (HasHeard number p network.old (messages.Update u) network.new) journal.old journal.new) }
+    ensures informed { OnOk result (Informed contests.new network.new) }
 {
     network.declared().known();
-    changes(network.alloc(), F::said(update))
+    let changes = changes(network.alloc(), said)?;
+    network.feed(number, changes.as_slice(), contests, journal)?;
+    journal.flush()
 }
 
 /// What octets of a peer say (RFC 4271, section 4), or the fault that they have.

@@ -1,4 +1,3 @@
-use Rattle.std.proofs.lemmas.Result.{IfOk-weaker}
 use Rattle.router.proofs.BeginLemmas.{local_may_step, few_yet, begun_acts}
 use Rattle.router.proofs.second.second_begun.Goals as goal
 

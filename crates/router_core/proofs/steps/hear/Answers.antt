@@ -1,27 +1,31 @@
-use Rattle.router_moments.proofs.Common.{sym, subst, ◌∙◌, refl, on_ok_weaker, AreHeard, IsHeardMessage}
+use Rattle.router_moments.proofs.Common.{sym, subst, ap, ◌∙◌, ◌≡◌, refl, on_ok_weaker, IsHeardMessage, Gives}
+use Rattle.event_text.specs.Declarations.{Declaration}
 use Rattle.bgp_wire.specs.declared.message.Message.TheVariants as messages
-use Rattle.router_moments.proofs.HeardRows.{changes_heard}
-use Rattle.router_network.proofs.StepLemmas.{nothing_heard, refresh_heard, update_heard, end_heard, fault_heard}
+use Rattle.bgp_wire.specs.declared.message.Message.{Message}
+use Rattle.router_moments.specs.Works.{HasHeard}
+use Rattle.router_core.proofs.HearLemmas.{said_heard}
+use Rattle.router_network.proofs.StepLemmas.{nothing_heard, refresh_heard, end_heard, fault_heard}
 use Rattle.router_network.proofs.QuietSteps.{refreshed_informed}
 use Rattle.router_core.proofs.steps.hear.Goals as goal
 
-pub feed-requires-clause-heard : goal.feed-requires-clause-heard
-feed-requires-clause-heard g c =
-    subst (AreHeard c.args.network.now.declared.profile) (sym c.as_slice.ensures.value)
-    (subst (AreHeard c.args.network.now.declared.profile) (sym c.in_ok-changes-in-Update.ensures) (changes_heard c.args.network.now.declared.profile c.in-Update.update (subst (IsHeardMessage c.args.network.now.declared.profile) c.in-Update.is c.requires.heard)))
+pub hear_said-requires-clause-heard : goal.hear_said-requires-clause-heard
+hear_said-requires-clause-heard g c =
+    said_heard c.args.network.now.declared.profile _ c.said.result c.in-Update.update second c.said.ensures (subst (IsHeardMessage c.args.network.now.declared.profile) c.in-Update.is c.requires.heard)
+  where
+    second : c.args.network.now.declared.profile.second ≡ g.F.Family.V6
+    second = ap (λ (d : Declaration). d.profile.second) (sym c.declared.ensures) ∙ c.known.ensures.profile.second
 
-pub returns-in_ok-feed-in-Update-clause-hears : goal.returns-in_ok-feed-in-Update-clause-hears
-returns-in_ok-feed-in-Update-clause-hears g c =
-    on_ok_weaker c.flush.result (λ flushed.
-    update_heard c.args.number c.args.peer c.args.network.now c.feed.new.self c.args.message c.in-Update.update c.as_slice.result.now c.args.journal.now c.feed.new.journal c.flush.new.self c.in-Update.is
-    (c.as_slice.ensures.value ∙ c.in_ok-changes-in-Update.ensures) c.in_ok-feed-in-Update.ensures.feeds flushed)
-    c.flush.ensures.ok
+pub returns-in-Update-clause-hears : goal.returns-in-Update-clause-hears
+returns-in-Update-clause-hears g c =
+    on_ok_weaker c.hear_said.result (λ hears.
+    subst (λ (x : Message). Gives (HasHeard c.args.number c.args.peer c.args.network.now x c.hear_said.new.network) c.args.journal.now c.hear_said.new.journal) (sym c.in-Update.is) (hears c.args.peer c.in-Update.update c.said.ensures))
+    c.hear_said.ensures.hears
 
 pub returns-in-Keepalive-clause-hears : goal.returns-in-Keepalive-clause-hears
 returns-in-Keepalive-clause-hears g c =
-    on_ok_weaker c.flush-in-Keepalive.result (λ flushed.
-    nothing_heard c.args.number c.args.peer c.args.network.now c.args.message messages.Keepalive c.args.journal.now c.flush-in-Keepalive.new.self c.requires.stands c.in-Keepalive.is (refl, refl) refl flushed)
-    c.flush-in-Keepalive.ensures.ok
+    on_ok_weaker c.flush.result (λ flushed.
+    nothing_heard c.args.number c.args.peer c.args.network.now c.args.message messages.Keepalive c.args.journal.now c.flush.new.self c.requires.stands c.in-Keepalive.is (refl, refl) refl flushed)
+    c.flush.ensures.ok
 
 pub returns-in-Skip-clause-hears : goal.returns-in-Skip-clause-hears
 returns-in-Skip-clause-hears g c =

@@ -1,5 +1,4 @@
-use Rattle.std.proofs.Common.{true, refl, sym, ◌∙◌, ap}
-use Rattle.bgp_attr.specs.declared.speaker.Profile.{Profile}
+use Rattle.std.proofs.Common.{refl, sym, ◌∙◌, ap}
 use Rattle.event_text.specs.Declarations.{Declaration}
 use Rattle.router.specs.Ties.{in_second}
 use Rattle.router.proofs.BeginLemmas.{begun_both}

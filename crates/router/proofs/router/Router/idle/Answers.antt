@@ -1,5 +1,5 @@
 use Rattle.std.proofs.lemmas.Result.{IfOk-weaker}
-use Rattle.router.proofs.RouterLemmas.{alone_idled, idle_may_second, both_idled, both_idle_stood}
+use Rattle.router.proofs.RouterLemmas.{alone_idled, idle_may_second, both_idled}
 use Rattle.router.proofs.router.Router.idle.Goals as goal
 
 pub rest_second-requires-clause-admitted : goal.rest_second-requires-clause-admitted

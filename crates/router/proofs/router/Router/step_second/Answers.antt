@@ -1,7 +1,7 @@
-use Rattle.std.proofs.Common.{◌≡◌, true, false, None, sym, ◌∙◌, ap, refl, subst}
+use Rattle.std.proofs.Common.{◌≡◌, true, false, sym, ◌∙◌, refl}
 use Rattle.std.proofs.lemmas.Result.{IfOk-weaker}
 use Rattle.router.proofs.AloneLemmas.{second_is_spoken, nothing_may}
-use Rattle.router.proofs.RouterLemmas.{both_now, alone_now, of_first, both_acted, both_stood, second_may_step, tied_alone, on_ok}
+use Rattle.router.proofs.RouterLemmas.{alone_now, of_first, both_acted, both_stood, second_may_step, tied_alone, on_ok}
 use Rattle.router.proofs.router.Router.step_second.Goals as goal
 
 pub unreachable-requires : goal.unreachable-requires

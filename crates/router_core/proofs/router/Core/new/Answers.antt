@@ -1,4 +1,4 @@
-use Rattle.router_moments.proofs.Common.{sym, subst, false, Moment, HaveReaders}
+use Rattle.router_moments.proofs.Common.{sym, subst, Moment, HaveReaders}
 use Rattle.router_moments.specs.Moments.{first_moment}
 use Rattle.router_moments.specs.Stands.{CoreStands}
 use Rattle.router_moments.proofs.CoreLemmas.{cored, first_stands, readers_of}

@@ -1,7 +1,4 @@
-use Rattle.std.proofs.lemmas.Result.{IfOk-weaker}
-use Rattle.std.proofs.Common.{◌+◌, sym, subst}
-use Rattle.router_moments.specs.Moments.{Cored}
-use Rattle.router_moments.specs.Stands.{CoreStands}
+use Rattle.std.proofs.Common.{◌+◌}
 use Rattle.router_moments.proofs.CoreLemmas.{moment_stands, moment_exits, exact_after, readers_of}
 use Rattle.router_core.proofs.RestLemmas.{rest_acts, rest_stands, stood}
 use Rattle.router_core.proofs.router.Core.rest.Goals as goal

@@ -1,6 +1,3 @@
-use Rattle.std.proofs.Common.{sym, subst, ap, ◌+◌}
-use Rattle.router_moments.specs.Moments.{Cored}
-use Rattle.router_moments.specs.Stands.{CoreStands}
 use Rattle.router_moments.proofs.CoreLemmas.{readers_of}
 use Rattle.router_core.proofs.RestLemmas.{off_of, spoken_value, spoken_stood, spoken_informed}
 use Rattle.router_core.proofs.router.Core.speak_ipv6.Goals as goal
