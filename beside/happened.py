@@ -21,6 +21,7 @@ class Happened:
         # peers and prefixes: their last change was a replacement by a route of another neighbour AS, beside no other one of the first AS;
         # and those that were gone over again, by an edit of the incoming filter, with a next hop that isn't what it was when they came
         self.crossed, self.stale = set(), set()
+        self.later = set()  # peers and prefixes: their route came where one of `crossed` stood, or one that came so
 
     def take(self, step):
         words = step.words
@@ -86,8 +87,8 @@ class Happened:
 
     def gone(self, number, prefix):
         self.routes[prefix].pop(number, None)
-        self.crossed.discard((number, prefix))
-        self.stale.discard((number, prefix))
+        for kept in (self.crossed, self.later, self.stale):
+            kept.discard((number, prefix))
 
     def came(self, number, prefix, kinds, attributes):
         family = wire.family(prefix)
@@ -99,6 +100,8 @@ class Happened:
         self.gone(number, prefix)
         if old and old.neighbour != route.neighbour and not self.is_beside(prefix, old.neighbour):
             self.crossed.add((number, prefix))
+        if any(other != number and at == prefix for other, at in self.crossed | self.later):
+            self.later.add((number, prefix))
         self.routes[prefix][number] = route
 
     def neighbour(self, octets):

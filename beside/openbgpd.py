@@ -101,9 +101,16 @@ class OpenBgpd(Router):
     def apply(self, before, wanted):
         self.wanted = wanted
         self.write('conf', self.config())
-        said = self.control('reload')
-        if 'processed' not in said:
-            raise Failed('bgpctl reload: ' + said.strip())
+        said = ['']
+
+        def is_over():
+            """Whether it has taken the configuration, or won't: it refuses while it is still at the one before."""
+            said.append(self.control('reload', True))
+            return 'still running' not in said[-1]
+
+        namespaces.until(is_over, self.limit, .05)
+        if 'processed' not in said[-1]:
+            raise Failed('bgpctl reload: ' + said[-1].strip())
 
     def revive(self, peer):
         self.control('neighbor %s up' % peer.address, True)

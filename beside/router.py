@@ -23,7 +23,8 @@ from bgp import namespaces
 
 LIMIT = 20  # seconds until a daemon answers
 # `ip netns exec` has made a mount namespace before
-PRIVATE = 'mount -t tmpfs none /run && mkdir -m 777 "/run/$0" && exec "$@"'
+PRIVATE = 'mount -t tmpfs none /run && mkdir -m 777 "/run/$0" && %sexec "$@"'
+LOGS = '/var/tmp'  # where FRR makes a folder for each of its processes, which stays where that is killed
 
 
 class Failed(Exception):
@@ -101,8 +102,9 @@ class Router:
         return self.path(name)
 
     def run(self, words):
-        """Starts a program. What it writes to /run is seen by it alone, and gone with it."""
-        private = ['sh', '-c', PRIVATE, self.run_folder] if self.run_folder else []
+        """Starts a program. What it writes to /run and /var/tmp is seen by it alone, and gone with it."""
+        logs = '' if self.folder.startswith(LOGS + '/') else 'mount -t tmpfs none %s && ' % LOGS
+        private = ['sh', '-c', PRIVATE % logs, self.run_folder] if self.run_folder else []
         self.started.append(namespaces.Started(self.namespace, private + words, self.path('said')))
 
     def command(self, words, may_fail=False):

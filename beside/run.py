@@ -139,11 +139,12 @@ class Run:
             self.rest()
 
     def bgp(self, number, octets):
-        """Sends a message. Where another peer was the last one, the daemon gets time to read what that one sent."""
+        """Sends a message. Where another peer was the last one, the daemon gets time to read what that one sent; and in front of what is no
+        UPDATE, too, since OpenBGPD reads UPDATEs in another process than all else."""
         heard = self.sessions.get(number)
         if heard is None or not heard.is_up:
             return
-        if self.sender not in (None, number):
+        if self.sender not in (None, number) or bytes.fromhex(octets)[18:19] != bytes([wire.UPDATE]):
             self.rest()
         self.sender = number
         asked = wire.asks_again(bytes.fromhex(octets))

@@ -122,6 +122,10 @@ class Worker:
             self.process.kill()
             self.process.join()
         for part in ('router', 'peers'):
+            namespaces.empty('%s-%s' % (self.name, part))
             namespaces.delete('%s-%s' % (self.name, part))
-        for folder in glob.glob(os.path.join(tempfile.gettempdir(), self.name + '-*')):
-            shutil.rmtree(folder, ignore_errors=True)
+        for left in glob.glob(os.path.join(tempfile.gettempdir(), self.name + '[-.]*')):
+            if os.path.isdir(left):
+                shutil.rmtree(left, ignore_errors=True)
+            else:
+                os.unlink(left)

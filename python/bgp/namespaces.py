@@ -42,6 +42,15 @@ def delete(name):
     ip('netns del ' + name, check=False)
 
 
+def empty(name):
+    """Ends all processes that are in a namespace."""
+    for pid in ip('netns pids ' + name, check=False).split():
+        try:
+            os.kill(int(pid), signal.SIGKILL)
+        except OSError:
+            pass
+
+
 def enter(name):
     """This process goes into a namespace."""
     with open('/run/netns/' + name, encoding='ascii') as file:
@@ -69,7 +78,7 @@ def seconds(pids):
 
 class Started:
     """A program that was started in a namespace, and the processes that belong to it. What it says goes to a file. It gets SIGKILL when
-    this process ends, however that ends."""
+    this process ends, however that ends, unless it has changed its user since, as FRR's daemons do."""
 
     def __init__(self, namespace, words, said=os.devnull):
         with open(said, 'ab') as file:
