@@ -1,16 +1,27 @@
 -- Text that is kept with octets in it, and grows.
-use Rattle.std.proofs.Common.{◌≡◌, ◌≤◌, ◌+◌, ℕ, List, [], ◌∷◌, ◌++◌, length, take, drop, refl, sym, ap, ◌∙◌, subst, arith, append_assoc, length-append, length-drop}
+use Rattle.std.proofs.Common.{◌≡◌, ◌≤◌, ◌+◌, ◌/◌, ◌%◌, ℕ, List, [], ◌∷◌, ◌++◌, length, take, drop, slice_index, refl, sym, ap, ◌∙◌, subst, arith, append_assoc, length-append, length-drop}
 use Rattle.std.proofs.lemmas.List.{append-nil, take_all, drop_all, take-append-le, drop-append-le}
 use Rattle.std.proofs.Math.Seq.{take-append_seam, drop-append_seam}
-use Rattle.hex.specs.Hex.{encode_lower}
+use Rattle.hex.specs.Hex.{encode_lower, encode_with}
 use Rattle.journal_text.specs.declared.kept.Span.{Span}
 use Rattle.journal_text.specs.declared.kept.Text.{Text}
+use Rattle.journal_text.specs.declared.kept.TheConstants.{MARKER}
 use Rattle.journal_text.specs.Texts.{words_line}
 use Rattle.journal_text.specs.Kept.{kept_text, covered, chars, IsWhole, IsAppended}
 
+-- the digits of octets one behind another
+pub digits_join : (t xs ys : List ℕ) → encode_with t (xs ++ ys) ≡ encode_with t xs ++ encode_with t ys
+unfolding encode_with
+digits_join t [] ys = refl
+digits_join t (b ∷ xs) ys = ap (λ (r : List ℕ). slice_index t (b / 16) ∷ slice_index t (b % 16) ∷ r) (digits_join t xs ys)
+
+-- what is appended to the last of four texts
+append_fourth : (a b c d more : List ℕ) → a ++ (b ++ (c ++ (d ++ more))) ≡ (a ++ (b ++ (c ++ d))) ++ more
+append_fourth a b c d more = simp append_assoc
+
 -- octets behind a content leave its spans where they are
 span_stays : (s : Span) (spans : List Span) (content more : List ℕ) → s.before + s.count ≤ length content
-    → kept_text (s ∷ spans) (content ++ more) ≡ take s.before content ++ (encode_lower (take s.count (drop s.before content)) ++ kept_text spans (drop s.count (drop s.before content) ++ more))
+    → kept_text (s ∷ spans) (content ++ more) ≡ take s.before content ++ (encode_lower MARKER.now ++ (encode_lower (take s.count (drop s.before content)) ++ kept_text spans (drop s.count (drop s.before content) ++ more)))
 span_stays s spans content more fits =
     let inner : s.count ≤ length (drop s.before content) = omega (arith, length-drop {A = ℕ}, fits) in
     rw (take-append-le s.before content more (omega (arith, fits)), drop-append-le s.before content more (omega (arith, fits)), take-append-le s.count (drop s.before content) more inner, drop-append-le s.count (drop s.before content) more inner) refl
@@ -23,21 +34,25 @@ chars_more (s ∷ spans) content more fits =
     let here = take s.before content in
     let digits = encode_lower (take s.count (drop s.before content)) in
     span_stays s spans content more (omega (arith, fits))
-    ∙ (ap (λ t. here ++ (digits ++ t)) (chars_more spans rest more (omega (arith, length-drop {A = ℕ}, fits)))
-    ∙ (ap (λ t. here ++ t) (sym (append_assoc digits (kept_text spans rest) more)) ∙ sym (append_assoc here (digits ++ kept_text spans rest) more)))
+    ∙ (ap (λ t. here ++ (encode_lower MARKER.now ++ (digits ++ t))) (chars_more spans rest more (omega (arith, length-drop {A = ℕ}, fits)))
+    ∙ append_fourth here (encode_lower MARKER.now) digits (kept_text spans rest) more)
 
--- octets that are appended, and their span
-pub octets_more : (spans : List Span) (s : Span) (content octets : List ℕ) → covered spans + s.before ≡ length content → s.count ≡ length octets → kept_text (spans ++ s ∷ []) (content ++ octets) ≡ kept_text spans content ++ encode_lower octets
-octets_more [] s content octets before count =
+-- octets that are appended, and their span: the digits of the marker are there without it
+octets_added : (spans : List Span) (s : Span) (content octets : List ℕ) → covered spans + s.before ≡ length content → s.count ≡ length octets → kept_text (spans ++ s ∷ []) (content ++ octets) ≡ kept_text spans content ++ (encode_lower MARKER.now ++ encode_lower octets)
+octets_added [] s content octets before count =
     let all : s.before ≡ length content = omega (arith, before) in
-    rw (all, count, take-append_seam content octets, drop-append_seam content octets, take_all (length octets) octets (omega arith), drop_all (length octets) octets (omega arith)) (ap (λ t. content ++ t) (append-nil (encode_lower octets)))
-octets_more (t ∷ spans) s content octets before count =
+    rw (all, count, take-append_seam content octets, drop-append_seam content octets, take_all (length octets) octets (omega arith), drop_all (length octets) octets (omega arith)) (ap (λ t. content ++ (encode_lower MARKER.now ++ t)) (append-nil (encode_lower octets)))
+octets_added (t ∷ spans) s content octets before count =
     let rest = drop t.count (drop t.before content) in
     let here = take t.before content in
     let digits = encode_lower (take t.count (drop t.before content)) in
     span_stays t (spans ++ s ∷ []) content octets (omega (arith, before))
-    ∙ (ap (λ x. here ++ (digits ++ x)) (octets_more spans s rest octets (omega (arith, length-drop {A = ℕ}, before)) count)
-    ∙ (ap (λ x. here ++ x) (sym (append_assoc digits (kept_text spans rest) (encode_lower octets))) ∙ sym (append_assoc here (digits ++ kept_text spans rest) (encode_lower octets))))
+    ∙ (ap (λ x. here ++ (encode_lower MARKER.now ++ (digits ++ x))) (octets_added spans s rest octets (omega (arith, length-drop {A = ℕ}, before)) count)
+    ∙ append_fourth here (encode_lower MARKER.now) digits (kept_text spans rest) (encode_lower MARKER.now ++ encode_lower octets))
+
+-- a message of which the octets behind the marker are appended, and their span
+pub octets_more : (spans : List Span) (s : Span) (content octets : List ℕ) → covered spans + s.before ≡ length content → s.count ≡ length octets → kept_text (spans ++ s ∷ []) (content ++ octets) ≡ kept_text spans content ++ encode_lower (MARKER.now ++ octets)
+octets_more spans s content octets before count = octets_added spans s content octets before count ∙ ap (λ t. kept_text spans content ++ t) (sym (digits_join _ MARKER.now octets))
 
 pub covered_more : (spans : List Span) (s : Span) → covered (spans ++ s ∷ []) ≡ covered spans + (s.before + s.count)
 covered_more [] s = omega arith

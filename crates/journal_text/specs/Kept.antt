@@ -3,13 +3,14 @@ use Rattle.std.specs.Prelude.{◌≡◌, ◌≤◌, ◌+◌, ℕ, List, [], ◌�
 use Rattle.hex.specs.Hex.{encode_lower}
 use Rattle.journal_text.specs.declared.kept.Span.{Span}
 use Rattle.journal_text.specs.declared.kept.Text.{Text}
+use Rattle.journal_text.specs.declared.kept.TheConstants.{MARKER}
 
--- the text of a content: of each span its characters, and behind them the hex digits of its octets; behind the last span
--- characters alone
+-- the text of a content: of each span its characters, and behind them the hex digits of the marker and of its octets; behind
+-- the last span characters alone
 abbrev pub kept_text : List Span → List ℕ → List ℕ
 kept_text [] content = content
 kept_text (s ∷ spans) content =
-    take s.before content ++ (encode_lower (take s.count (drop s.before content)) ++ kept_text spans (drop s.count (drop s.before content)))
+    take s.before content ++ (encode_lower MARKER.now ++ (encode_lower (take s.count (drop s.before content)) ++ kept_text spans (drop s.count (drop s.before content))))
 
 -- how much of a content spans take
 abbrev pub covered : List Span → ℕ

@@ -1,4 +1,5 @@
-//! Text that is kept with octets among its characters: of these octets the hex digits are made when the text is read.
+//! Text that is kept with octets among its characters: of these octets the hex digits are made when the text is read. Each
+//! message begins with the same marker, of which nothing is kept.
 
 ghost use Rattle.std.specs.Prelude.{◌≡◌, ◌++◌, ◌∷◌, ◌-◌, [], OnOk, IfSome, length};
 ghost use Rattle.std.specs.Fmt.{decimal};
@@ -12,31 +13,39 @@ use addr4::{Addr, Memory, Prefix, Texts, push_hex};
 use bgp_attr::SharedAttrs;
 use std::alloc::Global;
 
-/// Characters, and octets behind them.
+/// What each message begins with: 16 octets of ones (RFC 4271, 4.1).
+pub(crate) const MARKER: &[u8] = &[0xff; 16];
+
+/// Characters, and a message behind them, of which the octets behind the marker are kept.
 #[derive(Clone, Copy)]
 pub(crate) struct Span {
-    pub(crate) before: u32,
-    pub(crate) count: u32,
+    /// How many characters stand before the message, up to 65,535.
+    pub(crate) before: u16,
+    /// How many octets the message has behind its marker, up to 65,535.
+    pub(crate) count: u16,
 }
 
-/// Text, with octets among its characters whose hex digits aren't made yet: they take half of the room.
+/// Text, with messages among its characters whose hex digits aren't made yet: their octets take half of the room, and their
+/// markers none.
 #[derive(Drop)]
 pub(crate) struct Text {
     /// Characters and octets, one behind the other.
     pub(crate) content: Vec<u8>,
-    /// Where the octets stand. Behind the last span there are characters alone.
+    /// Where the messages stand. Behind the last span there are characters alone.
     pub(crate) spans: Vec<Span>,
     /// How much of the content the spans take.
     end: usize,
 }
 
-/// None where one of the numbers is 2^32 or more.
-fn span_of(before: usize, count: usize) -> Option<Span>
-    ensures { IfSome result (λ span. (span.before ≡ before) × (span.count ≡ count)) }
+/// The span of a message behind so many characters, and what is kept of its octets. None where they don't begin with the
+/// marker, or one of the numbers is 2^16 or more.
+fn span_of<'a>(before: usize, octets: &'a [u8]) -> Option<(Span, &'a [u8])>
+    ensures { IfSome result (λ found. (found.0.before ≡ before) × (found.0.count ≡ length found.1.now) × (octets.now ≡ MARKER.now ++ found.1.now)) }
 {
-    let before = u32::try_from(before).ok()?;
-    let count = u32::try_from(count).ok()?;
-    Some(Span { before, count })
+    let kept = octets.strip_prefix(MARKER)?;
+    let before = u16::try_from(before).ok()?;
+    let count = u16::try_from(kept.len()).ok()?;
+    Some((Span { before, count }, kept))
 }
 
 impl Text {
@@ -62,12 +71,12 @@ impl Text {
         self.end = 0;
     }
 
-    /// Appends the octets of a span.
+    /// Appends the message of a span, of which these octets stand behind the marker.
     fn push_span(&mut self, span: Span, octets: &[u8]) -> Result<(), Memory>
         requires whole { IsWhole self.old }
         requires before { span.before ≡ length self.old.content.items - self.old.end }
         requires count { span.count ≡ length octets.now }
-        ensures { OnOk result (IsAppended (encode_lower octets.now) self.old self.new) }
+        ensures { OnOk result (IsAppended (encode_lower (MARKER.now ++ octets.now)) self.old self.new) }
     {
         self.spans.push(span)?;
         self.content.extend_from_slice(octets)?;
@@ -80,8 +89,8 @@ impl Text {
         requires { IsWhole self.old }
         ensures { OnOk result (IsAppended (encode_lower octets.now) self.old self.new) }
     {
-        match span_of(self.content.len() - self.end, octets.len()) {
-            Some(span) => self.push_span(span, octets),
+        match span_of(self.content.len() - self.end, octets) {
+            Some((span, kept)) => self.push_span(span, kept),
             None => push_hex(&mut self.content, octets),
         }
     }

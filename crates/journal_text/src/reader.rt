@@ -1,21 +1,25 @@
 //! Reading a text whose hex digits aren't made yet.
 
-ghost use Rattle.std.specs.Prelude.{◌≡◌, ◌++◌, ◌+◌, ◌*◌, ◌<◌, ◌≤◌, [], length, take};
+ghost use Rattle.std.specs.Prelude.{◌≡◌, ◌++◌, ◌*◌, ◌<◌, ◌≤◌, [], length, take};
 ghost use Rattle.hex.specs.Hex.{encode_lower};
 ghost use Rattle.journal_text.specs.Kept.{covered, kept_text};
 ghost use Rattle.journal_text.specs.Reading.{left};
 
-use crate::kept::Span;
+use crate::kept::{MARKER, Span};
 use std::cmp::min;
 use std::marker::Model;
 
 /// What is left to be read of a text. Its hex digits are made as they are read; that takes no memory.
 #[derive(Drop)]
 pub struct TextReader<'a> {
-    /// What is left: first so many characters, then so many octets, and behind them what the spans say.
+    /// What is read next, as it is.
+    characters: &'a [u8],
+    /// Octets of a message's marker (RFC 4271, 4.1), of which the hex digits follow.
+    marker: &'a [u8],
+    /// Octets of the message behind it, of which the hex digits follow.
+    octets: &'a [u8],
+    /// What stands behind them, as the spans say.
     content: &'a [u8],
-    before: usize,
-    count: usize,
     spans: &'a [Span],
 }
 
@@ -25,9 +29,9 @@ impl<'a> Model for TextReader<'a> {
 
     ghost Value = { List ℕ };
 
-    ghost view = { λ r. left r.before r.count r.spans.now r.content.now };
+    ghost view = { λ r. left r.characters.now r.marker.now r.octets.now r.spans.now r.content.now };
 
-    ghost invariant = { λ r. IsReading r.before r.count r.spans.now r.content.now };
+    ghost invariant = { λ r. IsReading r.characters.now r.marker.now r.octets.now r.spans.now r.content.now };
 }
 
 /// Copies a front of a text, and answers how much: as much as there is room for.
@@ -63,39 +67,47 @@ pub(crate) fn read_spans<'a>(content: &'a [u8], spans: &'a [Span]) -> TextReader
     requires { covered spans.now ≤ length content.now }
     ensures { result ≡ kept_text spans.now content.now }
 {
-    let mut rest = spans;
-    while !rest.is_empty() {
-        let span = rest[0];
-        rest = &rest[1..];
-        if span.before > 0 || span.count > 0 {
-            return TextReader {
+    match spans.split_first() {
+        Some((span, spans)) => {
+            let (characters, behind) = content.split_at(span.before as usize);
+            let (octets, content) = behind.split_at(span.count as usize);
+            TextReader {
+                characters,
+                marker: MARKER,
+                octets,
                 content,
-                before: span.before as usize,
-                count: span.count as usize,
-                spans: rest,
-            };
+                spans,
+            }
         }
-    }
-    TextReader {
-        content,
-        before: content.len(),
-        count: 0,
-        spans: rest,
+        None => TextReader {
+            characters: content,
+            marker: b"",
+            octets: b"",
+            content: b"",
+            spans,
+        },
     }
 }
 
-/// A reader of so many characters, then so many octets, and what spans say behind them.
-fn read_on<'a>(content: &'a [u8], before: usize, count: usize, spans: &'a [Span]) -> TextReader<'a>
-    requires { before + count + covered spans.now ≤ length content.now }
-    ensures { result ≡ left before count spans.now content.now }
+/// A reader of characters, then the digits of a marker and of octets, and what spans say of a content behind them.
+fn read_on<'a>(
+    characters: &'a [u8],
+    marker: &'a [u8],
+    octets: &'a [u8],
+    content: &'a [u8],
+    spans: &'a [Span],
+) -> TextReader<'a>
+    requires { covered spans.now ≤ length content.now }
+    ensures { result ≡ left characters.now marker.now octets.now spans.now content.now }
 {
-    if before == 0 && count == 0 {
+    if characters.is_empty() && marker.is_empty() && octets.is_empty() {
         return read_spans(content, spans);
     }
     TextReader {
+        characters,
+        marker,
+        octets,
         content,
-        before,
-        count,
         spans,
     }
 }
@@ -108,15 +120,20 @@ impl<'a> TextReader<'a> {
         ensures text { self.old ≡ take result room.new ++ self.new }
         ensures some { 2 ≤ length room.old → result ≡ 0 → self.old ≡ [] }
     {
-        if self.before > 0 {
-            let read = copy_front(room, &self.content[..self.before]);
-            let rest = &self.content[read..];
-            *self = read_on(rest, self.before - read, self.count, self.spans);
+        if !self.characters.is_empty() {
+            let read = copy_front(room, self.characters);
+            let (_, rest) = self.characters.split_at(read);
+            *self = read_on(rest, self.marker, self.octets, self.content, self.spans);
             read
+        } else if !self.marker.is_empty() {
+            let read = write_digits(room, self.marker);
+            let (_, rest) = self.marker.split_at(read);
+            *self = read_on(b"", rest, self.octets, self.content, self.spans);
+            2 * read
         } else {
-            let read = write_digits(room, &self.content[..self.count]);
-            let rest = &self.content[read..];
-            *self = read_on(rest, 0, self.count - read, self.spans);
+            let read = write_digits(room, self.octets);
+            let (_, rest) = self.octets.split_at(read);
+            *self = read_on(b"", b"", rest, self.content, self.spans);
             2 * read
         }
     }

@@ -1,7 +1,7 @@
 //! Calls of single crates that no event file makes by themselves: texts in and outside the languages, changes that are applied
 //! to a map, the nodes of a table, tables and lookups of IPv6, a chain and exits of IPv6, a queue that is prepared for lookups,
-//! what a route becomes on its way to a peer, streams that fail, records of captures, and the router's own turns. What event files
-//! give is shown by the stories of the crate story_tests.
+//! what a route becomes on its way to a peer, lines of messages that are read in pieces, streams that fail, records of captures,
+//! and the router's own turns. What event files give is shown by the stories of the crate story_tests.
 //!
 //! The crates that these tests are of have none of their own: a crate with tests is proved once more with them.
 #![tactic(auto)]
@@ -30,6 +30,8 @@ mod file_events;
 mod file_lines;
 #[cfg(test)]
 mod file_said;
+#[cfg(test)]
+mod messages;
 #[cfg(test)]
 mod prefixes;
 #[cfg(test)]
