@@ -27,8 +27,9 @@ import tempfile
 TOP = os.path.join(os.path.dirname(os.path.abspath(__file__)), '..')
 CRATE = os.path.join(TOP, 'crates', 'replay_main')
 BUILT = os.path.join(CRATE, 'out', 'replay_main')
-STORIES = ['return', 'to_the_forwarding_table', 'own_routes_go_out', 'redistribution_is_edited', 'moved_twice', 'best_in_walks',
-           'each_step', 'seventeenth_loss', 'seventeenth_protocol_loss']
+STORIES = ['sessions/return', 'to_begin_with/to_the_forwarding_table', 'this_speakers_own/own_routes_go_out',
+           'this_speakers_own/redistribution_is_edited', 'next_hops/moved_twice', 'decision/best_in_walks', 'decision/each_step',
+           'sessions/seventeenth_loss', 'interior_routes/seventeenth_protocol_loss']
 MEMORY, LINE, READ = 6, 16384, 65536
 ENOUGH = 3  # so many runs in a row that end as the whole one say that no request is left
 

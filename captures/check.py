@@ -4,7 +4,7 @@
 captures/kept/DAEMON/ has what a daemon wrote (make.py), `all.mrt`, or a table dump `dump.mrt` with `behind.mrt`, and `table.json`, the routes that it
 showed at the end. Here
 
-  1. what prepare.py makes of them has to be the story's capture in examples/, octet for octet
+  1. what prepare.py makes of them has to be the story's capture in examples/captures/, octet for octet
   2. the rows of each peer's `filt.K` behind the story's output have to be the routes that the daemon showed
 
 and the gate's stories say that the program makes the event file of that capture, and the output of that. The status is 1 where something differs.
@@ -16,7 +16,7 @@ import sys
 sys.dont_write_bytecode = True
 HERE = os.path.dirname(os.path.abspath(__file__))
 KEPT = os.path.join(HERE, 'kept')
-EXAMPLES = os.path.join(HERE, '..', 'examples')
+EXAMPLES = os.path.join(HERE, '..', 'examples', 'captures')
 for folder in ('reasons', 'python'):
     sys.path.insert(0, os.path.join(HERE, '..', folder))
 import preparation

@@ -12,7 +12,7 @@ How many differ is said of each peer, and the first of them; at the end of all a
 of state (GoBGP), a capture lacks the ends of sessions, and the peers whose sessions ended may differ. Then two captures more are compared, in which
 nothing may: `told`, the whole one with a change of state put in where each session ended, and `later`, a table dump written at the end.
 
-`--kept` writes captures/kept/ anew, with the stories in examples/: small captures with the daemon's own table, so
+`--kept` writes captures/kept/ anew, with the stories in examples/captures/: small captures with the daemon's own table, so
 that captures/check.py compares without a daemon. `--keep FOLDER` keeps all files.
 
 Statuses: 0; 1 where something differs; 2 where nothing could be compared. Needs root, `ip netns`, and Debian's `bird2`, `frr`, `openbgpd`, `gobgpd`;

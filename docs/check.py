@@ -1,8 +1,8 @@
 #!/usr/bin/env python3
 """Compares the documents with the repository: docs/check.py. It is the first part of the gate (.ci/run).
 
-The examples in README.md, CONTRIBUTING.md, CHANGELOG.md and docs/: a fence ```text examples/NAME.EXT shows lines of that file
-in their order; a line `..` stands for any number of lines that are left out. Each file of examples/ is a story, which the gate
+The examples in README.md, CONTRIBUTING.md, CHANGELOG.md and docs/: a fence ```text examples/FOLDER/NAME.EXT shows lines of that file
+in their order; a line `..` stands for any number of lines that are left out. Each file in the folders of examples/ is a story, which the gate
 runs (crates/story_tests). So no output stands in a document that the program didn't print.
 
 Also refused there: lines of output in a block that names no file, lines of more than 100 columns, and what is said to be true

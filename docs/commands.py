@@ -37,11 +37,11 @@ NOT_RUN = [
 NEEDS_PROGRAM = re.compile(r'(^|[\s(|;])replay (run|mrt|check|gen)\b|' + re.escape(BUILT)
                            + r'|reasons/(why|told|refused|agree)\.py|beside/(run|all)\.py|live/\w+\.py|view/check\.py')
 SAMPLES = {
-    'bgp.mrt': 'examples/captured_by_bird.mrt',
+    'bgp.mrt': 'examples/to_begin_with/captured_by_bird.mrt',
     'rib.20260101.0000.bz2': 'captures/kept/bird/dump.mrt',
-    'updates.20260101.0000.bz2': 'examples/captured_by_frr.mrt',
+    'updates.20260101.0000.bz2': 'examples/captures/captured_by_frr.mrt',
     'table.mrt': 'captures/kept/bird/dump.mrt',
-    'gobgp.mrt': 'examples/captured_by_frr.mrt',
+    'gobgp.mrt': 'examples/captures/captured_by_frr.mrt',
     'router.bmp': 'captures/monitored/stream.bmp',
 }
 SECONDS = 3600

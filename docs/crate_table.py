@@ -133,7 +133,7 @@ COUNTS = [
     ('docs/PROOFS.md', r'`wrong-bodies/run.py` tries (\d+) more', lambda: str(counted('wrong-bodies/*/*.edit'))),
     ('docs/ARCHITECTURE.md', r'\b(\d+) crates', lambda: str(len(dependencies()))),
     ('docs/DECISIONS.md', CHAIN, lambda: NUMBERS[len(longest(dependencies()))]),
-    ('docs/EXAMPLES.md', r': (\d+) stories, by topic', lambda: str(counted('crates/story_tests/data/stories/*.out'))),
+    ('docs/EXAMPLES.md', r': (\d+) stories, by topic', lambda: str(counted('crates/story_tests/data/stories/*/*.out'))),
     ('CONTRIBUTING.md', r'\b(\d+) crates', lambda: str(len(dependencies()))),
 ]
 

@@ -11,7 +11,7 @@ Outside of fences, in README.md, CONTRIBUTING.md, docs/*.md and bench/README.md:
 - `crate::function` is a function of that crate, `Type::function` one of a crate that declares the type, `Type::Variant` a word there
 - another word in backticks that has a `_`, or capitals and small letters, stands somewhere in the sources
 - `docs/PAGE.md, "Title"` names a heading of that page
-- words in backticks behind `story` or `stories` are stories, that is, files of examples/
+- words in backticks behind `story` or `stories` are stories, that is, files in the folders of examples/
 """
 import glob
 import os
@@ -133,7 +133,7 @@ def missing_sections(flat):
 def missing_stories(flat):
     for found in STORY.finditer(flat):
         yield from ((found.start(), 'there is no story %s' % it) for it in re.findall(r'\w+', found[1])
-                    if not exists('examples', it + '.out'))
+                    if not exists('examples', '*', it + '.out'))
 
 
 def faults():

@@ -35,7 +35,7 @@ PARTS = {
 }
 BESIDE = [('documents', r'`%s\b', '*.md', '*/*.md'), ('scripts', r'[\'"]%s\b', '*/*.py', '*/*/*.py', '*/*.js'),
           ('tests', r'(?<![\w.])%s(?=[ .\\"])', 'crates/*_tests/src/*.rt'),
-          ('stories', r'^(?!#)(?:.* )?%s(?=[. ]|$)', 'examples/*.events', 'examples/*.out')]
+          ('stories', r'^(?!#)(?:.* )?%s(?=[. ]|$)', 'examples/*/*.events', 'examples/*/*.out')]
 ROOMS = {'src': 'source', 'specs': 'definitions', 'proofs': 'proofs'}
 CODE = ['crates/*/src/**/*.rt', 'crates/*/specs/**/*.antt', 'crates/*/proofs/**/*.antt']
 USE = re.compile(r'use Rattle\.([\w.-]+?)(?: as (\w+)|\.\{([^}]*)\})')

@@ -6,6 +6,7 @@ departs from the language.
 """
 import collections
 import contextlib
+import glob
 import io
 import os
 import re
@@ -29,7 +30,14 @@ EXAMPLES = os.path.join(HERE, '..', 'examples')
 
 
 def example(name):
-    return os.path.join(EXAMPLES, name)
+    """The path of a story's file, which stands in the folder of its topic."""
+    [path] = glob.glob(os.path.join(EXAMPLES, '*', name))
+    return path
+
+
+def stories():
+    """The names of all stories that are event files."""
+    return sorted(os.path.basename(path)[:-len('.events')] for path in glob.glob(os.path.join(EXAMPLES, '*', '*.events')))
 
 
 def run(script, *words, text=''):
@@ -103,9 +111,8 @@ no route there: peers 2, 3, 4, 5, 6, 7, 8, 9, 10, 11, 12, 13, 14, 15
         self.assertEqual(self.asked('10.9.0.0/16', name='path_65536')[1], 3)
 
     def test_the_steps_give_what_stands_on_best(self):
-        names = [name[:-len('.out')] for name in sorted(os.listdir(EXAMPLES)) if name.endswith('.out') and os.path.exists(example(name[:-4] + '.events'))]
         prefixes = collections.Counter()
-        for name in names:
+        for name in stories():
             with open(example(name + '.out'), encoding='ascii') as file:
                 found = tables.Tables().take_all(line.rstrip('\n') for line in file)
             if found.refusal or 'best' not in found.links:
@@ -333,12 +340,11 @@ class Refused(unittest.TestCase):
 
     def test_all_refused_stories_are_there(self):
         found = set()
-        for name in os.listdir(EXAMPLES):
-            if name.endswith('.out') and os.path.exists(example(name[:-4] + '.events')):
-                with open(example(name), encoding='ascii') as file:
-                    last = file.read().rstrip('\n').split('\n')[-1]
-                if last.startswith('refused '):
-                    found.add(name[:-len('.out')])
+        for name in stories():
+            with open(example(name + '.out'), encoding='ascii') as file:
+                last = file.read().rstrip('\n').split('\n')[-1]
+            if last.startswith('refused '):
+                found.add(name)
         self.assertEqual(found, set(self.FAULTS))
 
     def test_nothing_is_refused(self):
@@ -358,9 +364,9 @@ class Refused(unittest.TestCase):
     def test_lines_of_stories_are_in_the_grammar(self):
         """Each line of each story that isn't refused."""
         known = grammar.forms(grammar.page())
-        for name in sorted(os.listdir(EXAMPLES)):
-            if name.endswith('.events') and name[:-len('.events')] not in self.FAULTS:
-                lines = [line.split() for line in tables.lines_of(example(name))]
+        for name in stories():
+            if name not in self.FAULTS:
+                lines = [line.split() for line in tables.lines_of(example(name + '.events'))]
                 for words in lines:
                     if words and not words[0].startswith('#'):
                         self.assertIsNone(grammar.fault(words, known, ['as4'] in lines), '%s: %s' % (name, ' '.join(words)[:80]))

@@ -38,7 +38,7 @@ BROWSERS = {'chromium': (browser.find, browser.Browser), 'firefox': (firefox.fin
 WINDOWS = ((390, 844, 2), (768, 1024, 1), (640, 400, 2), (1280, 800, 1), (1920, 1080, 1), (2560, 1440, 1))
 STORIES = ('two_peers', 'loss', 'comes_in_the_middle', 'lost_under_redistribution', 'sixteen_losses')
 BOTH = ('both_families', 'second_losses')  # journals of two networks
-JOURNALS = (os.path.join(TOP, 'examples'), os.path.join(HERE, 'journals'))
+JOURNALS = (*glob.glob(os.path.join(TOP, 'examples', '*')), os.path.join(HERE, 'journals'))  # a story stands in the folder of its topic
 
 # What the page shows, read from its elements; put into the page, so that many questions cost one call.
 PROBE = '''var probe = {

@@ -9,10 +9,10 @@ FOLDER = os.path.join(HERE, '..', 'docs', 'pictures')
 
 # Name, journal, the first line with these words, the chosen link, width, height, dark or not, the filter.
 PICTURES = [
-    ('view-splice', 'two_peers', 'b peer.1.1', 'adv.2.1', 1280, 720, False, ''),
-    ('view-fall', 'two_peers', '- filt.1 10.0.0.0/8', 'best', 1280, 720, False, ''),
-    ('view-table', 'comes_in_the_middle', '= adv.2.1', 'adv.2.1', 1280, 760, True, ''),
-    ('view-filter', 'comes_in_the_middle', '+ ext', 'fib', 1280, 760, False, '10.1.0.0/16'),
+    ('view-splice', 'to_begin_with/two_peers', 'b peer.1.1', 'adv.2.1', 1280, 720, False, ''),
+    ('view-fall', 'to_begin_with/two_peers', '- filt.1 10.0.0.0/8', 'best', 1280, 720, False, ''),
+    ('view-table', 'sessions/comes_in_the_middle', '= adv.2.1', 'adv.2.1', 1280, 760, True, ''),
+    ('view-filter', 'sessions/comes_in_the_middle', '+ ext', 'fib', 1280, 760, False, '10.1.0.0/16'),
 ]
 
 

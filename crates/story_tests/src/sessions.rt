@@ -2,6 +2,8 @@
 //!
 //! What a program of another hand prints for its 131,073 lines was compared with the output that is made here.
 
+use crate::answer::Pace;
+use crate::fault::{Fault, fault_of};
 use std::alloc::{AllocError, Global};
 
 /// The most sessions that a peer may have.
@@ -40,7 +42,7 @@ e outf.1.#\n\
 e adv.1.#\n";
 
 /// The events: all sessions that there may be, and one more.
-pub fn events_of_sessions(alloc: Global) -> Result<String, AllocError> {
+fn events_of_sessions(alloc: Global) -> Result<String, AllocError> {
     let sessions = "up 1\ndown 1\n".repeat(alloc, MOST)?;
     format!(in alloc; "{DECLARED}{sessions}up 1\n")
 }
@@ -53,11 +55,32 @@ fn push_session(alloc: Global, number: usize, output: &mut String) -> Result<(),
 }
 
 /// Their output: of each session, links that begin and end; the one more is refused.
-pub fn output_of_sessions(alloc: Global) -> Result<String, AllocError> {
+fn output_of_sessions(alloc: Global) -> Result<String, AllocError> {
     let mut output = String::from_str(alloc, BEGUN)?;
     for number in 1..=MOST {
         push_session(alloc, number, &mut output)?;
     }
     output.push_str("refused 131073 E6\n")?;
     Ok(output)
+}
+
+/// What is wrong with the answers to the sessions of a peer, if anything, up to the last that it may have.
+pub fn fault_of_sessions(alloc: Global) -> Result<Option<Fault>, AllocError> {
+    let events = events_of_sessions(alloc)?;
+    let wanted = output_of_sessions(alloc)?;
+    let run = fault_of(
+        alloc,
+        "replay run",
+        Pace::Whole,
+        events.as_bytes(),
+        wanted.as_str(),
+    )?;
+    let check = fault_of(
+        alloc,
+        "replay check",
+        Pace::Whole,
+        wanted.as_bytes(),
+        "lawful\n",
+    )?;
+    Ok(run.or(check))
 }
