@@ -73,7 +73,8 @@ pub(crate) fn exact<V, F: Family>(
     }
 }
 
-// The leaf of an address and a length, under the link to the address's first.
+// The leaf of an address and a length, under the link to the address's first. Most addresses have that one alone, so it is looked at
+// before any search.
 pub(crate) fn find<V, F: Family>(
     leaves: &Slab<Node<V, Prefix<F>>>,
     link: Option<usize>,
@@ -83,6 +84,14 @@ pub(crate) fn find<V, F: Family>(
     requires next { HasNext (prefix_in leaves.now) link 0 }
     ensures { (a : ℕ) → IsNextOf (prefix_in leaves.now) a 0 link → IsLeafOf (prefix_in leaves.now) (record { address = a; length = length }) result }
 {
+    let first = match link {
+        None => return None,
+        Some(first) => first,
+    };
+    let node = &leaves[first];
+    if node.prefix.length() == length {
+        return Some(first);
+    }
     exact(leaves, seek(leaves, link, length), length)
 }
 
