@@ -1,6 +1,6 @@
 -- An address of 32 bits as one of 128, whose bits come first.
 use Rattle.std.proofs.Common.{◌≡◌, ℕ, ◌+◌, ◌-◌, ◌*◌, ◌/◌, ◌%◌, ◌^◌, ◌<◌, ◌≤◌, sym, ap, subst, ◌∙◌, arith}
-use Rattle.std.proofs.lemmas.Nat.{shl-shr, shr-shr, pow-add, pow_below, pow_pos, mod-pow-add, mod-mul-add}
+use Rattle.std.proofs.lemmas.Nat.{shl-shr, shr-shr, pow-add, pow_pos, mod-pow-add, mod-mul-add}
 use Rattle.addr4.proofs.BlockLemmas.{finer, size_splits, size_pos, block_ends}
 use Rattle.addr4.specs.Blocks.{width, size_of_length, masked_to, digit_at, Shared}
 use Rattle.addr4.specs.Families.{in_front, in_front_back, IsIpv4, IsIpv4Prefix}

@@ -6,5 +6,7 @@ pub mod NumberLemmas
 pub mod NumberBack
 pub mod PartLemmas
 mod DigitLemmas
+pub mod LastLemmas
+mod FirstLemmas
 pub mod FrontLemmas
 pub mod SharedLemmas

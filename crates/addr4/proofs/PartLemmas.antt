@@ -6,7 +6,7 @@ use Rattle.std.proofs.lemmas.List.Elements.{All-from_get_or}
 use Rattle.std.proofs.lemmas.List.Splits.{slice_split_at, slice_split_none, length-slice_split}
 use Rattle.std.specs.List.{All}
 use Rattle.memchr.specs.Find.{IsFirstByte, Nowhere, Passes, is_byte}
-use Rattle.addr4.specs.Texts.{parts, id_from_parts, prefix_from_parts}
+use Rattle.addr4.specs.Texts.{parts}
 
 cut_at : (text : List ℕ) (i : ℕ) → i < length text → text ≡ take i text ++ (get_or text i 0 ∷ drop (i + 1) text)
 cut_at text i below = sym (take-append-drop i text) ∙ ap (λ r. take i text ++ r) (drop_more text i 0 below)
@@ -43,12 +43,9 @@ none_in_both test text near more front behind k low high = elim (cases_lt k near
 ]
 
 -- the first such byte, where none is among the first octets
-pub first_behind : (test : ℕ → Bool) (text : List ℕ) (near i : ℕ) (place : Option ℕ) → near ≤ length text → Nowhere (Passes test text) 0 i → length (take near text) ≤ i → IsFirstByte test (take (length text - near) (drop near text)) place → IsFirstByte test text (option_map (λ at. near + at) place)
-first_behind test text near i place within front passed found = in_whole place (subst (λ far. IsFirstByte test far place) rest found)
+pub first_behind : (test : ℕ → Bool) (text : List ℕ) (near : ℕ) (place : Option ℕ) → near ≤ length text → Nowhere (Passes test text) 0 near → IsFirstByte test (take (length text - near) (drop near text)) place → IsFirstByte test text (option_map (λ at. near + at) place)
+first_behind test text near place within none found = in_whole place (subst (λ far. IsFirstByte test far place) rest found)
   where
-    none : Nowhere (Passes test text) 0 near
-    none k low high = front k low (omega (arith, within, passed, high, length-take near text))
-
     rest : take (length text - near) (drop near text) ≡ drop near text
     rest = take_all (length text - near) (drop near text) (omega (arith, length-drop near text))
 
@@ -67,19 +64,3 @@ first_behind test text near i place within front passed found = in_whole place (
 
 pub parts_some : (separator : ℕ) (text : List ℕ) → 0 < length (parts separator text)
 parts_some separator text = omega (arith, length-slice_split (λ b. nat_eq b separator) text)
-
-five_parts : (a b c d : List ℕ) (more : List (List ℕ)) → 0 < length more → id_from_parts (a ∷ b ∷ c ∷ d ∷ more) ≡ None
-five_parts a b c d [] some = absurd (omega arith)
-five_parts a b c d (e ∷ more) some = refl
-
-three_parts : (v6 : Bool) (a b : List ℕ) (more : List (List ℕ)) → 0 < length more → prefix_from_parts v6 (a ∷ b ∷ more) ≡ None
-three_parts v6 a b [] some = absurd (omega arith)
-three_parts v6 a b (e ∷ more) some = refl
-
--- a fifth part makes no address
-pub no_fifth_part : (a b c d r : List ℕ) → id_from_parts (a ∷ b ∷ c ∷ d ∷ parts 46 r) ≡ None
-no_fifth_part a b c d r = five_parts a b c d (parts 46 r) (parts_some 46 r)
-
--- a third part makes no prefix
-pub no_third_part : (v6 : Bool) (a b r : List ℕ) → prefix_from_parts v6 (a ∷ b ∷ parts 47 r) ≡ None
-no_third_part v6 a b r = three_parts v6 a b (parts 47 r) (parts_some 47 r)

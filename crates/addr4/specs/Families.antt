@@ -1,7 +1,7 @@
 -- Two families of addresses in one arithmetic. An address of either is a number of 128 bits, whose first bits are its own: IPv4's 192.0.2.1
 -- is 0xc0000201 * 2 ^ 96. Order, covering, masks and longest match have no family. Texts, octets and hosts do: there it is a value, whether
 -- it is IPv6.
-use Rattle.std.specs.Prelude.{◌≡◌, ℕ, ◌*◌, ◌/◌, ◌%◌, ◌^◌, ◌<◌, ◌≤◌, Bool, true, false, if◌then◌else◌}
+use Rattle.std.specs.Prelude.{◌≡◌, ℕ, ◌*◌, ◌/◌, ◌%◌, ◌^◌, ◌<◌, ◌≤◌, Bool, true, false}
 use Rattle.std.proofs.lemmas.Nat.{shl-shr}
 use Rattle.addr4.specs.Blocks.{width}
 use Rattle.addr4.specs.Prefixes.{AddressPrefix, IsMasked}

@@ -5,3 +5,4 @@ pub mod Hosts
 pub mod Halves
 pub mod Places
 pub mod Texts
+pub mod Fronts

@@ -3,12 +3,12 @@
 ghost use Rattle.std.specs.Prelude.{◌≡◌, ◌++◌, [], ◌∷◌, OnOk, option_map};
 ghost use Rattle.std.specs.Result.{result_ok};
 ghost use Rattle.std.specs.Fmt.{decimal};
-ghost use Rattle.addr4.specs.Texts.{addr_of, addr_text, dotted, id_of, id_text, number_below, prefix_of, prefix_text};
+ghost use Rattle.addr4.specs.Texts.{addr_of, addr_text, dotted, id_of, id_text, prefix_of, prefix_text};
 
 use crate::addr::Addr;
 use crate::family::{Family, V4};
 use crate::memory::Memory;
-use crate::numbers::{push_number, read_number_below};
+use crate::numbers::{number_before, push_number, read_number_below};
 use crate::parts::first_part;
 use crate::prefix::Prefix;
 use crate::router_id::RouterId;
@@ -45,13 +45,6 @@ impl Texts for V4 {
     }
 }
 
-fn read_octet(text: &[u8]) -> Option<u8>
-    ensures { result ≡ number_below 256 text.now }
-{
-    let number = read_number_below(text, 256)?;
-    Some(number as u8)
-}
-
 /// Reads an address: of IPv4 four octets (each `0` to `255`, without a leading zero) with dots between them. Another text
 /// is refused.
 pub fn read_addr<F: Texts>(text: &[u8]) -> Result<Addr<F>, BadAddr>
@@ -73,22 +66,15 @@ pub fn read_id(text: &[u8]) -> Result<RouterId, BadAddr>
     }
 }
 
-#[tactic(auto, using(crate::proofs::PartLemmas::no_fifth_part), unfolding(crate::specs::Texts::id_of))]
+#[tactic(auto, using(crate::proofs::LastLemmas::last_octet), unfolding(crate::specs::Texts::id_of))]
 fn read_octets(text: &[u8]) -> Option<u32>
     ensures { result ≡ id_of text.now }
 {
-    let (first, rest) = first_part(text, b'.');
-    let (second, rest) = first_part(rest?, b'.');
-    let (third, rest) = first_part(rest?, b'.');
-    let (fourth, more) = first_part(rest?, b'.');
-    if let Some(_more) = more {
-        return None;
-    }
-    let a = read_octet(first)?;
-    let b = read_octet(second)?;
-    let c = read_octet(third)?;
-    let d = read_octet(fourth)?;
-    Some(u32::from_be_bytes([a, b, c, d]))
+    let (a, rest) = number_before(text, b'.', 256)?;
+    let (b, rest) = number_before(rest, b'.', 256)?;
+    let (c, rest) = number_before(rest, b'.', 256)?;
+    let d = read_number_below(rest, 256)?;
+    Some(u32::from_be_bytes([a as u8, b as u8, c as u8, d as u8]))
 }
 
 /// Appends four octets with dots between them.
@@ -147,15 +133,13 @@ pub fn read_prefix<F: Texts>(text: &[u8]) -> Result<Prefix<F>, BadPrefix>
     read_length(text).ok_or(BadPrefix)
 }
 
-#[tactic(auto, using(crate::proofs::PartLemmas::no_third_part), unfolding(crate::specs::Texts::prefix_of))]
+// A length in which a slash stands is no number.
+#[tactic(auto, using(crate::proofs::LastLemmas::last_length), unfolding(crate::specs::Texts::prefix_of))]
 fn read_length<F: Texts>(text: &[u8]) -> Option<Prefix<F>>
     ensures { result ≡ prefix_of F.V6 text.now }
 {
     let (addr, rest) = first_part(text, b'/');
-    let (length, more) = first_part(rest?, b'/');
-    if let Some(_more) = more {
-        return None;
-    }
+    let length = rest?;
     let addr = read_addr(addr).ok()?;
     let length = read_number_below(length, u64::from(F::WIDTH) + 1)?;
     Prefix::new(addr, length as u8)

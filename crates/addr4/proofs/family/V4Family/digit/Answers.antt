@@ -1,4 +1,3 @@
-use Rattle.std.proofs.Common.{arith}
 use Rattle.addr4.proofs.FrontLemmas.{front_digit, front_no_digit}
 use Rattle.addr4.proofs.family.V4Family.digit.Goals as goal
 

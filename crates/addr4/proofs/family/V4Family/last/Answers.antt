@@ -1,4 +1,4 @@
-use Rattle.std.proofs.Common.{◌≡◌, ◌-◌, ◌*◌, ◌%◌, ◌^◌, ◌<◌, ◌≤◌, ◌+◌, ap, ◌∙◌, arith}
+use Rattle.std.proofs.Common.{◌≡◌, ◌-◌, ◌*◌, ◌%◌, ◌^◌, ◌<◌, ◌+◌, ◌∙◌, arith}
 use Rattle.std.proofs.lemmas.Nat.{pow_below, pow_pos}
 use Rattle.addr4.specs.Families.{in_front}
 use Rattle.addr4.proofs.FrontLemmas.{front_ends, front_last}

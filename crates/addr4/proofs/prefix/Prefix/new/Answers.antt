@@ -1,4 +1,4 @@
-use Rattle.std.proofs.Common.{◌≡◌, ◌%◌, ◌≤◌, ap, ◌∙◌, arith}
+use Rattle.std.proofs.Common.{◌%◌, ◌≤◌, ap, ◌∙◌, arith}
 use Rattle.addr4.specs.Blocks.{width, size_of_length}
 use Rattle.addr4.proofs.BlockLemmas.{masked_down, size_pos}
 use Rattle.addr4.proofs.prefix.Prefix.new.Goals as goal

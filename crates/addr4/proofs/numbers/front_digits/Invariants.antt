@@ -1,0 +1,12 @@
+use Rattle.std.proofs.Common.{◌≡◌, ◌<◌, ◌^◌, true, take}
+use Rattle.std.specs.Char.{is_ascii_digit}
+use Rattle.std.specs.List.{list_all}
+use Rattle.std.specs.Str.Parse.{digits_value}
+use Rattle.addr4.proofs.numbers.front_digits.Given as goal
+
+abbrev pub invariant-loop-i : goal.invariant-loop-i
+invariant-loop-i l = record {
+  digits : list_all is_ascii_digit (take l.i l.text) ≡ true;
+  value : l.value ≡ digits_value 10 (take l.i l.text);
+  small : (0 < l.i → l.value < l.bound) × (l.value < 2 ^ 32);
+}
