@@ -19,11 +19,11 @@ use Rattle.filter_bank.specs.OutLaws.{NothingAtFirst, OnlyWhatMayGo, IsFormOf, O
 pub makes_none_out : {R : Type 0} (form : Form R) (peer : Neighbour) (rules : Option (List Rule)) → MakesNone (outgoing form peer rules)
 makes_none_out form peer rules q = refl
 
-bare : (form : Form Attrs) (p : AddressPrefix) (may : Bool) → formed form p (cond may None None) ≡ None
+bare : {R : Type 0} (form : Form R) (p : AddressPrefix) (may : Bool) → formed form p (cond may None None) ≡ None
 bare form p true = refl
 bare form p false = refl
 
-nothing_by_none : (form : Form Attrs) (peer : Neighbour) (p : AddressPrefix) (row : Option Route) → outgoing form peer None p row ≡ None
+pub nothing_by_none : {R : Type 0} (form : Form R) (peer : Neighbour) (p : AddressPrefix) (row : Option Route) → outgoing form peer None p row ≡ None
 nothing_by_none form peer p None = refl
 nothing_by_none form peer p (Some r) = bare form p (may_go form.v6 peer p r)
 

@@ -87,6 +87,9 @@ impl<F: Family> OutFilter<F> {
         ensures { IfOk result (IsPassedOn (outgoing (S.form form.now) peer.now) self.now change) }
     {
         let rules = self.pass.at(change.prefix);
+        if rules.is_none() {
+            return Ok(None);
+        }
         let before = sent_row(form, peer, rules, change.prefix, change.before)?;
         let after = sent_row(form, peer, rules, change.prefix, change.after)?;
         Ok(Change::between(change.prefix, before, after))
