@@ -16,6 +16,7 @@ use crate::link::{Link, Target};
 use crate::node::Node;
 use addr4::{Addr, Family, Place, Prefix};
 use slab::Slab;
+use std::cell::Cell;
 
 // Where the way of a prefix's address ends in the index, and the first leaf of that address.
 pub(crate) fn first_leaf<V, F: Family>(
@@ -78,6 +79,23 @@ pub(crate) fn find_near<V, F: Family>(
         return Some(near);
     }
     find(index, leaves, prefix)
+}
+
+// The leaf of a prefix, which may be the one that was found last; it is found last from now on.
+pub(crate) fn find_last<V, F: Family>(
+    index: &Index,
+    leaves: &Slab<Node<V, Prefix<F>>>,
+    last: &Cell<usize>,
+    prefix: Prefix<F>,
+) -> Option<usize>
+    requires { IsWhole leaves.now index.now }
+    ensures { IsLeafOf (prefix_in leaves.now) prefix result }
+{
+    let found = find_near(index, leaves, last.get(), prefix);
+    if let Some(key) = found {
+        last.set(key);
+    }
+    found
 }
 
 // The leaf of the first key from an address and a length on, among the addresses of a link.

@@ -13,6 +13,7 @@ use crate::{reading, writing};
 use addr4::{Family, Place, Prefix, V4};
 use slab::Slab;
 use std::alloc::Global;
+use std::cell::Cell;
 use std::marker::Model;
 
 /// A map from prefixes to values. Contracts see its rows, a finite map, and of each key in [`nodes`](Trie::nodes) the prefix
@@ -21,6 +22,9 @@ use std::marker::Model;
 pub struct Trie<V, F: Family = V4> {
     leaves: Slab<Node<V, Prefix<F>>>,
     index: Index,
+    // The key of the leaf that was found or put last, which may be gone: often the next call is about the same prefix. No contract
+    // sees it.
+    last: Cell<usize>,
 }
 
 impl<V, F: Family> Model for Trie<V, F> {
@@ -50,6 +54,7 @@ impl<V, F: Family> Trie<V, F> {
         Trie {
             leaves: Slab::new(alloc),
             index: Index::new(alloc),
+            last: Cell::new(0),
         }
     }
 
@@ -64,7 +69,11 @@ impl<V, F: Family> Trie<V, F> {
         if !writing::make_room(&mut self.leaves, &mut self.index.branches) {
             return Err(value);
         }
+        let vacant = self.leaves.vacant_key();
         let before = writing::put(&mut self.leaves, &mut self.index, prefix, value);
+        if before.is_none() {
+            self.last.set(vacant);
+        }
         Ok(before)
     }
 
@@ -82,7 +91,7 @@ impl<V, F: Family> Trie<V, F> {
         ensures* writes_back { sem 𝓛 (lends_value V.row F.row F.Family self.entry prefix result) }
         ensures value { map.get self.old.rows prefix ≡ Some result.now }
     {
-        let key = reading::find(&self.index, &self.leaves, prefix).unwrap();
+        let key = reading::find_last(&self.index, &self.leaves, &self.last, prefix).unwrap();
         &mut self.leaves[key].value
     }
 
@@ -102,7 +111,7 @@ impl<V, F: Family> Trie<V, F> {
         ensures* writes_back { sem 𝓛 (lends_get V.row F.row F.Family self.entry prefix result) }
         ensures value { option_copied_mut result ≡ map.get self.old.rows prefix }
     {
-        match reading::find(&self.index, &self.leaves, prefix) {
+        match reading::find_last(&self.index, &self.leaves, &self.last, prefix) {
             None => None,
             Some(key) => Some(self.leaves[key].value_mut()),
         }
@@ -112,7 +121,7 @@ impl<V, F: Family> Trie<V, F> {
     pub fn get(&self, prefix: Prefix<F>) -> Option<&V>
         ensures { option_copied result ≡ map.get self.now.rows prefix }
     {
-        match reading::find(&self.index, &self.leaves, prefix) {
+        match reading::find_last(&self.index, &self.leaves, &self.last, prefix) {
             None => None,
             Some(key) => {
                 let node = &self.leaves[key];
@@ -126,7 +135,7 @@ impl<V, F: Family> Trie<V, F> {
         ensures value { option_map (λ found. found.0.now) result ≡ map.get self.now.rows prefix }
         ensures key { IfSome result (λ found. LiesAt self.now.leaves found.1 prefix) }
     {
-        match reading::find(&self.index, &self.leaves, prefix) {
+        match reading::find_last(&self.index, &self.leaves, &self.last, prefix) {
             None => None,
             Some(key) => {
                 let node = &self.leaves[key];
@@ -151,6 +160,7 @@ impl<V, F: Family> Trie<V, F> {
         match reading::next_leaf(&self.index, &self.leaves, 0, after) {
             None => None,
             Some(key) => {
+                self.last.set(key);
                 let node = &self.leaves[key];
                 Some((node.prefix, &node.value))
             }
@@ -167,6 +177,7 @@ impl<V, F: Family> Trie<V, F> {
         match reading::next_leaf(&self.index, &self.leaves, near, after) {
             None => None,
             Some(key) => {
+                self.last.set(key);
                 let node = &self.leaves[key];
                 Some((node.prefix, &node.value, key))
             }

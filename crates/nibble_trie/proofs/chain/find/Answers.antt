@@ -1,4 +1,4 @@
-use Rattle.std.proofs.Common.{ℕ, Option, subst, arith}
+use Rattle.std.proofs.Common.{subst, arith}
 use Rattle.nibble_trie.specs.Keys.{prefix_in, IsNextOf}
 use Rattle.nibble_trie.proofs.chain.find.Goals as goal
 

@@ -1,4 +1,4 @@
-use Rattle.std.proofs.Common.{None, arith}
+use Rattle.std.proofs.Common.{None}
 use Rattle.nibble_trie.specs.Keys.{prefix_in}
 use Rattle.nibble_trie.proofs.Searches.{top_starts, top_first}
 use Rattle.nibble_trie.proofs.reading.first_from.Goals as goal

@@ -1,4 +1,4 @@
-use Rattle.std.proofs.Common.{sym, subst, ◌∙◌}
+use Rattle.std.proofs.Common.{sym, subst}
 use Rattle.nibble_trie.specs.Keys.{prefix_in, IsNextOf}
 use Rattle.nibble_trie.specs.Index.{OnWay, spot_at}
 use Rattle.nibble_trie.proofs.Wholes.{names_of}
