@@ -17,6 +17,7 @@ use Rattle.addr4.specs.Blocks.{masked_to, width, size_of_length}
 use Rattle.addr4.specs.Prefixes.{AddressPrefix}
 use Rattle.addr4.specs.Texts.{is_numeral, value_below, number_below, parts, id_from_octets, id_from_parts, addr_of, dotted, addr_text, address_prefix_of, prefix_from_parts, prefix_of, prefix_text, id_of, id_text}
 use Rattle.addr4.proofs.NumberLemmas.{and_left, and_right, digits_of_numeral}
+use Rattle.addr4.proofs.PartLemmas.{parts_some}
 use Rattle.addr4.specs.Families.{in_front, in_front_back, IsIpv4, IsIpv4Prefix}
 use Rattle.addr4.proofs.FrontLemmas.{front_prefix}
 use Rattle.addr4.proofs.BlockLemmas.{masked_down, size_pos}
@@ -172,3 +173,11 @@ not_printed word a n ipv4 s other = read_so word a n s ∙ by_text (bytes_eq wor
     by_text : (same : Bool) → bytes_eq word (prefix_text false (masked a n)) ≡ same → cond same (Some (masked a n)) None ≡ None
     by_text true is = absurd (other (same_address ((bytes_eq-Decides word (prefix_text false (masked a n))).0 is)))
     by_text false is = refl
+
+-- ---- a third part makes no prefix
+three_parts : (v6 : Bool) (a b : List ℕ) (more : List (List ℕ)) → 0 < length more → prefix_from_parts v6 (a ∷ b ∷ more) ≡ None
+three_parts v6 a b [] some = absurd (omega arith)
+three_parts v6 a b (e ∷ more) some = refl
+
+pub no_third_part : (v6 : Bool) (a b r : List ℕ) → prefix_from_parts v6 (a ∷ b ∷ parts 47 r) ≡ None
+no_third_part v6 a b r = three_parts v6 a b (parts 47 r) (parts_some 47 r)

@@ -12,7 +12,7 @@ use std::alloc::Global;
 
 // The prefix of IPv4 of a word that is exactly as it is printed. Numbers that are read have no leading zeros, so that is
 // where the address has no bits beyond the length.
-#[tactic(auto, using(addr4::proofs::PartLemmas::no_third_part), unfolding(crate::specs::Readings::printed_prefix, addr4::specs::Texts::prefix_of))]
+#[tactic(auto, using(crate::proofs::PrefixPrinted::no_third_part), unfolding(crate::specs::Readings::printed_prefix, addr4::specs::Texts::prefix_of))]
 fn printed_prefix(word: &[u8]) -> Option<Prefix>
     ensures { result ≡ printed_prefix false word.now }
 {
