@@ -8,6 +8,7 @@ use crate::branches::Branches;
 use crate::contests::Contests;
 use addr4::{Family, Memory, Place, Prefix, V4};
 use bgp_attr::{Route, SharedAttrs};
+use filter_bank::RouteUpstream;
 use link_change::Upstream;
 
 /// The link `best`: the best route at each prefix over these branches, by what is known of them. The branch whose row it is is
@@ -48,5 +49,14 @@ impl<'a, B: Branches<F>, F: Family> Upstream<F> for Best<'a, B, F> {
 
     fn next_candidate(&self, after: &Place<Prefix<F>>) -> Option<Prefix<F>> {
         self.contests.next_kept(after)
+    }
+}
+
+impl<'a, B: Branches<F>, F: Family> RouteUpstream<F> for Best<'a, B, F> {
+    fn is_from(&self, number: u8, p: &Prefix<F>) -> bool {
+        match self.contests.winner(p) {
+            None => false,
+            Some(branch) => self.all.is_from(branch, number),
+        }
     }
 }

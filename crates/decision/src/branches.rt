@@ -1,8 +1,10 @@
 //! The branches above the decision, as it sees them.
 
-ghost use Rattle.std.specs.Prelude.{◌≡◌, IfOk, is_some, ℕ};
+ghost use Rattle.std.specs.Prelude.{◌≡◌, IfOk, is_some, true, ℕ};
+ghost use Rattle.addr4.specs.Prefixes.{AddressPrefix};
 ghost use Rattle.link_change.specs.Rows.{Rows, Candidates};
 ghost use Rattle.bgp_attr.specs.Routes.{Route as Routed};
+ghost use Rattle.filter_bank.specs.Outgoing.{ComesFrom};
 
 use addr4::{Family, Memory, Prefix};
 use bgp_attr::{Route, SharedAttrs};
@@ -23,4 +25,8 @@ pub trait Branches<F: Family> {
     /// Whether a branch has a row at a prefix. Takes no memory.
     fn has(&self, branch: u8, p: &Prefix<F>) -> bool
         ensures { result ≡ is_some (rows self.now branch p.now) };
+
+    /// Whether a branch has the routes of the peer of that number: true only where it has no other. Takes no memory.
+    fn is_from(&self, branch: u8, number: u8) -> bool
+        ensures { result ≡ true → (p : AddressPrefix) → ComesFrom number (rows self.now branch p) };
 }

@@ -11,6 +11,7 @@ use policy_rules::first_word;
 
 /// What follows `cover`.
 #[tactic(auto, using(crate::proofs::WordLemmas::no_word_behind_addr), unfolding(crate::specs::Events::cover_of))]
+#[inline(never)]
 pub(crate) fn cover<F: Texts>(rest: &[u8]) -> Option<EventOf<F>>
     ensures { result ≡ cover_of F.V6 (words rest.now) }
 {
@@ -24,6 +25,7 @@ pub(crate) fn cover<F: Texts>(rest: &[u8]) -> Option<EventOf<F>>
 
 /// What follows `work`.
 #[tactic(auto, using(crate::proofs::WordLemmas::no_word_behind_turns), unfolding(crate::specs::Events::work_of))]
+#[inline(never)]
 pub(crate) fn work<F: Family>(rest: &[u8]) -> Option<EventOf<F>>
     ensures { result ≡ work_of F.V6 (words rest.now) }
 {
@@ -39,6 +41,7 @@ pub(crate) fn work<F: Family>(rest: &[u8]) -> Option<EventOf<F>>
 
 /// What follows `ask`.
 #[tactic(auto, using(crate::proofs::WordLemmas::no_word_behind_prefix), unfolding(crate::specs::Events::ask_of))]
+#[inline(never)]
 pub(crate) fn ask<F: Texts>(rest: &[u8]) -> Option<EventOf<F>>
     ensures { result ≡ ask_of F.V6 (words rest.now) }
 {
@@ -54,6 +57,7 @@ pub(crate) fn ask<F: Texts>(rest: &[u8]) -> Option<EventOf<F>>
 
 /// What follows `show`.
 #[tactic(auto, using(crate::proofs::WordLemmas::no_word_behind_link), unfolding(crate::specs::Events::show_of))]
+#[inline(never)]
 pub(crate) fn show<F: Family>(rest: &[u8]) -> Option<EventOf<F>>
     ensures { result ≡ show_of F.V6 (words rest.now) }
 {
@@ -67,6 +71,7 @@ pub(crate) fn show<F: Family>(rest: &[u8]) -> Option<EventOf<F>>
 
 /// What follows `settled`.
 #[tactic(auto, using(crate::proofs::WordLemmas::no_word_behind_one_prefix), unfolding(crate::specs::Events::settled_of))]
+#[inline(never)]
 pub(crate) fn settled<F: Texts>(rest: &[u8]) -> Option<EventOf<F>>
     ensures { result ≡ settled_of F.V6 (words rest.now) }
 {

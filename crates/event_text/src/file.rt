@@ -42,6 +42,7 @@ pub fn parse_file(
 
 /// A line of IPv6's network.
 #[tactic(auto, unfolding(crate::specs::FileEvents::second_of))]
+#[inline(never)]
 fn second(alloc: Global, profile: Profile, line: &[u8]) -> Result<Option<FileEvent>, Memory>
     ensures { IfOk result (λ event. event ≡ second_of profile (words line.now)) }
 {

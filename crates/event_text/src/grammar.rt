@@ -74,6 +74,7 @@ fn named_event(
 
 /// What follows `local`.
 #[tactic(auto, unfolding(crate::specs::Events::local_of))]
+#[inline(never)]
 fn local(profile: Profile, rest: &[u8]) -> Option<Event>
     ensures { result ≡ local_of profile.as4 (words rest.now) }
 {
@@ -83,6 +84,7 @@ fn local(profile: Profile, rest: &[u8]) -> Option<Event>
 
 /// What follows `peer`.
 #[tactic(auto, unfolding(crate::specs::Events::peer_of))]
+#[inline(never)]
 fn peer(profile: Profile, rest: &[u8]) -> Option<Event>
     ensures { result ≡ peer_of profile (words rest.now) }
 {
@@ -98,6 +100,7 @@ fn peer(profile: Profile, rest: &[u8]) -> Option<Event>
 
 /// What follows `bgp`.
 #[tactic(auto, using(crate::proofs::WordLemmas::no_word_behind_octets), unfolding(crate::specs::Events::bgp_of))]
+#[inline(never)]
 fn bgp(alloc: Global, rest: &[u8]) -> Result<Option<Event>, Memory>
     ensures { IfOk result (λ event. event ≡ bgp_of (words rest.now)) }
 {
@@ -174,6 +177,7 @@ fn interior_event(word: &[u8], rest: &[u8]) -> Option<Event>
 
 /// The events `as4`, `revised` and `reflect`: no word follows.
 #[tactic(auto, unfolding(crate::specs::Events::profile_event))]
+#[inline(never)]
 fn profile_event(word: &[u8], rest: &[u8]) -> Option<Event>
     ensures { result ≡ profile_event word.now (words rest.now) }
 {

@@ -13,6 +13,7 @@ use std::alloc::Global;
 
 /// What follows `filter`.
 #[tactic(auto, unfolding(crate::specs::Events::filter_of))]
+#[inline(never)]
 pub(crate) fn filter<F: Texts>(
     alloc: Global,
     profile: Profile,
@@ -94,6 +95,7 @@ fn route_del<F: Texts>(rest: &[u8]) -> Option<EventOf<F>>
 
 /// What follows `lost`.
 #[tactic(auto, using(crate::proofs::WordLemmas::no_word_behind_protocol), unfolding(crate::specs::Events::lost_of))]
+#[inline(never)]
 pub(crate) fn lost<F: Family>(rest: &[u8]) -> Option<EventOf<F>>
     ensures { result ≡ lost_of (words rest.now) }
 {
@@ -107,6 +109,7 @@ pub(crate) fn lost<F: Family>(rest: &[u8]) -> Option<EventOf<F>>
 
 /// What follows `redist`.
 #[tactic(auto, using(crate::proofs::WordLemmas::no_word_behind_switch), unfolding(crate::specs::Events::redist_of))]
+#[inline(never)]
 pub(crate) fn redist<F: Family>(rest: &[u8]) -> Option<EventOf<F>>
     ensures { result ≡ redist_of (words rest.now) }
 {

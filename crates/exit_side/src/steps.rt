@@ -7,8 +7,9 @@ ghost use Rattle.exit_side.specs.Steps.{PutsExit, ComesOut};
 use crate::exits::Exits;
 use addr4::{Memory, Prefix};
 use bgp_attr::{Route, SharedAttrs};
+use filter_bank::RouteUpstream;
 use journal_text::Journal;
-use link_change::{Change, Turn, Upstream};
+use link_change::{Change, Turn};
 use out_chain::a_session_stands;
 use peer_out::{SentRoute, Writes};
 
@@ -35,7 +36,7 @@ impl<F: Writes> Exits<F> {
     /// One turn of the task `out.J` (`OutChain::unit`): where the reader has something to take, its
     /// first change goes down; else the walk of the filter goes to the next candidate of `best`, or
     /// ends. Nothing exactly where there is no work; Quiet where no change comes out on `adv.J.S`.
-    pub fn turn<U: Upstream<F, Row = Route<SharedAttrs<F>>>>(
+    pub fn turn<U: RouteUpstream<F>>(
         &mut self,
         number: u32,
         best: &U,

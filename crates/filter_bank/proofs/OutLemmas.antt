@@ -1,5 +1,5 @@
 -- The laws of outgoing filters.
-use Rattle.std.proofs.Common.{◌≡◌, ◌≢◌, nat_eq, not, ◌&&◌, ◌||◌, Bool, true, false, cond, List, Option, Some, None, IfSome, refl, sym, ap, ◌∙◌, arith}
+use Rattle.std.proofs.Common.{◌≡◌, ◌≢◌, ◌⊎◌, inl, inr, nat_eq, not, ◌&&◌, ◌||◌, Bool, true, false, cond, List, Option, Some, None, IfSome, refl, sym, ap, ◌∙◌, arith}
 use Rattle.std.proofs.lemmas.Bool.Decides.{nat_tests}
 use Rattle.addr4.specs.Prefixes.{AddressPrefix}
 use Rattle.addr4.specs.Hosts.{is_host_prefix}
@@ -13,7 +13,7 @@ use Rattle.policy_rules.specs.Judged.{KeepsSource}
 use Rattle.policy_rules.specs.Verdicts.{judged_by}
 use Rattle.policy_rules.proofs.KeptLemmas.{judged_keeps}
 use Rattle.policy_rules.proofs.VerdictLemmas.{answer_is_judged}
-use Rattle.filter_bank.specs.Outgoing.{Form, is_reflected, is_kept_from, may_go, first_out, let_by, formed, outgoing}
+use Rattle.filter_bank.specs.Outgoing.{Form, is_reflected, is_kept_from, may_go, first_out, let_by, formed, outgoing, ComesFrom, IsRowFor}
 use Rattle.filter_bank.specs.OutLaws.{NothingAtFirst, OnlyWhatMayGo, IsFormOf, OnlyFormsOfRows}
 
 pub makes_none_out : {R : Type 0} (form : Form R) (peer : Neighbour) (rules : Option (List Rule)) → MakesNone (outgoing form peer rules)
@@ -90,3 +90,27 @@ pub only_forms_of_rows : OnlyFormsOfRows
 only_forms_of_rows form peer rules p row sent e =
     let first = first_out peer row in
     of_let form p row sent (may_go form.v6 peer p row) (let_by rules p first) (of_rules form p row sent first rules (first_keeps peer row)) e
+
+-- ---- what doesn't go back
+own_kept : (peer from : Neighbour) → from.number ≡ peer.number → is_kept_from peer (Some from) ≡ true
+own_kept peer from same =
+    let is : nat_eq from.number peer.number ≡ true = grind (arith, nat_tests) in
+    ap (λ b. b || (from.internal && peer.internal && not (is_reflected from peer))) is
+
+kept_back : {R : Type 0} (form : Form R) (p : AddressPrefix) (kept host : Bool) (later : Option Route) → kept ≡ true → formed form p (cond (not kept && host) later None) ≡ None
+kept_back form p true host later is = refl
+kept_back form p false host later is = absurd (let e : false ≡ true = is in cc)
+
+pub no_row_goes_back : {R : Type 0} (form : Form R) (peer : Neighbour) (rules : Option (List Rule)) (p : AddressPrefix) (row : Option Route)
+    → ComesFrom peer.number row → outgoing form peer rules p row ≡ None
+no_row_goes_back form peer rules p None from = refl
+no_row_goes_back form peer rules p (Some r) from =
+    let source = from r refl in
+    kept_back form p (is_kept_from peer r.from) (is_host_prefix form.v6 p) (let_by rules p (first_out peer r))
+    (ap (is_kept_from peer) source.1 ∙ own_kept peer source.0 source.2)
+
+-- what the peer is sent of what was asked for it is what it is sent of the row
+pub row_for : {R : Type 0} (form : Form R) (peer : Neighbour) (rules : Option (List Rule)) (p : AddressPrefix) (row asked : Option Route)
+    → IsRowFor peer.number row asked → outgoing form peer rules p asked ≡ outgoing form peer rules p row
+row_for form peer rules p row asked (inl same) = ap (outgoing form peer rules p) same
+row_for form peer rules p row asked (inr own) = ap (outgoing form peer rules p) own.0 ∙ sym (no_row_goes_back form peer rules p row own.1)

@@ -1,5 +1,5 @@
 -- The outgoing filter to a peer (RFC 4271, sections 5.1.4, 9.1.3 and 9.2; RFC 4456, section 6): which routes the peer gets, and in which form.
-use Rattle.std.specs.Prelude.{◌==◌, not, ◌&&◌, ◌||◌, Bool, false, if◌then◌else◌, List, Option, Some, None}
+use Rattle.std.specs.Prelude.{◌≡◌, ℕ, ◌==◌, ◌⊎◌, not, ◌&&◌, ◌||◌, Bool, false, if◌then◌else◌, List, Option, Some, None}
 use Rattle.addr4.specs.Prefixes.{AddressPrefix}
 use Rattle.addr4.specs.Hosts.{is_host_prefix}
 use Rattle.bgp_attr.specs.Routes.{Route}
@@ -51,3 +51,11 @@ outgoing form peer rules p row = formed form p (let_out form.v6 peer rules p row
 -- a session begins: nothing is sent, and a walk brings its rules into force
 abbrev pub first_walk : List Rule → Passed (Option (List Rule))
 first_walk rules = record { in_force = None; walk = Some (begun (Some rules)) }
+
+-- what stands there is a route, if anything is, of the peer of this number
+abbrev pub ComesFrom : ℕ → Option Route → Type 0
+ComesFrom number row = (r : Route) → row ≡ Some r → (from : Neighbour) × (r.from ≡ Some from) × (from.number ≡ number)
+
+-- this was asked for that peer of a row: the row, or nothing where it is a route of the peer itself
+abbrev pub IsRowFor : ℕ → Option Route → Option Route → Type 0
+IsRowFor number row asked = (asked ≡ row) ⊎ ((asked ≡ None) × ComesFrom number row)

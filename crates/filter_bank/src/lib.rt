@@ -22,6 +22,7 @@ mod laws;
 mod out_filter;
 mod outgoing;
 mod sent;
+mod source;
 
 pub use filter::FilterBank;
 pub use laws::{
@@ -30,3 +31,4 @@ pub use laws::{
 };
 pub use out_filter::OutFilter;
 pub use sent::Sent;
+pub use source::RouteUpstream;

@@ -11,6 +11,7 @@ ghost use Rattle.filter_bank.specs.Outgoing.{Form, outgoing, first_walk};
 
 use crate::outgoing::{sent_change, sent_row};
 use crate::sent::Sent;
+use crate::source::{RouteUpstream, asked_for};
 use addr4::{Family, Memory, Place, Prefix, V4};
 use bgp_attr::{Neighbour, Route, SharedAttrs};
 use link_change::{Change, Turn, Upstream};
@@ -97,8 +98,9 @@ impl<F: Family> OutFilter<F> {
 
     /// One turn of the walk: it goes to the least candidate of the link above that lies beyond its place, and sends the
     /// change there, if there is one. The turn that finds no candidate ends the walk; rules that waited then begin a walk of
-    /// their own. Nothing exactly where no walk is on. Memory only for want of memory: then nothing changes.
-    pub fn unit<U: Upstream<F, Row = Route<SharedAttrs<F>>>, S: Sent<F>>(
+    /// their own. Nothing exactly where no walk is on. A route that came from the peer isn't asked for. Memory only for want of
+    /// memory: then nothing changes.
+    pub fn unit<U: RouteUpstream<F>, S: Sent<F>>(
         &mut self,
         upper: &U,
         form: &S,
@@ -114,7 +116,7 @@ impl<F: Family> OutFilter<F> {
             self.pass.finish();
             return Ok(Turn::Quiet);
         };
-        let row = upper.asked(&prefix)?;
+        let row = asked_for(upper, peer.number, &prefix)?;
         let former = self.pass.at(prefix);
         let latter = self.pass.coming();
         let sent = sent_change(form, peer, former, latter, prefix, row)?;

@@ -55,6 +55,7 @@ pub(crate) fn feed_top<F: Texts, R: Valued<F>>(
 }
 
 /// A change from above goes on below a deletion stage, with its entry on the link out of it.
+#[inline(never)]
 pub(crate) fn pass_on<F: Texts, R: Valued<F>>(
     deletion: &mut Deletion<R, F>,
     out: Link,

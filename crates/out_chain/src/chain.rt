@@ -23,7 +23,7 @@ use addr4::{Addr, Family, Memory, Place, Prefix, Texts, V4};
 use bgp_attr::{Neighbour, Octets, Profile, Route, SharedAttrs, Speaker};
 use cache_stage::Cache;
 use fanout_queue::{Queue, Reader};
-use filter_bank::OutFilter;
+use filter_bank::{OutFilter, RouteUpstream};
 use journal_text::{Entry, Journal, Line, Link, Value, value_of};
 use link_change::{Change, Turn, Upstream};
 use peer_out::{PeerOut, SentRoute, Writes};
@@ -136,7 +136,7 @@ impl<F: Writes> OutChain<F> {
     /// One turn of the session's task. Where the reader has something to take, its first change goes down; else the walk of the
     /// filter goes to the next candidate of the best rows, or ends. Nothing exactly where neither is to be done; Quiet where no
     /// change comes out on `adv.J.S`.
-    pub fn unit<U: Upstream<F, Row = Route<SharedAttrs<F>>>>(
+    pub fn unit<U: RouteUpstream<F>>(
         &mut self,
         queue: &mut Queue<Route<SharedAttrs<F>>, F>,
         best: &U,
@@ -177,7 +177,7 @@ impl<F: Writes> OutChain<F> {
     }
 
     // One turn of the filter's walk over the best rows, which are those that the reader has.
-    fn walk<U: Upstream<F, Row = Route<SharedAttrs<F>>>>(
+    fn walk<U: RouteUpstream<F>>(
         &mut self,
         best: &U,
         journal: &mut Journal<F>,

@@ -11,12 +11,13 @@ ghost use Rattle.exit_side.specs.Exits.{IsExits, AllStand};
 
 use crate::prefixes::prefix6;
 use crate::second_family::{HEARD, PROFILE, came_to, has_lines, heard, peer, route, site, speaker};
-use addr4::{Memory, Prefix, Row};
+use addr4::{Memory, Place, Prefix, Row};
 use addr6::V6;
 use bgp_attr::{Route, SharedAttrs};
 use cache_stage::Cache;
 use exit_side::Exits;
 use exit_side::laws::nothing_at_first;
+use filter_bank::RouteUpstream;
 use journal_text::Journal;
 use link_change::{Change, Upstream};
 use policy_rules::Rules;
@@ -25,6 +26,37 @@ use std::test::Fail;
 
 /// The rows of `best`.
 type Best = Cache<Route<SharedAttrs<V6>>, V6>;
+
+/// The link `best`, which can't tell of whom its routes came.
+#[derive(Drop)]
+struct Untold<'a> {
+    best: &'a Best,
+}
+
+impl<'a> Upstream<V6> for Untold<'a> {
+    type Row = Route<SharedAttrs<V6>>;
+
+    ghost use Rattle.std.specs.FinMap as map;
+    ghost use Rattle.link_change.specs.Rows.{with_rows};
+
+    ghost rows = { λ s. map.get s.best.now };
+
+    ghost candidates = { λ s. with_rows (map.get s.best.now) };
+
+    fn asked(&self, p: &Prefix<V6>) -> Result<Option<Route<SharedAttrs<V6>>>, Memory> {
+        self.best.asked(p)
+    }
+
+    fn next_candidate(&self, after: &Place<Prefix<V6>>) -> Option<Prefix<V6>> {
+        self.best.next_candidate(after)
+    }
+}
+
+impl<'a> RouteUpstream<V6> for Untold<'a> {
+    fn is_from(&self, _number: u8, _p: &Prefix<V6>) -> bool {
+        false
+    }
+}
 
 /// The first session of a peer begins, without rules for what goes out.
 fn begin(
@@ -87,7 +119,7 @@ fn turn(
     ensures stand { OnOk result (AllStand (map.get best.now) exits.new) }
     ensures profile { OnOk result (exits.new.profile ≡ PROFILE) }
 {
-    let turn = exits.turn(number, best, journal)?;
+    let turn = exits.turn(number, &Untold { best }, journal)?;
     let came = came_to(&turn);
     drop(turn);
     Ok(came)

@@ -1,12 +1,14 @@
 -- The laws of redistribution.
 use Rattle.std.proofs.Common.{◌≡◌, Bool, true, false, cond, Option, Some, None, refl}
+use Rattle.addr4.specs.Prefixes.{AddressPrefix}
 use Rattle.bgp_attr.specs.Routes.{Route}
+use Rattle.bgp_attr.specs.Speakers.{Speaker}
 use Rattle.rib_route.specs.declared.Proto.{Proto}
 use Rattle.rib_route.specs.declared.Proto.TheVariants.{Connected, Static, Ospf, Rip}
 use Rattle.rib_route.specs.Rows.{Interior}
 use Rattle.link_change.proofs.RowLemmas.{same_function}
 use Rattle.redist.specs.Protocols.{no_protos, has}
-use Rattle.redist.specs.Local.{local_route, is_on}
+use Rattle.redist.specs.Local.{local_route, is_on, redistributed}
 use Rattle.redist.specs.Laws.{HasWhatIsPut, OthersStayPut, NothingOfNothing, NothingAtFirst, OnlyOwnRoutes}
 
 pub has_what_is_put : HasWhatIsPut
@@ -46,6 +48,10 @@ never_on (Some row) = out row.proto
     out Static = refl
     out Ospf = refl
     out Rip = refl
+
+-- so nothing is made of any row
+pub none_where_none_is_on : (me : Speaker) (p : AddressPrefix) (row : Option Interior) → redistributed me no_protos p row ≡ None
+none_where_none_is_on me p row = let off = never_on row in rw off refl
 
 pub nothing_at_first : NothingAtFirst
 nothing_at_first me upper = same_function _ _ (λ q. let off = never_on (upper q) in rw off refl)

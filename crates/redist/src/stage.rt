@@ -2,6 +2,7 @@
 
 ghost use Rattle.std.specs.Prelude.{◌≡◌, IfOk, OnErr, None, IsSome, IfSome, is_some};
 ghost use Rattle.addr4.specs.Places.{key_of};
+ghost use Rattle.link_change.specs.Changes.{IsChangeOf};
 ghost use Rattle.link_change.specs.Rows.{IsNextCandidate, CoversRows};
 ghost use Rattle.pass_core.specs.Passed.{edited, holds_up, present, waits};
 ghost use Rattle.pass_core.specs.Turns.{passed, passed_rows, IsPassedOn, IsWalked};
@@ -104,15 +105,33 @@ impl<F: Family> Redist<F> {
 
     /// A change of `int`, as it goes on below: by the set that holds at its prefix. None exactly where the row below stays the
     /// same. Memory only for want of memory: then nothing changes.
+    #[inline(never)]
     pub fn take_in(
         &mut self,
-        change: Change<Interior<Addr<F>>, Prefix<F>>,
+        change: &Change<Interior<Addr<F>>, Prefix<F>>,
         me: &Speaker<Addr<F>>,
     ) -> Result<Option<Change<Route<SharedAttrs<F>>, Prefix<F>>>, Memory>
-        ensures sent { IfOk result (IsPassedOn (redistributed me.now) self.old change) }
+        ensures sent { IfOk result (IsPassedOn (redistributed me.now) self.old change.now) }
         ensures same { self.new ≡ self.old }
     {
         let on = *self.pass.at(change.prefix);
+        if on.is_empty() {
+            return Ok(None);
+        }
+        self.made(on, change, me)
+    }
+
+    // What is made of a change, where these protocols are redistributed.
+    #[inline(never)]
+    fn made(
+        &mut self,
+        on: Protos,
+        change: &Change<Interior<Addr<F>>, Prefix<F>>,
+        me: &Speaker<Addr<F>>,
+    ) -> Result<Option<Change<Route<SharedAttrs<F>>, Prefix<F>>>, Memory>
+        ensures made { IfOk result (IsChangeOf change.now.prefix (redistributed me.now on change.now.prefix change.now.before) (redistributed me.now on change.now.prefix change.now.after)) }
+        ensures same { self.new ≡ self.old }
+    {
         let before = self.maker.row(on, &change.before, me)?;
         let after = self.maker.row(on, &change.after, me)?;
         Ok(Change::between(change.prefix, before, after))

@@ -51,6 +51,21 @@ pub fn take_in<R: Ranked, F: Family>(
 ) -> Option<Change<R, Prefix<F>>>
     ensures { MergesOn R.distance side change other result }
 {
+    if other.is_none() {
+        return Change::between(change.prefix, change.before, change.after);
+    }
+    take_in_beside(side, change, other)
+}
+
+// The same beside a row. It is rare that both sides have one.
+#[inline(never)]
+fn take_in_beside<R: Ranked, F: Family>(
+    side: Side,
+    change: Change<R, Prefix<F>>,
+    other: Option<R>,
+) -> Option<Change<R, Prefix<F>>>
+    ensures { MergesOn R.distance side change other result }
+{
     let before = beside(side, change.before, other);
     let after = beside(side, change.after, other);
     Change::between(change.prefix, before, after)

@@ -1,10 +1,12 @@
 -- What the two merges below a protocol's link make of a change on it.
-use Rattle.std.proofs.Common.{◌≡◌, [], ◌∷◌, ◌++◌, Option, Some, None, refl, sym, ap, subst, ◌∙◌}
+use Rattle.std.proofs.Common.{◌≡◌, true, false, is_some, [], ◌∷◌, ◌++◌, Option, Some, None, refl, sym, ap, subst, ◌∙◌}
 use Rattle.addr4.specs.Prefixes.{AddressPrefix}
 use Rattle.rib_route.specs.declared.Proto.{Proto}
 use Rattle.rib_route.specs.declared.Proto.TheVariants.{Connected, Static, Ospf, Rip}
 use Rattle.rib_route.specs.Rows.{Interior}
+use Rattle.rib_merge.specs.declared.merge.Side.{Side}
 use Rattle.rib_merge.specs.Merging.{merged_on, MergesOn}
+use Rattle.rib_merge.proofs.MergeLemmas.{alone, merges_on}
 use Rattle.link_change.specs.Rows.{Rows}
 use Rattle.link_change.specs.Changes.{IsSent}
 use Rattle.link_change.specs.Changes.{Change}
@@ -78,6 +80,14 @@ merges_below proto new change other sent is law old p differ into =
     (ap (merged_on interior_distance (side_below proto) (rows_into proto old)) (beside_stays proto old new differ) ∙ int_is proto old)
     (int_is proto new)
     (law (rows_into proto old) (rows_into proto new) (rows_beside proto new) p (sym is) into)
+
+-- where the other side has no row, a lawful change goes on as it came
+pub goes_alone : (side : Side) (change : Change Interior) (other : Option Interior) → is_some other ≡ false → MergesOn interior_distance side change other (Some change)
+goes_alone side change (Some row) none = absurd (let e : true ≡ false = none in cc)
+goes_alone side change None none =
+    λ own now others p at sent.
+    merges_on interior_distance side change None change.before change.after (Some change) (alone interior_distance side change.before) (alone interior_distance side change.after)
+    (refl, refl, refl, sent.1.1) own now others p at sent
 
 -- ---- both
 

@@ -1,5 +1,5 @@
 -- What the two merges below a protocol's link make of a change on it.
-use Rattle.std.specs.Prelude.{◌≡◌, List, [], ◌∷◌, ◌++◌, Option, Some}
+use Rattle.std.specs.Prelude.{◌≡◌, Bool, if◌then◌else◌, List, [], ◌∷◌, ◌++◌, Option, Some, None}
 use Rattle.addr4.specs.Prefixes.{AddressPrefix}
 use Rattle.rib_route.specs.declared.Proto.{Proto}
 use Rattle.rib_route.specs.declared.Proto.TheVariants.{Connected, Static, Ospf, Rip}
@@ -69,6 +69,10 @@ abbrev pub MergesBelow : Proto → Treed → Change Interior → Option (Change 
 MergesBelow proto new change sent =
     (old : Treed) (p : AddressPrefix) → DifferAt proto old new → IsSent (rows_into proto old) (rows_into proto new) p (Some change)
     → IsSent (int_rows old) (int_rows new) p sent
+
+-- the change that goes on, if it does
+abbrev pub sent_if : Bool → Change Interior → Option (Change Interior)
+sent_if went change = if went then Some change else None
 
 -- the entry of what a merge sends
 abbrev pub sent_entries : Link → Option (Change Interior) → List (Entry Value)

@@ -3,12 +3,13 @@
 ghost use Rattle.std.specs.Prelude.{◌≡◌, IfOk, OnOk};
 ghost use Rattle.journal_text.specs.Journals.{with_entries};
 ghost use Rattle.rib_tree.specs.Merges.{sent_entries};
-ghost use Rattle.rib_tree.specs.Trees.{low_rows, dyn_rows};
+ghost use Rattle.rib_merge.specs.Merging.{MergesOn};
+ghost use Rattle.rib_tree.specs.Trees.{low_rows, dyn_rows, interior_distance};
 ghost use Rattle.rib_tree.specs.Falls.{merge_below};
-ghost use Rattle.rib_tree.specs.Merges.{partner_of, side_of, side_below, rows_beside, MergesInto, MergesBelow, IsPassedDown};
+ghost use Rattle.rib_tree.specs.Merges.{partner_of, side_of, side_below, rows_beside, sent_if, MergesInto, MergesBelow, IsPassedDown};
 
 use crate::tree::Tree;
-use addr4::{Addr, Memory, Prefix, Texts};
+use addr4::{Addr, Family, Memory, Prefix, Texts};
 use journal_text::{Journal, Link};
 use link_change::{Change, Upstream};
 use rib_merge::{Side, take_in};
@@ -56,6 +57,44 @@ fn merged_link(proto: Proto) -> Link
     }
 }
 
+// A lawful change on one side of a merge becomes what goes on below, if something does, where the other side has this row at its
+// prefix: where it has none, the change goes on as it came.
+fn merge<F: Family>(
+    side: Side,
+    change: &mut Change<Interior<Addr<F>>, Prefix<F>>,
+    other: Option<Interior<Addr<F>>>,
+) -> bool
+    ensures { MergesOn interior_distance side change.old other (sent_if result change.new) }
+{
+    if other.is_none() {
+        return true;
+    }
+    merge_beside(side, change, other)
+}
+
+// The same beside a row.
+#[inline(never)]
+fn merge_beside<F: Family>(
+    side: Side,
+    change: &mut Change<Interior<Addr<F>>, Prefix<F>>,
+    other: Option<Interior<Addr<F>>>,
+) -> bool
+    ensures { MergesOn interior_distance side change.old other (sent_if result change.new) }
+{
+    let came = Change {
+        prefix: change.prefix,
+        before: change.before,
+        after: change.after,
+    };
+    match take_in(side, came, other) {
+        None => false,
+        Some(sent) => {
+            *change = sent;
+            true
+        }
+    }
+}
+
 impl<F: Texts> Tree<F> {
     /// The row of `low` at a prefix.
     pub(crate) fn low_row(&self, p: Prefix<F>) -> Result<Option<Interior<Addr<F>>>, Memory>
@@ -81,28 +120,28 @@ impl<F: Texts> Tree<F> {
         }
     }
 
-    // What the first merge below the protocol's link sends of a change on it.
+    // A change on the protocol's link becomes what the first merge below it sends, if that sends one.
     fn merge_into(
         &self,
         proto: Proto,
-        change: Change<Interior<Addr<F>>, Prefix<F>>,
-    ) -> Result<Option<Change<Interior<Addr<F>>, Prefix<F>>>, Memory>
-        ensures { IfOk result (MergesInto proto self.now change) }
+        change: &mut Change<Interior<Addr<F>>, Prefix<F>>,
+    ) -> Result<bool, Memory>
+        ensures { IfOk result (λ went. MergesInto proto self.now change.old (sent_if went change.new)) }
     {
         let other = Upstream::asked(self.branch(partner(proto)), &change.prefix)?;
-        Ok(take_in(side(proto), change, other))
+        Ok(merge(side(proto), change, other))
     }
 
-    // What the merge into `int` sends of a change on the link of the first.
+    // A change on the link of the first becomes what the merge into `int` sends, if that sends one.
     fn merge_below(
         &self,
         proto: Proto,
-        change: Change<Interior<Addr<F>>, Prefix<F>>,
-    ) -> Result<Option<Change<Interior<Addr<F>>, Prefix<F>>>, Memory>
-        ensures { IfOk result (MergesBelow proto self.now change) }
+        change: &mut Change<Interior<Addr<F>>, Prefix<F>>,
+    ) -> Result<bool, Memory>
+        ensures { IfOk result (λ went. MergesBelow proto self.now change.old (sent_if went change.new)) }
     {
         let other = self.row_beside(proto, change.prefix)?;
-        Ok(take_in(next_side(proto), change, other))
+        Ok(merge(next_side(proto), change, other))
     }
 
     /// A change on the protocol's link goes down through both merges, whose lines are written. Answers the change on `int`.
@@ -114,12 +153,15 @@ impl<F: Texts> Tree<F> {
     ) -> Result<Option<Change<Interior<Addr<F>>, Prefix<F>>>, Memory>
         ensures { IfOk result (IsPassedDown proto self.now change journal.old journal.new) }
     {
-        let Some(middle) = self.merge_into(proto, change)? else {
+        let mut change = change;
+        if !self.merge_into(proto, &mut change)? {
             return Ok(None);
-        };
-        journal.push_change(merged_link(proto), &middle)?;
-        let sent = self.merge_below(proto, middle)?;
-        journal.push_sent(Link::Int, &sent)?;
-        Ok(sent)
+        }
+        journal.push_change(merged_link(proto), &change)?;
+        if !self.merge_below(proto, &mut change)? {
+            return Ok(None);
+        }
+        journal.push_change(Link::Int, &change)?;
+        Ok(Some(change))
     }
 }

@@ -39,6 +39,7 @@ pub(crate) fn second_begun(
 }
 
 /// The second network is told an event.
+#[inline(never)]
 pub(crate) fn told_second(
     second: &mut Core<V6>,
     told: EventOf<V6>,

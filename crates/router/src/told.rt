@@ -95,6 +95,7 @@ pub(crate) fn update_of(
 
 /// What the second network is told of an event, by what was declared before it. Of a message of a peer that is up it isn't known
 /// yet whether it ends the session.
+#[inline(never)]
 pub(crate) fn told_so_far(
     alloc: Global,
     declared: &Declared,
@@ -113,6 +114,7 @@ pub(crate) fn told_so_far(
 }
 
 /// The same where it is known: the first network heard the event, and this is declared then.
+#[inline(never)]
 pub(crate) fn told_then(declared: &Declared, told: EventOf<V6>) -> EventOf<V6>
     ensures { result ≡ told_then declared.now told }
 {

@@ -52,6 +52,26 @@ filt_external c p hop named = by_made (filt_rows c p) refl named
         let same : route_hop r ≡ hop = cc in
         ap (λ (o : Option _). external_of o (route_hop r)) (sender c p (in_rows c.incoming p) r is) ∙ ap (external_of (Some c.peer)) same
 
+-- ---- and a row of `res.K` is of the sender of the one of `filt.K`
+same_sender : (u r : Route) (igp : Option ℕ) → with_igp u igp ≡ Some r → r.from ≡ u.from
+same_sender u r None is = absurd (let clash : ◌≡◌ {A = Option Route} None (Some r) = is in cc)
+same_sender u r (Some metric) is = let same : record u { igp = Some metric } ≡ r = cc in sym (ap (λ (x : Route). x.from) same)
+
+abbrev HasSender : Option Route → Route → Type 0
+HasSender row r = (u : Route) × (row ≡ Some u) × (r.from ≡ u.from)
+
+sent_answer : (u r : Route) (answer : Option Metric) → made_by route_hop with_metric u answer ≡ Some r → r.from ≡ u.from
+sent_answer u r None is = absurd (let clash : ◌≡◌ {A = Option Route} None (Some r) = is in cc)
+sent_answer u r (Some answer) is = same_sender u r answer.igp is
+
+sent_row : (answers : Answers Metric) (row : Option Route) (r : Route) → goes_on route_hop with_metric answers row ≡ Some r → HasSender row r
+sent_row answers None r is = absurd (let clash : ◌≡◌ {A = Option Route} None (Some r) = is in cc)
+sent_row answers (Some u) r is = (u, refl, sent_answer u r (answers (route_hop u)) is)
+
+res_sender : (o : Option (Resolving Metric)) (upper : Rows Route) (p : AddressPrefix) (r : Route) → rows_by o upper p ≡ Some r → HasSender (upper p) r
+res_sender None upper p r is = absurd (let clash : ◌≡◌ {A = Option Route} None (Some r) = is in cc)
+res_sender (Some s) upper p r is = sent_row (function_at (passes s) p) (upper p) r is
+
 -- ---- of a branch
 module _ (own : Rows Route) (a : Chains) (h : Resolvers) (b : ℕ) (p : AddressPrefix) where
   peers_branch : b ≢ 0 → lent_rows own a h b ≡ lent_resolved a h b
@@ -85,3 +105,9 @@ module _ (own : Rows Route) (a : Chains) (h : Resolvers) (b : ℕ) (p : AddressP
       by_there : (t : Bool) → cond t (external_row (filt_by chain p)) None ≡ None
       by_there true = ap external_row none
       by_there false = refl
+
+  -- its rows are its peer's
+  pub of_peer : (c : Chained) → lent_chain a b ≡ Some c → b ≢ 0 → (r : Route) → lent_rows own a h b p ≡ Some r → r.from ≡ Some c.peer
+  of_peer c is peer r at =
+      let sent = res_sender (resolver_at b h) (filt_rows c) p r (sym (resolved_is (Some c) is peer) ∙ at) in
+      sent.2 ∙ sender c p (in_rows c.incoming p) sent.0 sent.1

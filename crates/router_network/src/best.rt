@@ -1,6 +1,6 @@
 //! What follows a change of `res.K` or `red`: the best route at its prefix, over all peers and this speaker's own (RFC 4271, section 9.1.2).
 
-ghost use Rattle.std.specs.Prelude.{◌≡◌, ◌≤◌, IfOk, OnOk, is_some};
+ghost use Rattle.std.specs.Prelude.{◌≡◌, ◌≤◌, Some, IfOk, OnOk, is_some};
 ghost use Rattle.std.specs.Option.{option_copied};
 ghost use Rattle.addr4.specs.Places.{key_of};
 ghost use Rattle.journal_text.specs.Journals.{Adds};
@@ -152,6 +152,16 @@ impl<'a, F: Texts> Branches<F> for Lent<'a, F> {
         }
         self.has_resolved(branch, p)
     }
+
+    fn is_from(&self, branch: u8, number: u8) -> bool {
+        if branch == 0 {
+            return false;
+        }
+        match self.chain(branch) {
+            Some(chain) => chain.peer().number == number,
+            None => false,
+        }
+    }
 }
 
 impl<'a, F: Texts> Named<F> for Lent<'a, F> {
@@ -190,9 +200,28 @@ impl<F: Writes> Network<F> {
         ensures known { OnOk result (Knows contests.new (branch_rows self.new)) }
         ensures counts { OnOk result (KeepsCounts contests.old contests.new) }
     {
-        let Some(change) = sent else {
-            return Ok(());
-        };
+        match sent {
+            None => Ok(()),
+            Some(change) => self.decide_change(number, change, contests, journal),
+        }
+    }
+
+    /// The same of a change that came.
+    #[inline(never)]
+    fn decide_change(
+        &mut self,
+        number: u32,
+        change: Change<Route<SharedAttrs<F>>, Prefix<F>>,
+        contests: &mut Contests<F>,
+        journal: &mut Journal<F>,
+    ) -> Result<(), Memory>
+        requires small { number ≤ 64 }
+        requires exits { IsExits self.old.exits }
+        requires known { KnowsBut number (Some change) contests.old self.old }
+        ensures decides { OnOk result (Adds (Decides number (Some change) self.old self.new) journal.old journal.new) }
+        ensures known { OnOk result (Knows contests.new (branch_rows self.new)) }
+        ensures counts { OnOk result (KeepsCounts contests.old contests.new) }
+    {
         let best = contests.take_in(number as u8, change, &self.lent())?;
         self.queue(best, journal)
     }

@@ -51,7 +51,7 @@ impl<F: Writes> Network<F> {
         let Some(me) = self.declared.speaker() else {
             unreachable!()
         };
-        let sent = self.redist.take_in(change.copy()?, &me)?;
+        let sent = self.redist.take_in(change, &me)?;
         self.send_own(sent, contests, journal)
     }
 

@@ -77,4 +77,8 @@ impl Branches<V4> for TableBranches {
         };
         table.get(*p).is_some()
     }
+
+    fn is_from(&self, _branch: u8, _number: u8) -> bool {
+        false
+    }
 }

@@ -1,13 +1,13 @@
-use Rattle.router_moments.proofs.Common.{sym, ◌∙◌}
+use Rattle.router_moments.proofs.Common.{refl, sym, ◌∙◌}
 use Rattle.router_moments.proofs.OwnTurns.{own_followed}
 use Rattle.router_network.proofs.KnownRows.{over_but}
 use Rattle.router_network.proofs.network.Network.redistribute.Goals as goal
 
 pub returns-clause-redistributes : goal.returns-clause-redistributes
 returns-clause-redistributes g c =
-    own_followed c.send_own.result c.in-Some.me c.args.change.now c.in_ok-copy.field-0 c.args.self.now _ c.send_own.new.self c.take_in.new.self c.in_ok-sent.sent c.args.journal.now c.send_own.new.journal c.self.view_is
-    (sym c.speaker.ensures ∙ c.in-Some.is) c.in_ok-copy.ensures c.in_ok-sent.ensures.sent c.in_ok-sent.ensures.same c.send_own.ensures.sends
+    own_followed c.send_own.result c.in-Some.me c.args.change.now c.args.change.now c.args.self.now _ c.send_own.new.self c.take_in.new.self c.in_ok-sent.sent c.args.journal.now c.send_own.new.journal c.self.view_is
+    (sym c.speaker.ensures ∙ c.in-Some.is) refl c.in_ok-sent.ensures.sent c.in_ok-sent.ensures.same c.send_own.ensures.sends
 
 pub send_own-requires-clause-known : goal.send_own-requires-clause-known
 send_own-requires-clause-known g c =
-    over_but c.in-Some.me c.args.change.now c.in_ok-copy.field-0 c.in_ok-sent.sent c.args.contests.now c.args.self.now _ c.take_in.new.self c.self.view_is (sym c.speaker.ensures ∙ c.in-Some.is) c.in_ok-copy.ensures c.in_ok-sent.ensures.sent c.in_ok-sent.ensures.same c.requires.known
+    over_but c.in-Some.me c.args.change.now c.args.change.now c.in_ok-sent.sent c.args.contests.now c.args.self.now _ c.take_in.new.self c.self.view_is (sym c.speaker.ensures ∙ c.in-Some.is) refl c.in_ok-sent.ensures.sent c.in_ok-sent.ensures.same c.requires.known
