@@ -6,5 +6,6 @@ pub mod ReadBack
 pub mod JournalLemmas
 pub mod ReadNames
 pub mod FallLemmas
+pub mod FrontLemmas
 pub mod KeptLemmas
 pub mod ReadLemmas

@@ -6,7 +6,7 @@ use borrow.Rule.Slice.PartMut.{put_mid, post_of}
 use Rattle.hex.specs.Hex.{encode_lower, encode_with}
 use Rattle.journal_text.specs.declared.kept.Span.{Span}
 use Rattle.journal_text.specs.declared.kept.TheConstants.{MARKER}
-use Rattle.journal_text.specs.Kept.{kept_text}
+use Rattle.journal_text.specs.Kept.{kept_text, taken, unkept}
 use Rattle.journal_text.specs.Reading.{left, IsReading}
 use Rattle.journal_text.proofs.KeptLemmas.{digits_join}
 
@@ -57,10 +57,10 @@ nothing_left characters marker octets spans content reading a b c =
 
 -- the first of some spans is what is read next
 pub first_span : (s : Span) (spans rest : List Span) (content characters behind octets after : List ℕ) → spans ≡ s ∷ rest
-    → characters ≡ take s.before content → behind ≡ drop s.before content → octets ≡ take s.count behind → after ≡ drop s.count behind
+    → characters ≡ take (taken s.front) content ++ unkept s.front → behind ≡ drop (taken s.front) content → octets ≡ take s.count behind → after ≡ drop s.count behind
     → left characters MARKER.now octets rest after ≡ kept_text spans content
 unfolding left
-first_span s spans rest content characters behind octets after first front back taken dropped = rw (first, front, taken, dropped, back) refl
+first_span s spans rest content characters behind octets after first front back here dropped = rw (first, front, here, dropped, back) (append_assoc _ (unkept s.front) _)
 
 -- behind the last span characters alone are left
 pub last_left : (spans : List Span) (content : List ℕ) → length spans ≡ 0 → left content [] [] spans [] ≡ kept_text spans content

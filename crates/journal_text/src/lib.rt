@@ -9,6 +9,7 @@
 #![tactic(auto)]
 
 mod entry;
+mod front;
 mod journal;
 mod kept;
 mod laws;

@@ -5,6 +5,7 @@ ghost use Rattle.hex.specs.Hex.{encode_lower};
 ghost use Rattle.journal_text.specs.Kept.{covered, kept_text};
 ghost use Rattle.journal_text.specs.Reading.{left};
 
+use crate::front::split_front;
 use crate::kept::{MARKER, Span};
 use std::cmp::min;
 use std::marker::Model;
@@ -69,7 +70,7 @@ pub(crate) fn read_spans<'a>(content: &'a [u8], spans: &'a [Span]) -> TextReader
 {
     match spans.split_first() {
         Some((span, spans)) => {
-            let (characters, behind) = content.split_at(span.before as usize);
+            let (characters, behind) = split_front(span.front, content);
             let (octets, content) = behind.split_at(span.count as usize);
             TextReader {
                 characters,
