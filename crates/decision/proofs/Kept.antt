@@ -1,5 +1,5 @@
 -- What is known at each prefix, by the marks and the lines that are kept.
-use Rattle.std.proofs.Common.{◌≡◌, ◌≢◌, cond, is_some, List, [], ◌∷◌, map, Option, Some, None, option_map, refl, sym, ◌∙◌, ap, subst}
+use Rattle.std.proofs.Common.{◌≡◌, ◌≢◌, ◌<◌, cond, IsSome, is_some, List, [], ◌∷◌, map, Option, Some, None, option_map, refl, sym, ◌∙◌, ap, subst, arith}
 use Rattle.std.specs.FinMap as tables
 use Rattle.std.specs.FinMap.{FinMap, find, get-entries, get-from_entries, get-insert, get-remove, get-empty}
 use Rattle.addr4.specs.Prefixes.{AddressPrefix, prefix_cmp}
@@ -7,7 +7,7 @@ use Rattle.addr4.specs.Places.{IsNextRow}
 use Rattle.addr4.proofs.PrefixOrder.{prefixes_total, by_prefix, itself}
 use Rattle.decision.specs.declared.lineup.Lineup.{Lineup}
 use Rattle.decision.specs.declared.contest.Mark.{Mark}
-use Rattle.decision.specs.Contests.{Contest, contest_of, contests_of, AreMarked, Updated}
+use Rattle.decision.specs.Contests.{Contest, contest_of, contests_of, AreMarked, Updated, walkers_in}
 
 -- what is known at a prefix
 abbrev pub known_at : FinMap prefix_cmp Mark → FinMap prefix_cmp Lineup → AddressPrefix → Option Contest
@@ -45,6 +45,14 @@ nothing_known marks lines q e = get_known marks lines q ∙ ap (option_map (λ m
 pub known_of : (marks : FinMap prefix_cmp Mark) (lines : FinMap prefix_cmp Lineup) (q : AddressPrefix) (mark : Mark) → tables.get marks q ≡ Some mark
     → tables.get (contests_of marks lines) q ≡ Some (contest_of mark (tables.get lines q))
 known_of marks lines q mark e = get_known marks lines q ∙ ap (option_map (λ m. contest_of m (tables.get lines q))) e
+
+-- a mark stands where a candidate is counted
+pub mark_there : (marks : FinMap prefix_cmp Mark) (lines : FinMap prefix_cmp Lineup) (q : AddressPrefix) → 0 < walkers_in (tables.get (contests_of marks lines) q) → IsSome (tables.get marks q)
+mark_there marks lines q some = by (tables.get marks q) refl
+  where
+    by : (o : Option Mark) → tables.get marks q ≡ o → IsSome o
+    by None e = let none : walkers_in (tables.get (contests_of marks lines) q) ≡ 0 = ap walkers_in (nothing_known marks lines q e) in absurd (omega (arith, none, some))
+    by (Some m) e = refl
 
 -- the next mark is the next prefix where something is known
 some_mark : (o : Option Mark) (line : Option Lineup) → is_some (option_map (λ m. contest_of m line) o) ≡ is_some o

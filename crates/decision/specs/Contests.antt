@@ -132,3 +132,8 @@ pub record HasMove (p : AddressPrefix) (comes : Bool) (contests : FinMap prefix_
 -- where no branch has a candidate at a prefix, none has a row
 abbrev pub CoversAt : (ℕ → Candidates) → AllRows → AddressPrefix → Type 0
 CoversAt candidates rows p = counted candidates p ≡ 0 → (b : ℕ) → b < 65 → rows b p ≡ None
+
+-- such a move is counted, and what was known of rows stays known where a prefix without a candidate has none
+pub record IsNoted (p : AddressPrefix) (comes : Bool) (old new : FinMap prefix_cmp Contest) : Type 0 where
+  pub counts : (branch : ℕ) (before now : ℕ → Candidates) → Moves branch p comes before now → Counts old before → Counts new now
+  pub known : (rows : AllRows) (candidates : ℕ → Candidates) → Counts new candidates → CoversAt candidates rows p → Knows old rows → Knows new rows

@@ -1,12 +1,12 @@
 //! What is known of the branches at each prefix.
 
-ghost use Rattle.std.specs.Prelude.{◌≡◌, ◌<◌, ℕ, Some, None, false, IfOk, OnOk, OnErr, IsSome, is_some};
+ghost use Rattle.std.specs.Prelude.{◌≡◌, ◌<◌, ℕ, Some, None, true, false, IfOk, OnOk, IsSome, is_some};
 ghost use Rattle.std.specs.FinMap as tables;
 ghost use Rattle.addr4.specs.Prefixes.{AddressPrefix};
 ghost use Rattle.addr4.specs.Places.{key_of, IsNextRow};
 ghost use Rattle.link_change.specs.Rows.{Candidates, IsNextCandidate, CoversRows};
 ghost use Rattle.decision.specs.Branches.{Decides, AllRows, best_rows, best_candidates};
-ghost use Rattle.decision.specs.Contests.{Knows, KnowsBefore, Updated, winner_in, Counts, Moves, HasMove, CoversAt};
+ghost use Rattle.decision.specs.Contests.{Knows, KnowsBefore, Updated, winner_in, Counts, Moves, HasMove, IsNoted, CoversAt};
 
 use crate::best::Best;
 use crate::branches::Branches;
@@ -43,17 +43,6 @@ impl<F: Family> Model for Contests<F> {
     ghost view = { λ c. contests_of c.marks.rows c.lines.rows };
 
     ghost invariant = { λ c. AreMarked c.marks.rows c.lines.rows };
-}
-
-// Puts a mark at a prefix.
-fn keep<F: Family>(marks: &mut Trie<Mark, F>, prefix: Prefix<F>, mark: Mark) -> Result<(), Memory>
-    ensures ok { OnOk result (marks.new.rows ≡ tables.insert marks.old.rows prefix mark) }
-    ensures memory { OnErr result (marks.new.rows ≡ marks.old.rows) }
-{
-    match marks.insert(prefix, mark) {
-        Ok(_) => Ok(()),
-        Err(_) => Err(Memory),
-    }
 }
 
 impl<F: Family> Contests<F> {
@@ -128,14 +117,10 @@ impl<F: Family> Contests<F> {
         ensures counts { OnOk result ((branch : ℕ) (before now : ℕ → Candidates) → Moves branch prefix comes before now → Counts self.old before → Counts self.new now) }
         ensures known { OnOk result ((rows : AllRows) (candidates : ℕ → Candidates) → Counts self.new candidates → CoversAt candidates rows prefix → Knows self.old rows → Knows self.new rows) }
     {
-        let Some(mark) = self.marks.get_mut(prefix) else {
-            self.enter(prefix)?;
-            return Ok(());
-        };
-        mark.walkers = moved(mark.walkers, comes);
-        if mark.walkers == 0 {
-            self.forget(prefix);
+        if comes {
+            return self.come(prefix);
         }
+        self.go(prefix);
         Ok(())
     }
 
@@ -179,17 +164,36 @@ impl<F: Family> Contests<F> {
         }
     }
 
-    // The first candidate at a prefix.
-    fn enter(&mut self, prefix: Prefix<F>) -> Result<(), Memory>
-        requires { tables.get self.old prefix ≡ None }
-        ensures { OnOk result (Updated self.old self.new prefix (Some (record { walkers = 1; winner = None; line = None }))) }
+    // A candidate comes at a prefix. Whether it is the first one there is seen by the descent that puts its mark.
+    fn come(&mut self, prefix: Prefix<F>) -> Result<(), Memory>
+        requires { HasMove prefix true self.old }
+        ensures { OnOk result (IsNoted prefix true self.old self.new) }
     {
-        let mark = Mark {
+        let first = Mark {
             walkers: 1,
             winner: None,
         };
-        keep(&mut self.marks, prefix, mark)?;
-        Ok(())
+        match self.marks.enter(prefix, first) {
+            Err(_) => Err(Memory),
+            Ok(None) => Ok(()),
+            Ok(Some((key, _))) => {
+                let mark = self.marks.value_near(key, prefix);
+                mark.walkers = moved(mark.walkers, true);
+                Ok(())
+            }
+        }
+    }
+
+    // A candidate at a prefix goes.
+    fn go(&mut self, prefix: Prefix<F>)
+        requires { HasMove prefix false self.old }
+        ensures { IsNoted prefix false self.old self.new }
+    {
+        let mark = self.marks.value_mut(prefix);
+        mark.walkers = moved(mark.walkers, false);
+        if mark.walkers == 0 {
+            self.forget(prefix);
+        }
     }
 
     // The last candidate at a prefix has gone.

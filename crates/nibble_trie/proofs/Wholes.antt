@@ -15,12 +15,14 @@ use Rattle.nibble_trie.specs.Leaves.{Node}
 use Rattle.nibble_trie.specs.declared.link.Link.{Link}
 use Rattle.nibble_trie.specs.declared.branch.Branch.{Branch}
 use Rattle.nibble_trie.specs.declared.index.Index.{Index}
+use Rattle.nibble_trie.specs.declared.reading.Gap.{Gap}
+use Rattle.nibble_trie.specs.declared.reading.Gap.TheVariants.{Behind, First}
 use Rattle.nibble_trie.specs.Links.{leads, leaf_of}
 use Rattle.nibble_trie.specs.Keys.{prefix_in, longer_in, IsNextOf, IsChained, IsLastBelow, IsHeadOf, IsLeafOf, IsNextLeaf}
 use Rattle.nibble_trie.specs.Index.{Indexes, Names, with_head}
 use Rattle.nibble_trie.specs.Nodes.{HasNode, HasNodes, prefixes_of}
 use Rattle.nibble_trie.specs.Contents.{Contents, LiesAt}
-use Rattle.nibble_trie.specs.View.{rows_of, IsWhole, Joins}
+use Rattle.nibble_trie.specs.View.{rows_of, IsWhole, IsWayEnd, IsGapOf, Joins}
 use Rattle.nibble_trie.proofs.Digits.{some_same}
 use Rattle.nibble_trie.proofs.Chains.{Adds, Removes, was_there, is_there, stood_there, first_chained, first_heads, first_gone, next_same, behind_chained, behind_heads, first_removed, behind_removed, behind_gone, chained_kept}
 use Rattle.nibble_trie.proofs.Rows.{prefix_found, node_at, keeps_at, keeps_touched, keeps_trans, rows_put, rows_removed, row_of, row_none, row_found}
@@ -220,6 +222,19 @@ module _ {V : Type 0} where
         small = w.small;
       } in
       subst (λ (l : Slab (Node V)). IsWhole l (record { root = root; branches = branches' })) (sym e) (subst (λ (b : Slab Branch). IsWhole (record old { capacity = new.capacity }) (record { root = root; branches = b })) (sym f) sized)
+
+  pub gap_sized : (old new : Slab (Node V)) (branches branches' : Slab Branch) (root : Link) (p : AddressPrefix) (gap : Gap) → new ≡ record old { capacity = new.capacity } → branches' ≡ record branches { capacity = branches'.capacity } → IsGapOf old (record { root = root; branches = branches }) p gap → IsGapOf new (record { root = root; branches = branches' }) p gap
+  gap_sized old new branches branches' root p (Behind before) e f at =
+      subst (λ (l : Slab (Node V)). IsLastBelow (prefix_in l) (longer_in l) p.address p.length before) (sym e) (record { prefix = at.prefix; found = at.found; same = at.same; shorter = at.shorter; next = at.next })
+  gap_sized old new branches branches' root p (First end head) e f at =
+      let sized : IsWayEnd (record old { capacity = new.capacity }) (record { root = root; branches = record branches { capacity = branches'.capacity } }) p end head = record {
+        way = λ heads layout h.
+            let w = at.way heads layout (record { fits = h.fits; apart = h.apart; single = h.single }) in
+            record { stands = record { place = w.stands.place; level = w.stands.level; leads = w.stands.leads; short = w.stands.short }; lies = w.lies };
+        cell = at.cell;
+        first = at.first;
+      } in
+      subst (λ (l : Slab (Node V)). IsWayEnd l (record { root = root; branches = branches' }) p end head) (sym e) (subst (λ (b : Slab Branch). IsWayEnd (record old { capacity = new.capacity }) (record { root = root; branches = b }) p end head) (sym f) sized)
 
   -- an empty trie
   pub whole_empty : (leaves : Slab (Node V)) (index : Index) → leaves.slots ≡ [] → Indexes index (λ _. None) → IsWhole leaves index

@@ -1,7 +1,7 @@
 -- What contracts see of a trie.
 use Rattle.std.specs.Prelude.{◌≡◌, ℕ, List, Option, Some, None, IsSome, slice_index_or, refl}
 use Rattle.std.specs.Coded.{Coded, code_by, coded×, coded_list, coded_option}
-use Rattle.std.specs.FinMap.{FinMap, code, get}
+use Rattle.std.specs.FinMap.{FinMap, code, get, insert}
 use Rattle.addr4.specs.Prefixes.{AddressPrefix, prefix_cmp, address_prefix_code}
 
 -- its map, and of each key in its nodes the prefix of the leaf that lies there
@@ -19,3 +19,16 @@ module _ {V : Type 0} where
 -- the leaf at a key is that of a prefix
 abbrev pub LiesAt : List (Option AddressPrefix) → ℕ → AddressPrefix → Type 0
 LiesAt leaves key p = slice_index_or leaves key None ≡ Some p
+
+module _ {V : Type 0} where
+  -- nothing stood at a prefix, and this value does now
+  pub record IsEntered (old new : Contents V) (p : AddressPrefix) (value : V) : Type 0 where
+    pub absent : get old.rows p ≡ None
+    pub rows : new.rows ≡ insert old.rows p value
+
+  -- a value stands at a prefix, whose leaf lies at a key, and stays; the one that is handed in comes back
+  pub record IsOccupied (old new : Contents V) (p : AddressPrefix) (value : V) (found : ℕ × V) : Type 0 where
+    pub there : HasKey new.rows p
+    pub lies : LiesAt new.leaves found.0 p
+    pub back : found.1 ≡ value
+    pub stays : new ≡ old

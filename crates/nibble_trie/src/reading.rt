@@ -1,13 +1,13 @@
 //! The descents to a key, and to the next one in order.
 
-ghost use Rattle.std.specs.Prelude.{◌≡◌, ◌↔◌, ℕ, IsTrue, Option, Some};
+ghost use Rattle.std.specs.Prelude.{◌≡◌, ◌↔◌, ℕ, IsTrue, Option, Some, IfOk, OnErr, IfErr};
 ghost use Rattle.addr4.specs.Places.{key_of};
 ghost use Rattle.nibble_trie.specs.declared.link.Target.TheVariants.{Inner};
 ghost use Rattle.nibble_trie.specs.Links.{leads, IsCell};
 ghost use Rattle.nibble_trie.specs.Keys.{prefix_in, longer_in, IsNextOf, IsChained, IsLeafOf, IsFirstOf, IsFrom, IsNextLeaf};
 ghost use Rattle.nibble_trie.specs.Index.{Layout, IsSpotOf, spot_at};
 ghost use Rattle.nibble_trie.specs.Next.{FromAt, Starts, CanStart};
-ghost use Rattle.nibble_trie.specs.View.{IsWhole};
+ghost use Rattle.nibble_trie.specs.View.{IsWhole, IsGapOf};
 
 use crate::branch::digit_of;
 use crate::chain;
@@ -17,6 +17,13 @@ use crate::node::Node;
 use addr4::{Addr, Family, Place, Prefix};
 use slab::Slab;
 use std::cell::Cell;
+
+/// Where a new leaf is put: behind another one of its address, or before the first one, where the way of the address ends.
+#[derive(Clone, Copy)]
+pub(crate) enum Gap {
+    Behind(usize),
+    First(End, Option<usize>),
+}
 
 // Where the way of a prefix's address ends in the index, and the first leaf of that address.
 pub(crate) fn first_leaf<V, F: Family>(
@@ -33,6 +40,37 @@ pub(crate) fn first_leaf<V, F: Family>(
     let end = index.end_of(address);
     let head = index.head(leaves, end, address);
     (end, head)
+}
+
+// The leaf of a prefix, or else where a new one is put.
+pub(crate) fn search<V, F: Family>(
+    index: &Index,
+    leaves: &Slab<Node<V, Prefix<F>>>,
+    prefix: Prefix<F>,
+) -> Result<usize, Gap>
+    requires { IsWhole leaves.now index.now }
+    ensures found { IfOk result (λ key. prefix_in leaves.now key ≡ Some prefix) }
+    ensures absent { OnErr result ((k : ℕ) → prefix_in leaves.now k ≡ Some prefix → ⊥) }
+    ensures gap { IfErr result (IsGapOf leaves.now index.now prefix) }
+{
+    let entry = first_leaf(index, leaves, prefix);
+    let first = match entry.1 {
+        None => return Err(Gap::First(entry.0, None)),
+        Some(first) => first,
+    };
+    let node = &leaves[first];
+    let length = node.prefix.length();
+    if length < prefix.length() {
+        let place = chain::place_behind(leaves, first, prefix);
+        return match place.1 {
+            None => Err(Gap::Behind(place.0)),
+            Some(key) => Ok(key),
+        };
+    }
+    if length == prefix.length() {
+        return Ok(first);
+    }
+    Err(Gap::First(entry.0, Some(first)))
 }
 
 // The leaf of a prefix.

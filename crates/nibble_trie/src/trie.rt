@@ -1,11 +1,11 @@
 //! Tries.
 
-ghost use Rattle.std.specs.Prelude.{◌≡◌, IsOk, OnOk, OnErr, IfOk, IfErr, IfSome, option_map, Some};
+ghost use Rattle.std.specs.Prelude.{◌≡◌, IsOk, OnOk, OnErr, IfOk, IfErr, IfSome, MatchOption, option_map, Some, None};
 ghost use Rattle.std.specs.Option.{option_copied, option_copied_mut};
 ghost use Rattle.std.specs.FinMap as map;
 ghost use Rattle.std.specs.Borrow.{sem};
 ghost use Rattle.addr4.specs.Places.{IsNextRow, key_of};
-ghost use Rattle.nibble_trie.specs.Contents.{HasKey};
+ghost use Rattle.nibble_trie.specs.Contents.{HasKey, IsEntered, IsOccupied};
 
 use crate::index::Index;
 use crate::node::Node;
@@ -75,6 +75,31 @@ impl<V, F: Family> Trie<V, F> {
             self.last.set(vacant);
         }
         Ok(before)
+    }
+
+    /// Puts a value at a prefix where nothing stands. Where something does, it stays, and the value is handed back with the key
+    /// of its leaf in [`nodes`](Trie::nodes); that takes no memory, and asks for none. For want of memory the value is handed
+    /// back and the rows stay; so they do where there are 2^31 keys.
+    pub fn enter(&mut self, prefix: Prefix<F>, value: V) -> Result<Option<(usize, V)>, V>
+        ensures ok { IfOk result (λ found. MatchOption found (IsEntered self.old self.new prefix value) (IsOccupied self.old self.new prefix value)) }
+        ensures value_returned { IfErr result (λ back. back ≡ value) }
+        ensures absent { OnErr result (map.get self.old.rows prefix ≡ None) }
+        ensures err { OnErr result (self.new.rows ≡ self.old.rows) }
+    {
+        let gap = match reading::search(&self.index, &self.leaves, prefix) {
+            Ok(key) => {
+                self.last.set(key);
+                return Ok(Some((key, value)));
+            }
+            Err(gap) => gap,
+        };
+        if !writing::make_room(&mut self.leaves, &mut self.index.branches) {
+            return Err(value);
+        }
+        let vacant = self.leaves.vacant_key();
+        writing::add(&mut self.leaves, &mut self.index, gap, prefix, value);
+        self.last.set(vacant);
+        Ok(None)
     }
 
     /// Takes out what stands at a prefix. Takes no memory, as all calls below.

@@ -8,12 +8,13 @@ ghost use Rattle.nibble_trie.specs.Leaves.{Node as Noded};
 ghost use Rattle.nibble_trie.specs.Links.{leads, IsCell};
 ghost use Rattle.nibble_trie.specs.Keys.{prefix_in, longer_in, IsNextOf, IsChained, IsLastBelow, IsSmall, IsHeadOf};
 ghost use Rattle.nibble_trie.specs.Index.{Layout, IsLaid, Indexes, with_head, IsAlone, OnWay, IsSpotOf, spot_at, HasLoneWay};
-ghost use Rattle.nibble_trie.specs.View.{rows_of, IsWhole, Joins};
+ghost use Rattle.nibble_trie.specs.View.{rows_of, IsWhole, Joins, IsGapOf};
 
 use crate::branch::Branch;
 use crate::index::{End, Index, Spot};
 use crate::link::Link;
 use crate::node::Node;
+use crate::reading::Gap;
 use crate::{chain, reading};
 use addr4::{Addr, Family, Prefix};
 use slab::Slab;
@@ -127,28 +128,28 @@ fn add_behind<V, F: Family>(
     set_longer(leaves, before, Link::leaf(key));
 }
 
-// Puts a value at a prefix whose address has a shorter one, and answers the one that stood there.
-fn put_behind<V, F: Family>(
+// A new leaf in its gap.
+pub(crate) fn add<V, F: Family>(
     leaves: &mut Slab<Node<V, Prefix<F>>>,
-    first: usize,
+    index: &mut Index,
+    gap: Gap,
     prefix: Prefix<F>,
     value: V,
-) -> Option<V>
+)
+    requires whole { IsWhole leaves.old index.old }
     requires room { HasRoomFor leaves.old 1 }
     requires small { leaves.old.capacity < 2 ^ 31 }
-    requires chained { IsChained (prefix_in leaves.old) (longer_in leaves.old) }
-    requires has { ContainsKey leaves.old first }
-    requires below { (p : AddressPrefix) → prefix_in leaves.old first ≡ Some p → (p.address ≡ prefix.address) × (p.length < prefix.length) }
-    ensures joins { Joins leaves.old leaves.new prefix (Some value) }
-    ensures before { result ≡ map.get (rows_of leaves.old) prefix }
+    requires branch_room { HasRoomFor index.old.branches 32 }
+    requires branch_small { index.old.branches.capacity ≤ 2 ^ 31 }
+    requires absent { (k : ℕ) → prefix_in leaves.old k ≡ Some prefix → ⊥ }
+    requires gap { IsGapOf leaves.old index.old prefix gap }
+    ensures whole { IsWhole leaves.new index.new }
+    ensures rows { rows_of leaves.new ≡ map.insert (rows_of leaves.old) prefix value }
 {
-    let place = chain::place_behind(leaves, first, prefix);
-    match place.1 {
-        Some(key) => Some(replace(leaves, key, value)),
-        None => {
-            add_behind(leaves, place.0, prefix, value);
-            None
-        }
+    prefix.known();
+    match gap {
+        Gap::Behind(before) => add_behind(leaves, before, prefix, value),
+        Gap::First(end, head) => add_first(leaves, index, end, head, prefix, value),
     }
 }
 
@@ -168,25 +169,13 @@ pub(crate) fn put<V, F: Family>(
     ensures before { result ≡ map.get (rows_of leaves.old) prefix }
     ensures rows { rows_of leaves.new ≡ map.insert (rows_of leaves.old) prefix value }
 {
-    prefix.known();
-    let entry = reading::first_leaf(index, leaves, prefix);
-    let first = match entry.1 {
-        None => {
-            add_first(leaves, index, entry.0, None, prefix, value);
-            return None;
+    match reading::search(index, leaves, prefix) {
+        Ok(key) => Some(replace(leaves, key, value)),
+        Err(gap) => {
+            add(leaves, index, gap, prefix, value);
+            None
         }
-        Some(first) => first,
-    };
-    let node = &leaves[first];
-    let length = node.prefix.length();
-    if length < prefix.length() {
-        return put_behind(leaves, first, prefix, value);
     }
-    if length == prefix.length() {
-        return Some(replace(leaves, first, value));
-    }
-    add_first(leaves, index, entry.0, Some(first), prefix, value);
-    None
 }
 
 // The leaf behind the first one of an address becomes the first.

@@ -50,3 +50,5 @@ mod second_octets;
 mod streams;
 #[cfg(test)]
 mod tables;
+#[cfg(test)]
+mod tries;

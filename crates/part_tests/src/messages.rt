@@ -65,3 +65,56 @@ fn the_marker_of_a_message_is_read_though_it_is_not_kept(rt: HostRuntime) -> Res
     assert!(rt; reads(&journal, &mut [0; 4096], &want));
     Ok(())
 }
+
+/// Pushes the line of a message to a peer, of a marker and these octets.
+fn push_marked(alloc: Global, journal: &mut Journal, peer: u32, octets: &[u8]) -> Result<(), Fail> {
+    let mut all = Vec::new(alloc);
+    all.resize(16, 0xff)?;
+    all.extend_from_slice(octets)?;
+    journal.push_line(Line::Out(peer, Octets::from_vec(all)))?;
+    Ok(())
+}
+
+/// Pushes messages, one behind the other and with other lines between them.
+fn push_each(alloc: Global, journal: &mut Journal) -> Result<(), Fail> {
+    push_marked(alloc, journal, 1, &[0x01])?;
+    push_marked(alloc, journal, 9, &[0x23, 0x45])?;
+    push_marked(alloc, journal, 10, &[])?;
+    journal.push_line(Line::Note(64, message(alloc, 16, 1)?))?;
+    push_marked(alloc, journal, 64, &[0x67])?;
+    journal.push_line(Line::Work(1))?;
+    push_marked(alloc, journal, 64, &[0x89])?;
+    push_marked(alloc, journal, 255, &[0xab])?;
+    push_marked(alloc, journal, 256, &[0xcd])?;
+    journal.push_line(Line::Out(1, message(alloc, 1, 0)?))?;
+    push_marked(alloc, journal, 2, &[0xef])?;
+    Ok(())
+}
+
+/// The lines of these messages.
+const EACH: &[u8] = b"\
+out 1 ffffffffffffffffffffffffffffffff01\n\
+out 9 ffffffffffffffffffffffffffffffff2345\n\
+out 10 ffffffffffffffffffffffffffffffff\n\
+note 64 ffffffffffffffffffffffffffffffff00\n\
+out 64 ffffffffffffffffffffffffffffffff67\n\
+work 1\n\
+out 64 ffffffffffffffffffffffffffffffff89\n\
+out 255 ffffffffffffffffffffffffffffffffab\n\
+out 256 ffffffffffffffffffffffffffffffffcd\n\
+out 1 ff\n\
+out 2 ffffffffffffffffffffffffffffffffef\n";
+
+#[test]
+fn what_stands_between_two_messages_is_read_though_it_is_not_kept(
+    rt: HostRuntime,
+) -> Result<(), Fail> {
+    let alloc = rt.alloc();
+    let mut journal = Journal::new(alloc, true);
+    push_each(alloc, &mut journal)?;
+    journal.flush()?;
+    assert!(rt; reads(&journal, &mut [0; 2], EACH));
+    assert!(rt; reads(&journal, &mut [0; 3], EACH));
+    assert!(rt; reads(&journal, &mut [0; 7], EACH));
+    Ok(())
+}
