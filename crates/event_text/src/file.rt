@@ -5,9 +5,10 @@ ghost use Rattle.policy_rules.specs.Words.{words};
 ghost use Rattle.event_text.specs.FileEvents.{worded_event, second_named, local6_of, second_of, read_file, begin_refusal, second_refusal, file_refusal, IsWellSaid};
 
 use crate::asking::{ask, cover, settled, show, work};
-use crate::declared::{Declared, admit};
+use crate::declared::Declared;
 use crate::event::{EventOf, FileEvent};
 use crate::grammar::event;
+use crate::refusals::admit;
 use crate::routes::{filter, lost, redist, route};
 use crate::words::{host6, is_clean, is_end};
 use addr4::Memory;

@@ -14,11 +14,13 @@ mod event;
 mod file;
 mod grammar;
 mod laws;
+mod refusals;
 mod routes;
 mod words;
 
-pub use declared::{Declared, DeclaredPeer, admit};
+pub use declared::{Declared, DeclaredPeer};
 pub use event::{Event, EventOf, FileEvent};
 pub use file::{admit_file, parse_file};
 pub use grammar::parse;
 pub use laws::lines_of_ipv4_stay;
+pub use refusals::admit;

@@ -4,7 +4,6 @@ ghost use Rattle.std.specs.Prelude.{◌≡◌, ◌<◌, IfOk, OnOk, None};
 ghost use Rattle.std.specs.List.{AllByRecursion};
 ghost use Rattle.link_change.specs.Changes.{IsSent};
 ghost use Rattle.journal_text.specs.declared.link.Link.TheVariants as names;
-ghost use Rattle.journal_text.specs.declared.link.Task.TheVariants as tasks;
 ghost use Rattle.journal_text.specs.Journals.{Adds, with_entries};
 ghost use Rattle.loss_chain.specs.declared.owner.Owner.TheVariants as owners;
 ghost use Rattle.loss_chain.specs.Tables.{NoneEmpty, OneEmptyAtMost};
@@ -13,13 +12,13 @@ ghost use Rattle.loss_chain.specs.Steps.{weld_entries};
 ghost use Rattle.in_chain.specs.Chains.{links_of, filt_rows, IsChain};
 ghost use Rattle.in_chain.specs.Falls.{Falls, LeadsChain, way_of_feed};
 ghost use Rattle.in_chain.specs.Incomings.{loss_entries, overdue_of};
-ghost use Rattle.in_chain.specs.Steps.{new_chain, fed, lost, welded, refiltered, IsTaken};
+ghost use Rattle.in_chain.specs.Steps.{new_chain, fed, lost, welded, refiltered};
 
 use addr4::{Addr, Family, Memory, Prefix, Texts, V4};
 use bgp_attr::{Neighbour, Route, SharedAttrs, Speaker};
 use filter_bank::FilterBank;
-use journal_text::{Journal, Link, Task};
-use link_change::{Change, Turn};
+use journal_text::{Journal, Link};
+use link_change::Change;
 use loss_chain::{LossChain, Owner, Stage};
 use policy_rules::Rules;
 use std::alloc::Global;
@@ -166,89 +165,5 @@ impl<F: Texts> Chain<F> {
         ensures links { links_of self.new ≡ links_of self.old }
     {
         self.filter.edit(rules);
-    }
-
-    /// One turn of a task. Of `del.K.S`: the least row of that stage, by address and then length, goes, and its delete goes
-    /// down; a turn may empty the stage: weld then. Of `fin.K`: the walk of the filter goes to the next prefix of `in.K`, or
-    /// ends. Nothing exactly where the task isn't one of the chain's or has no work; Quiet where no change comes out on
-    /// `filt.K`.
-    pub fn unit(
-        &mut self,
-        task: Task,
-        journal: &mut Journal<F>,
-    ) -> Result<Turn<Route<SharedAttrs<F>>, Prefix<F>>, Memory>
-        requires chain { IsChain self.old }
-        requires full { NoneEmpty self.old.incoming.tables.deletions }
-        ensures taken { IfOk result (IsTaken self.old self.new task journal.old journal.new) }
-        ensures chain { OnOk result (IsChain self.new) }
-        ensures one_empty { OnOk result (OneEmptyAtMost self.new.incoming.tables.deletions) }
-    {
-        match task {
-            Task::Del(number, session) => {
-                if number != self.number {
-                    return Ok(Turn::Nothing);
-                }
-                self.sweep(session, journal)
-            }
-            Task::Fin(number) => {
-                if number != self.number {
-                    return Ok(Turn::Nothing);
-                }
-                self.walk(journal)
-            }
-            Task::Nh(_)
-            | Task::ReadRib
-            | Task::Out(_)
-            | Task::Rdel(_, _)
-            | Task::Red
-            | Task::Ext
-            | Task::Ref(_) => Ok(Turn::Nothing),
-        }
-    }
-
-    // One turn of the stage of a session.
-    fn sweep(
-        &mut self,
-        session: u32,
-        journal: &mut Journal<F>,
-    ) -> Result<Turn<Route<SharedAttrs<F>>, Prefix<F>>, Memory>
-        requires chain { IsChain self.old }
-        requires full { NoneEmpty self.old.incoming.tables.deletions }
-        ensures taken { IfOk result (IsTaken self.old self.new (tasks.Del self.old.incoming.number session) journal.old journal.new) }
-        ensures chain { OnOk result (IsChain self.new) }
-        ensures one_empty { OnOk result (OneEmptyAtMost self.new.incoming.tables.deletions) }
-    {
-        match self
-            .stages
-            .unit(Owner::Peer(self.number), session, journal)?
-        {
-            Turn::Nothing => Ok(Turn::Nothing),
-            Turn::Quiet => Ok(Turn::Quiet),
-            Turn::Sent(change) => {
-                let sent = self.filter.take_in(change, &self.me, &self.peer);
-                journal.push_sent(Link::Filt(self.number), &sent)?;
-                Ok(Turn::taken(sent))
-            }
-        }
-    }
-
-    // One turn of the filter's walk.
-    fn walk(
-        &mut self,
-        journal: &mut Journal<F>,
-    ) -> Result<Turn<Route<SharedAttrs<F>>, Prefix<F>>, Memory>
-        requires chain { IsChain self.old }
-        requires full { NoneEmpty self.old.incoming.tables.deletions }
-        ensures taken { IfOk result (IsTaken self.old self.new (tasks.Fin self.old.incoming.number) journal.old journal.new) }
-        ensures incoming { OnOk result (self.new.incoming ≡ self.old.incoming) }
-    {
-        match self.filter.unit(&self.stages, &self.me, &self.peer)? {
-            Turn::Nothing => Ok(Turn::Nothing),
-            Turn::Quiet => Ok(Turn::Quiet),
-            Turn::Sent(change) => {
-                journal.push_change(Link::Filt(self.number), &change)?;
-                Ok(Turn::Sent(change))
-            }
-        }
     }
 }

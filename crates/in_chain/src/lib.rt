@@ -23,6 +23,7 @@
 mod chain;
 mod laws;
 mod lookups;
+mod turns;
 
 pub use chain::Chain;
 pub use laws::{

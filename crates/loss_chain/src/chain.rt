@@ -1,29 +1,25 @@
 //! A chain of stages, as the crates above see it.
 
-ghost use Rattle.std.specs.Prelude.{◌≡◌, ◌<◌, ◌≤◌, ◌*◌, IfOk, OnOk, is_some, IsSome, Some, None, slice_get};
+ghost use Rattle.std.specs.Prelude.{◌≡◌, ◌<◌, ◌≤◌, IfOk, OnOk, is_some, None, slice_get};
 ghost use Rattle.std.specs.Option.{option_copied, option_map};
 ghost use Rattle.std.specs.List.{AllByRecursion};
 ghost use Rattle.std.specs.FinMap as map;
-ghost use Rattle.addr4.specs.Places.{key_of};
-ghost use Rattle.link_change.specs.Rows.{Rows, IsNextCandidate, with_rows, is_empty_map};
+ghost use Rattle.link_change.specs.Rows.{is_empty_map};
 ghost use Rattle.link_change.specs.Changes.{IsSent};
 ghost use Rattle.journal_text.specs.Lines.{Value};
-ghost use Rattle.journal_text.specs.Walk.{HasRow};
 ghost use Rattle.journal_text.specs.Journals.{Adds, with_entries};
 ghost use Rattle.loss_chain.specs.Owners.{lowest_link};
-ghost use Rattle.journal_text.specs.Values.{valued};
-ghost use Rattle.loss_chain.specs.Tables.{chain_links, lowest_rows, IsLossChain, NoneEmpty, OneEmptyAtMost, tables_count};
-ghost use Rattle.loss_chain.specs.Stages.{tables_of, rows_of, chain_candidates};
+ghost use Rattle.loss_chain.specs.Tables.{lowest_rows, IsLossChain, NoneEmpty, OneEmptyAtMost};
+ghost use Rattle.loss_chain.specs.Stages.{tables_of, chain_candidates};
 ghost use Rattle.loss_chain.specs.Falls.{FallsTables, LeadsTables, way_down};
 ghost use Rattle.loss_chain.specs.Steps.{no_tables, fed_tables, lost_tables, loss_entries, table_of, welded_tables, weld_entries, oldest_of, overdue_of, IsTakenTables};
 
 use crate::deletion::Deletion;
 use crate::live::Live;
-use crate::owner::{Owner, is_same};
+use crate::owner::Owner;
 use crate::stage::Stage;
-use addr4::{Addr, Memory, Place, Prefix, Row, Texts, V4};
-use bgp_attr::SharedAttrs;
-use journal_text::{Journal, Link, Task, Value, Valued};
+use addr4::{Memory, Place, Prefix, Row, Texts, V4};
+use journal_text::{Journal, Task, Value, Valued};
 use link_change::{Change, Turn, Upstream};
 use std::alloc::Global;
 use std::marker::Model;
@@ -33,7 +29,7 @@ use std::marker::Model;
 #[derive(Drop)]
 pub struct LossChain<R, F: Texts = V4> {
     alloc: Global,
-    lowest: Stage<R, F>,
+    pub(crate) lowest: Stage<R, F>,
 }
 
 impl<R, F: Texts> Model for LossChain<R, F> {
@@ -205,94 +201,6 @@ impl<F: Texts, R: Valued<F>> LossChain<R, F> {
         let link = owner.lowest();
         let turn = self.lowest.unit(owner, link, number, journal)?;
         Ok(turn)
-    }
-
-    // The stage whose link out is this one.
-    fn stage_out(&self, owner: Owner, link: Link) -> Option<&Stage<R, F>>
-        ensures { option_map (λ s. valued R.value (rows_of s)) (option_copied result) ≡ chain_links R.value owner self.now link }
-    {
-        match owner {
-            Owner::Peer(peer) => match link {
-                Link::In(number) => {
-                    if number == peer {
-                        return Some(&self.lowest);
-                    }
-                    None
-                }
-                Link::Peer(number, session) => {
-                    if number == peer {
-                        return self.lowest.above(session);
-                    }
-                    None
-                }
-                _ => None,
-            },
-            Owner::Origin(proto) => match link {
-                Link::Org(other) => {
-                    if is_same(other, proto) {
-                        return Some(&self.lowest);
-                    }
-                    None
-                }
-                Link::Lost(other, loss) => {
-                    if is_same(other, proto) {
-                        return self.lowest.above(loss);
-                    }
-                    None
-                }
-                _ => None,
-            },
-        }
-    }
-
-    /// Whether the link is one of the chain's: the lowest, or the one above the deletion stage of a loss.
-    pub fn live(&self, owner: Owner, link: Link) -> bool
-        ensures { result ≡ is_some (chain_links R.value owner self.now link) }
-    {
-        self.stage_out(owner, link).is_some()
-    }
-
-    /// The row at a prefix of a link of the chain; None where it has none. Memory where the row can't be copied.
-    pub fn asked(
-        &self,
-        owner: Owner,
-        link: Link,
-        p: Prefix<F>,
-    ) -> Result<Option<Value<SharedAttrs<F>, Addr<F>>>, Memory>
-        requires { IsSome (chain_links R.value owner self.now link) }
-        ensures { IfOk result (HasRow (chain_links R.value owner self.now) link p) }
-    {
-        let Some(stage) = self.stage_out(owner, link) else {
-            unreachable!();
-        };
-        match stage.asked(p)? {
-            Some(row) => Ok(Some(row.to_value()?)),
-            None => Ok(None),
-        }
-    }
-
-    /// The least prefix beyond a place that has a row on a link of the chain.
-    pub fn next_candidate(
-        &self,
-        owner: Owner,
-        link: Link,
-        after: Place<Prefix<F>>,
-    ) -> Option<Prefix<F>>
-        requires { IsSome (chain_links R.value owner self.now link) }
-        ensures { (rows : _) → chain_links R.value owner self.now link ≡ Some rows → IsNextCandidate (with_rows rows) (key_of after) result }
-    {
-        let Some(stage) = self.stage_out(owner, link) else {
-            unreachable!();
-        };
-        stage.next_candidate(&after)
-    }
-
-    /// How many rows the lowest link has.
-    pub fn rows(&self) -> u128
-        ensures rows { result ≡ tables_count self.now }
-        ensures bound { result ≤ 17 * 18446744073709551616 }
-    {
-        self.lowest.count()
     }
 }
 

@@ -25,6 +25,7 @@
 mod chain;
 mod deletion;
 mod laws;
+mod links;
 mod live;
 mod lookup;
 mod owner;

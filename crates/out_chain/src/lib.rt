@@ -28,8 +28,10 @@
 
 mod chain;
 mod laws;
+mod lookups;
 mod refresh;
 mod to_peer;
+mod turns;
 
 pub use chain::OutChain;
 pub use laws::{

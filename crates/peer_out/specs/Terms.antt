@@ -4,8 +4,8 @@ use Rattle.bgp_attr.specs.Attributes.{Attrs}
 use Rattle.bgp_attr.specs.declared.path.Segment.{Segment}
 use Rattle.bgp_attr.specs.Paths.{times_in_front}
 use Rattle.bgp_attr.specs.Reflections.{Reflected, not_reflected, reflected_by}
-use Rattle.peer_out.specs.declared.sent_route.Terms as declared
-use Rattle.peer_out.specs.declared.sent_route.Terms.TheVariants.{External, Internal, Inside}
+use Rattle.peer_out.specs.declared.terms.Terms as declared
+use Rattle.peer_out.specs.declared.terms.Terms.TheVariants.{External, Internal, Inside}
 
 -- by an address's number, whatever the family
 abbrev pub Terms : Type 0

@@ -24,6 +24,7 @@ mod laws;
 mod octets;
 mod peer;
 mod sent_route;
+mod terms;
 mod writes;
 
 pub use form::as_sent;

@@ -13,6 +13,7 @@ mod journals;
 mod laws;
 mod router;
 mod second;
+mod steps;
 mod told;
 
 pub use journals::Journals;

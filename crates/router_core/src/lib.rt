@@ -20,8 +20,10 @@
 #![tactic(auto)]
 
 mod hears;
+mod reads;
 mod router;
 mod steps;
+mod turns;
 mod updates;
 
 pub use hears::Hears;

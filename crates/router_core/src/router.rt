@@ -1,51 +1,38 @@
 //! The router's state.
 
-ghost use Rattle.std.specs.Prelude.{◌≡◌, ◌≤◌, ◌+◌, ◌<◌, ◌^◌, ◌++◌, ◌∷◌, [], ℕ, true, false, OnOk, OnErr, IfOk, IsErr, IsSome, Some};
-ghost use Rattle.journal_text.specs.Lines.{Line};
-ghost use Rattle.journal_text.specs.declared.line.Line.TheVariants as lines;
-ghost use Rattle.journal_text.specs.Walk.{Leads};
+ghost use Rattle.std.specs.Prelude.{◌≡◌, ◌+◌, ◌<◌, [], true, false, OnOk, OnErr, IfOk, IsErr};
 ghost use Rattle.event_text.specs.declared.event.Event.TheVariants as events;
 ghost use Rattle.event_text.specs.Declarations.{refusal};
 ghost use Rattle.event_text.specs.WellFormed.{IsWellFormed};
 ghost use Rattle.bgp_attr.specs.Speakers.{IsProfileOf};
-ghost use Rattle.std.specs.Option.{option_copied};
-ghost use Rattle.hop_side.specs.Resolvers.{resolver_at};
-ghost use Rattle.peer_side.specs.Peers.{chain_at};
-ghost use Rattle.router_moments.specs.Moments.{first_moment, profiled, spoken, bound_of, router_links, Gives};
-ghost use Rattle.router_moments.specs.Scratch.{IsExactAtRest, Tells};
+ghost use Rattle.router_moments.specs.Moments.{first_moment, profiled, spoken, Gives};
+ghost use Rattle.router_moments.specs.Scratch.{IsExactAtRest};
 ghost use Rattle.router_moments.specs.Stands.{CoreStands};
-ghost use Rattle.router_moments.specs.Turns.{has_work};
 ghost use Rattle.router_moments.specs.Blocks.{Acts};
-ghost use Rattle.router_moments.specs.Lookups.{IsCountOf};
-ghost use Rattle.router_moments.specs.Works.{Comes, HaveDrained, HasIdled};
 ghost use Rattle.router_core.specs.Heard.{SayOfFamily};
 
 use crate::hears::Hears;
 use crate::steps::{hear_said, step};
-use addr4::{Family, Memory, Prefix, Texts, V4};
+use addr4::{Family, Memory, Texts, V4};
 use bgp_attr::Profile;
 use bgp_wire::Said;
 use decision::Contests;
-use event_text::{Declared, EventOf};
-use ext_int::ExtInt;
-use in_chain::Chain;
-use journal_text::{Journal, Link, Task};
+use event_text::EventOf;
+use journal_text::Journal;
 use live_state::declarations_follow;
-use nexthop_resolver::{Metric, Resolver};
-use rib_exit::RibExit;
-use rib_tree::{Tree, a_new_tree_stands};
-use router_moments::{Done, Idle, Phase, rows_at_rest_are_exact, the_first_task_tells};
+use rib_tree::a_new_tree_stands;
+use router_moments::rows_at_rest_are_exact;
 use router_network::Network;
 use std::alloc::Global;
 use std::marker::Model;
 
 #[derive(Drop)]
 pub struct Core<F: Texts = V4> {
-    network: Network<F>,
+    pub(crate) network: Network<F>,
     /// What the decision knows at each prefix. No part of the moment: it says nothing that the rows of the branches don't.
-    contests: Contests<F>,
-    events: u64,
-    failed: bool,
+    pub(crate) contests: Contests<F>,
+    pub(crate) events: u64,
+    pub(crate) failed: bool,
 }
 
 impl<F: Texts> Model for Core<F> {
@@ -96,74 +83,6 @@ impl<F: Hears> Core<F> {
             events: 0,
             failed: false,
         }
-    }
-
-    /// What was declared.
-    pub fn declared(&self) -> &Declared<F>
-        ensures { result.now ≡ self.now.moment.declared }
-    {
-        self.network.declared()
-    }
-
-    /// How many events were stepped.
-    pub fn events(&self) -> u64
-        ensures { result ≡ self.now.events }
-    {
-        self.events
-    }
-
-    /// The chain of a declared peer.
-    pub fn chain(&self, number: u32) -> &Chain<F>
-        requires { IsSome (chain_at number self.now.moment.chains) }
-        ensures { Some result.now ≡ chain_at number self.now.moment.chains }
-    {
-        self.network.chain(number)
-    }
-
-    /// The tree of the interior routes.
-    pub fn tree(&self) -> &Tree<F>
-        ensures { result.now ≡ self.now.moment.tree }
-    {
-        self.network.tree()
-    }
-
-    /// The next hops of a peer's routes, which are known exactly where rows of its `filt.K` name them, with the metrics by
-    /// which they are reached (RFC 4271, section 9.1.2.1). None exactly where no such peer is declared.
-    pub fn resolver(&self, number: u32) -> Option<&Resolver<Metric, F>>
-        ensures { option_copied result ≡ resolver_at number self.now.moment.hops }
-    {
-        self.network.resolver(number)
-    }
-
-    /// The external routes on their way to the forwarding table: their rows, and the next hops that these name, with the
-    /// interior routes by which they are reached.
-    pub fn external(&self) -> &RibExit<ExtInt<F>>
-        ensures { result.now ≡ self.now.moment.rib }
-    {
-        self.network.external()
-    }
-
-    /// Whether a prefix is settled. The first task, in the order of an idle, whose work holds it up, which then has work; None
-    /// exactly where none does, and then its rows in `best`, in `fib` and in each `adv.J.S` are what the live state alone asks
-    /// for. Takes no memory, and looks at no other prefix than this one and those that hold a next hop of its routes.
-    pub fn settled(&self, p: Prefix<F>) -> Option<Task>
-        requires { CoreStands self.now }
-        ensures { Tells self.now.moment p result }
-    {
-        the_first_task_tells();
-        self.network.first_held(p, &self.contests)
-    }
-
-    /// How many rows a link has; None exactly where it isn't live. Memory for want of memory: each row of `filt.K` is judged.
-    /// After want of memory the core answers nothing else.
-    pub fn count(&self, link: Link) -> Result<Option<u128>, Memory>
-        ensures rows { IfOk result (IsCountOf (router_links self.now.moment link)) }
-        ensures stays { self.now.failed ≡ true → IsErr result }
-    {
-        if self.failed {
-            return Err(Memory);
-        }
-        self.network.count(link, &self.contests)
     }
 
     /// Steps an event: its lines go into the text of the journal. Answers how many turns `work` or `idle` took, and 0 for
@@ -232,54 +151,6 @@ impl<F: Hears> Core<F> {
         Ok(())
     }
 
-    /// One turn of a task, and the text of its lines. [`Done::Nothing`] comes exactly where the task has no work; then
-    /// nothing changes. What is live stays. No turn makes a next hop stale, in the resolver of a peer or among the external
-    /// routes, but that of a protocol's deletion stage, since answers are of the interior routes and no other turn changes those.
-    pub fn unit(&mut self, task: Task, journal: &mut Journal<F>) -> Result<Done, Memory>
-        requires stands { self.old.failed ≡ false → CoreStands self.old }
-        ensures comes { IfOk result (Comes task self.old.moment self.new.moment journal.old journal.new) }
-        ensures stands { OnOk result (CoreStands self.new) }
-        ensures exact { OnOk result (IsExactAtRest self.new.moment) }
-        ensures events { OnOk result (self.new.events ≡ self.old.events) }
-        ensures good { OnOk result (self.new.failed ≡ false) }
-        ensures memory { OnErr result (self.new.failed ≡ true) }
-        ensures stays { self.old.failed ≡ true → IsErr result }
-    {
-        if self.failed {
-            return Err(Memory);
-        }
-        rows_at_rest_are_exact();
-        self.failed = true;
-        let done = self.network.turn(task, &mut self.contests, journal)?;
-        self.failed = false;
-        Ok(done)
-    }
-
-    /// A phase of an idle: each of its tasks runs to its end. Answers how many turns that took: of deletion stages at most
-    /// as many as there are rows, of the walks at most two for each row and two for each peer, and of next hops one more for
-    /// each that is stale as the phase begins; of refreshes as many as rows were sent. No row is added, and no next hop becomes stale but in [`Phase::Rdel`]; what the
-    /// slowest reader hasn't taken grows by at most one change for each row in a phase of deletion stages, two in one of walks,
-    /// and none where readers read.
-    pub fn drain(&mut self, phase: Phase, journal: &mut Journal<F>) -> Result<u128, Memory>
-        requires stands { self.old.failed ≡ false → CoreStands self.old }
-        ensures drained { IfOk result (λ turns. Gives (HaveDrained phase self.old.moment turns self.new.moment) journal.old journal.new) }
-        ensures stands { OnOk result (CoreStands self.new) }
-        ensures exact { OnOk result (IsExactAtRest self.new.moment) }
-        ensures events { OnOk result (self.new.events ≡ self.old.events) }
-        ensures good { OnOk result (self.new.failed ≡ false) }
-        ensures memory { OnErr result (self.new.failed ≡ true) }
-        ensures stays { self.old.failed ≡ true → IsErr result }
-    {
-        if self.failed {
-            return Err(Memory);
-        }
-        rows_at_rest_are_exact();
-        self.failed = true;
-        let turns = self.network.drain(phase, &mut self.contests, journal)?;
-        self.failed = false;
-        Ok(turns)
-    }
-
     /// IPv6 is spoken from now on: routes of IPv6 are read in messages. No peer was declared yet. This counts as an event. Takes no
     /// memory.
     pub fn speak_ipv6(&mut self)
@@ -302,60 +173,5 @@ impl<F: Hears> Core<F> {
     {
         a_new_tree_stands();
         self.network.set_profile(profile);
-    }
-
-    /// How many turns an idle takes at most.
-    pub fn bound(&self) -> Result<u128, Memory>
-        ensures { IfOk result (λ bound. bound ≡ bound_of self.now.moment) }
-    {
-        self.network.bound()
-    }
-
-    /// Every task runs to its end, in an idle of several networks, whose bound and turns the caller says. Answers the turns. This
-    /// counts as an event.
-    pub fn rest(&mut self, journal: &mut Journal<F>) -> Result<u128, Memory>
-        requires admitted { refusal self.old.moment.declared events.Idle ≡ None }
-        requires few { self.old.events < 4294967295 }
-        requires bound { bound_of self.old.moment < 2 ^ 128 }
-        requires stands { self.old.failed ≡ false → CoreStands self.old }
-        ensures acts { IfOk result (λ turns. Gives (λ inner. Acts self.old.moment events.Idle turns self.new.moment (lines.Bound (bound_of self.old.moment) ∷ (inner ++ lines.Idle turns ∷ []))) journal.old journal.new) }
-        ensures stands { OnOk result (CoreStands self.new) }
-        ensures exact { OnOk result (IsExactAtRest self.new.moment) }
-        ensures events { OnOk result (self.new.events ≡ self.old.events + 1) }
-        ensures good { OnOk result (self.new.failed ≡ false) }
-        ensures memory { OnErr result (self.new.failed ≡ true) }
-        ensures stays { self.old.failed ≡ true → IsErr result }
-    {
-        if self.failed {
-            return Err(Memory);
-        }
-        rows_at_rest_are_exact();
-        declarations_follow();
-        self.failed = true;
-        let turns = self.network.drain_all(&mut self.contests, journal)?;
-        self.events += 1;
-        self.failed = false;
-        Ok(turns)
-    }
-
-    /// Every task runs to its end, within the number of turns that is announced first. Answers both.
-    pub fn idle(&mut self, journal: &mut Journal<F>) -> Result<Idle, Memory>
-        requires stands { self.old.failed ≡ false → CoreStands self.old }
-        ensures idled { IfOk result (λ idle. Gives (HasIdled self.old.moment idle self.new.moment) journal.old journal.new) }
-        ensures stands { OnOk result (CoreStands self.new) }
-        ensures exact { OnOk result (IsExactAtRest self.new.moment) }
-        ensures events { OnOk result (self.new.events ≡ self.old.events) }
-        ensures good { OnOk result (self.new.failed ≡ false) }
-        ensures memory { OnErr result (self.new.failed ≡ true) }
-        ensures stays { self.old.failed ≡ true → IsErr result }
-    {
-        if self.failed {
-            return Err(Memory);
-        }
-        rows_at_rest_are_exact();
-        self.failed = true;
-        let idle = self.network.idle(&mut self.contests, journal)?;
-        self.failed = false;
-        Ok(idle)
     }
 }

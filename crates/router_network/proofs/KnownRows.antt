@@ -29,9 +29,6 @@ use Rattle.router_network.proofs.Counting.{kept_there, not_both_none}
 pub informed_as : (contests : Contested) (m m' : Moment) → branch_rows m' ≡ branch_rows m → branch_candidates m' ≡ branch_candidates m → Informed contests m → Informed contests m'
 informed_as contests m m' rows candidates i = record { knows = subst (Knows contests) (sym rows) i.knows; counts = subst (Counts contests) (sym candidates) i.counts }
 
-pub informed_view : (contests : Contested) (m v : Moment) → v ≡ m → Informed contests m → Informed contests v
-informed_view contests m v view i = subst (Informed contests) (sym view) i
-
 -- what no branch is made of may change
 pub same_rows : (m m' : Moment) → m'.declared.speaker ≡ m.declared.speaker → m'.tree ≡ m.tree → m'.redist ≡ m.redist → m'.chains ≡ m.chains → m'.hops ≡ m.hops → branch_rows m' ≡ branch_rows m
 same_rows m m' speaker tree redist chains hops =

@@ -7,7 +7,7 @@ pub mod ChainShifts
 pub mod Counting
 pub mod IntShifts
 pub mod KnownRows
-pub mod Lents
+pub mod AboveRows
 pub mod LossLemmas
 pub mod PolicyLemmas
 pub mod ProtocolLosses

@@ -1,19 +1,12 @@
 -- Lookups in what reads `best`.
-use Rattle.router_moments.proofs.Common.{sym, ◌∙◌, ap, ◌≡◌, ℕ, same_Some, AddressPrefix, Route, best_rows, Declaration, read_rows, Resolvers, route_value, route_rows, Links, HasRow, Link, Value, Rows, Candidates, IsNextCandidate, CoversRows, Passed, Chains, Protos, int_rows, Treed, own_rows, lent_rows, Moment, best_of, read_by, read_links}
+use Rattle.router_moments.proofs.Common.{sym, ◌∙◌, ap, ◌≡◌, ℕ, same_Some, AddressPrefix, Route, read_rows, route_value, route_rows, Links, HasRow, Link, Value, Rows, Candidates, IsNextCandidate, CoversRows, Moment, best_of, read_by, read_links}
 use Rattle.std.proofs.Common.{Option, Some}
 use Rattle.std.specs.Prelude.{option_map}
 use Rattle.journal_text.specs.declared.link.Link.TheVariants.{ReadRib}
 use Rattle.exit_side.specs.Exits.{exit_links}
 use Rattle.router_moments.specs.Lookups.{IsNextPlace}
-use Rattle.router_moments.proofs.BestLemmas.{lent_best}
 
-module _ (m v : Moment) (d : Declaration) (t : Treed) (s : Passed Protos) (a : Chains) (h : Resolvers) (view : v ≡ m) (declared : d ≡ m.declared) (tree : t ≡ m.tree) (redist : s ≡ m.redist) (chains : a ≡ m.chains) (hops : h ≡ m.hops) where
-  abbrev lent : Rows Route
-  lent = best_rows (lent_rows (own_rows d.speaker s (int_rows t)) a h)
-
-  lent_is : lent ≡ best_of m
-  lent_is = lent_best m d t s a h declared tree redist chains hops
-
+module _ (m v : Moment) (lent : Rows Route) (lent_is : lent ≡ best_of m) (view : v ≡ m) where
   -- ---- links of exits
   pub sent_links : exit_links v.exits lent ≡ exit_links m.exits (best_of m)
   sent_links = ap (exit_links v.exits) lent_is ∙ ap (λ (x : Moment). exit_links x.exits (best_of m)) view

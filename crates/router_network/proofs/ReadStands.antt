@@ -8,27 +8,27 @@ use Rattle.rib_exit.specs.Exits.{ext_rows}
 use Rattle.rib_exit.proofs.LawLemmas.{ext_is_of_best}
 use Rattle.router_moments.specs.Moments.{read_of, read_rows_by}
 use Rattle.router_moments.proofs.BestLemmas.{lent_best}
-use Rattle.router_network.specs.declared.best.Lent.{Lent}
-use Rattle.router_network.specs.Informed.{IsLent}
-use Rattle.router_network.proofs.Lents.{best_lent}
+use Rattle.router_network.specs.declared.above.Above.{Above}
+use Rattle.router_network.proofs.AboveRows.{IsAbove, with_above, above_of, best_above}
 
-pub best_is : {F : Type 0} (l : Lent F) (m : Moment) → IsLent l m → best_lent l ≡ best_of m
-best_is l m is = lent_best m l.declared.now l.tree.now l.redist.now l.chains.now l.hops.now is.declared is.tree is.redist is.chains is.hops
+best_is : {F : Type 0} (a : Above F) (m : Moment) → IsAbove a m → best_above a ≡ best_of m
+best_is a m is = lent_best m a.declared a.tree a.redist a.chains a.hops is.declared is.tree is.redist is.chains is.hops
 
-pub lent_as : {F : Type 0} (l l' : Lent F) (m : Moment) → l ≡ l' → IsLent l' m → IsLent l m
-lent_as {F} l l' m same is = subst (λ (x : Lent F). IsLent x m) (sym same) is
+-- the best rows of what was lent are those of the moment
+pub best_lent : {F : Type 0} (lent a : Above F) (v m : Moment) → lent ≡ a → with_above a v ≡ m → best_above lent ≡ best_of m
+best_lent lent a v m same view = ap (λ (x : Above _). best_above x) same ∙ best_is a m (above_of a v m view)
 
-module _ {F : Type 0} (e : Exited) (reader : Option ℕ) (l : Lent F) (m : Moment) (lent : IsLent l m) (exits : e ≡ m.exits) (reads : reader ≡ m.reader) where
-  rows_are : read_rows_by e.queue reader (best_lent l) ≡ read_of m
+module _ (e : Exited) (reader : Option ℕ) (best : Rows Route) (m : Moment) (is_best : best ≡ best_of m) (exits : e ≡ m.exits) (reads : reader ≡ m.reader) where
+  rows_are : read_rows_by e.queue reader best ≡ read_of m
   rows_are =
-      ap (λ (x : Exited). read_rows_by x.queue reader (best_lent l)) exits ∙ ap (λ (o : Option ℕ). read_rows_by m.exits.queue o (best_lent l)) reads
-      ∙ ap (read_rows_by m.exits.queue m.reader) (best_is l m lent)
+      ap (λ (x : Exited). read_rows_by x.queue reader best) exits ∙ ap (λ (o : Option ℕ). read_rows_by m.exits.queue o best) reads
+      ∙ ap (read_rows_by m.exits.queue m.reader) is_best
 
-  pub parts_stand : (v : Moment) → v ≡ m → HaveReaders m → StandsOver (read_rows_by e.queue reader (best_lent l)) v.rib
+  pub parts_stand : (v : Moment) → v ≡ m → HaveReaders m → StandsOver (read_rows_by e.queue reader best) v.rib
   parts_stand v view readers = subst (λ (rows : Rows Route). StandsOver rows v.rib) (sym rows_are) (subst (λ (n : Moment). StandsOver (read_of m) n.rib) (sym view) readers.external)
 
   -- what it tells is the row of `ext`
-  pub read_row : HaveReaders m → (p : AddressPrefix) (row : Option External) → row ≡ external_row (read_rows_by e.queue reader (best_lent l) p) → row ≡ ext_rows m.rib p
+  pub read_row : HaveReaders m → (p : AddressPrefix) (row : Option External) → row ≡ external_row (read_rows_by e.queue reader best p) → row ≡ ext_rows m.rib p
   read_row readers p row is = is ∙ ap (λ (rows : Rows Route). external_row (rows p)) rows_are ∙ ap (λ (rows : Rows External). rows p) (sym (ext_is_of_best m.rib (read_of m) readers.external))
 
 -- its reader is one of the queue's

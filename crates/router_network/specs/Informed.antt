@@ -10,36 +10,21 @@ use Rattle.link_change.specs.Changes.{Change}
 use Rattle.decision.specs.Contests.{Contest}
 use Rattle.decision.specs.Branches.{AllRows}
 use Rattle.decision.specs.Contests.{Knows, Counts}
-use Rattle.pass_core.specs.Passed.{Passed}
-use Rattle.redist.specs.declared.protos.Protos.{Protos}
-use Rattle.event_text.specs.Declarations.{Declaration}
 use Rattle.hop_side.specs.Resolvers.{Resolvers, PeerRows, AllCounted, resolver_at, rows_by}
 use Rattle.hop_side.specs.Steps.{ComesOn}
-use Rattle.peer_side.specs.Peers.{Chains, filt_at}
+use Rattle.peer_side.specs.Peers.{filt_at}
 use Rattle.rib_route.specs.Rows.{Interior}
-use Rattle.rib_tree.specs.Trees.{Treed, int_rows, int_candidates}
+use Rattle.rib_tree.specs.Trees.{int_rows, int_candidates}
 use Rattle.router_moments.specs.Bests.{own_rows, lent_rows, lent_candidates}
 use Rattle.router_moments.specs.Moments.{Moment, own_of}
 use Rattle.router_network.specs.Reads.{ReadOver}
-use Rattle.router_network.specs.declared.best.Lent.{Lent}
+use Rattle.router_network.specs.declared.above.Above.{Above}
 
 -- what is kept at each prefix
 abbrev pub Contested : Type 0
 Contested = FinMap prefix_cmp Contest
 
 -- ---- between two steps
--- these parts of the router are lent
-pub record AreLent {F : Type 0} (l : Lent F) (d : Declaration) (t : Treed) (s : Passed Protos) (a : Chains) (h : Resolvers) : Type 0 where
-  pub declared : l.declared.now ≡ d
-  pub tree : l.tree.now ≡ t
-  pub redist : l.redist.now ≡ s
-  pub chains : l.chains.now ≡ a
-  pub hops : l.hops.now ≡ h
-
--- what is lent is of this moment
-abbrev pub IsLent : {F : Type 0} → Lent F → Moment → Type 0
-IsLent l m = AreLent l m.declared m.tree m.redist m.chains m.hops
-
 -- the rows of all branches, as they are lent to the decision
 abbrev pub branch_rows : Moment → AllRows
 branch_rows m = lent_rows (own_of m) m.chains m.hops
@@ -53,9 +38,9 @@ pub record Informed (contests : Contested) (m : Moment) : Type 0 where
   pub knows : Knows contests (branch_rows m)
   pub counts : Counts contests (branch_candidates m)
 
--- the rows of all branches of what is lent
-abbrev pub rows_lent : {F : Type 0} → Lent F → AllRows
-rows_lent l = lent_rows (own_rows l.declared.now.speaker l.redist.now (int_rows l.tree.now)) l.chains.now l.hops.now
+-- the rows of all branches of what stands above `best`
+abbrev pub rows_above : {F : Type 0} → Above F → AllRows
+rows_above a = lent_rows (own_rows a.declared.speaker a.redist (int_rows a.tree)) a.chains a.hops
 
 -- whatever candidates were counted are counted then
 abbrev pub KeepsCounts : Contested → Contested → Type 0

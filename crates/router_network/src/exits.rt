@@ -18,7 +18,6 @@ ghost use Rattle.router_moments.specs.Blocks.{refreshed};
 ghost use Rattle.router_moments.specs.Works.{TakesTurn, HasStepped, JoinsQueue, BeginsSession, SendsAs};
 ghost use Rattle.router_network.specs.Informed.{Informed};
 
-use crate::best::Lent;
 use crate::network::Network;
 use addr4::{Addr, Family, Memory, Place, Prefix, V4};
 use bgp_attr::{Route, SharedAttrs};
@@ -100,14 +99,15 @@ impl<F: Writes> Network<F> {
         requires absent { exit_at number self.old.exits ≡ None }
         ensures { OnOk result (Adds (BeginsSession number self.old self.new) journal.old journal.new) }
     {
-        let Some(me) = self.declared.speaker() else {
+        let Some(me) = self.above.declared.speaker() else {
             unreachable!()
         };
-        let Some(peer) = self.declared.peer(number) else {
+        let Some(peer) = self.above.declared.peer(number) else {
             unreachable!()
         };
-        let rules = self.outgoing.rules(self.alloc, number)?;
-        self.exits
+        let rules = self.readers.outgoing.rules(self.alloc, number)?;
+        self.readers
+            .exits
             .begin(&me, &peer.words, peer.session, rules, journal)?;
         Ok(())
     }
@@ -118,17 +118,17 @@ impl<F: Writes> Network<F> {
         requires stands { Stands self.old }
         ensures { OnOk result (HasStepped self.old (events.FilterOut number rules) 0 self.new []) }
     {
-        self.exits.edit(number, rules.copy(self.alloc)?);
-        self.outgoing.set(number, rules)
+        self.readers.exits.edit(number, rules.copy(self.alloc)?);
+        self.readers.outgoing.set(number, rules)
     }
 
     /// A refresh from a peer that is up: where it is served, the walk over what the peer was sent begins anew. Takes no memory.
     pub fn refresh(&mut self, number: u32, refresh: RouteRefresh)
         ensures { self.new ≡ refreshed number refresh self.old }
     {
-        self.declared.known();
+        self.above.declared.known();
         if refresh.is_served::<F>() {
-            self.exits.refresh(number);
+            self.readers.exits.refresh(number);
         }
     }
 
@@ -136,7 +136,7 @@ impl<F: Writes> Network<F> {
     pub(crate) fn prepare(&mut self) -> Result<(), Memory>
         ensures { self.new ≡ self.old }
     {
-        self.exits.prepare()
+        self.readers.exits.prepare()
     }
 
     /// What follows a change of `best`, if one came: its entry is pushed, and it joins the queue.
@@ -151,7 +151,7 @@ impl<F: Writes> Network<F> {
         match sent {
             Some(change) => {
                 journal.push_change(Link::Best, &change)?;
-                self.exits.put(change)
+                self.readers.exits.put(change)
             }
             None => Ok(()),
         }
@@ -169,15 +169,8 @@ impl<F: Writes> Network<F> {
         requires informed { Informed contests.now self.old }
         ensures { IfOk result (TakesTurn (tasks.Out number) self.old self.new journal.old journal.new) }
     {
-        let lent = Lent::of(
-            &self.declared,
-            &self.tree,
-            &self.redist,
-            &self.chains,
-            &self.hops,
-        );
-        let best = contests.best(&lent);
-        let turn = self.exits.turn(number, &best, journal)?;
+        let best = contests.best(&self.above);
+        let turn = self.readers.exits.turn(number, &best, journal)?;
         if rested(turn) {
             return Ok(Done::Nothing);
         }
@@ -195,7 +188,7 @@ impl<F: Writes> Network<F> {
         requires { Stands self.old }
         ensures { IfOk result (TakesTurn (tasks.Ref number) self.old self.new journal.old journal.new) }
     {
-        let again = self.exits.resend(number, journal)?;
+        let again = self.readers.exits.resend(number, journal)?;
         if !again {
             return Ok(Done::Nothing);
         }
@@ -215,9 +208,8 @@ impl<F: Writes> Network<F> {
         requires informed { Informed contests.now self.now }
         ensures { IfOk result (HasRow (exit_links self.now.exits (best_of self.now)) link p) }
     {
-        let lent = self.lent();
-        let best = contests.best(&lent);
-        self.exits.asked(link, &best, p)
+        let best = contests.best(&self.above);
+        self.readers.exits.asked(link, &best, p)
     }
 
     /// Where the next row of a link of a peer's exit may stand, beyond a place.
@@ -232,8 +224,7 @@ impl<F: Writes> Network<F> {
         requires informed { Informed contests.now self.now }
         ensures { IsNextPlace (exit_links self.now.exits (best_of self.now) link) (key_of after) result }
     {
-        let lent = self.lent();
-        let best = contests.best(&lent);
-        self.exits.next_candidate(link, &best, after)
+        let best = contests.best(&self.above);
+        self.readers.exits.next_candidate(link, &best, after)
     }
 }

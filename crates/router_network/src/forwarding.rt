@@ -19,7 +19,7 @@ ghost use Rattle.router_moments.specs.Turns.{has_work, next_task};
 ghost use Rattle.router_moments.specs.Works.{TakesTurn, Forwards, BeginsReading};
 ghost use Rattle.router_network.specs.Informed.{Informed};
 
-use crate::best::Lent;
+use crate::above::Above;
 use crate::exits::rested;
 use crate::network::Network;
 use crate::reads::{ReadRoutes, over_best};
@@ -38,8 +38,8 @@ impl<F: Writes> Network<F> {
     pub(crate) fn begin_reading(&mut self, journal: &mut Journal<F>) -> Result<(), Memory>
         ensures { OnOk result (Adds (BeginsReading self.old self.new) journal.old journal.new) }
     {
-        let reader = self.exits.join()?;
-        self.reader = Some(reader);
+        let reader = self.readers.exits.join()?;
+        self.readers.reader = Some(reader);
         journal.push_entry(Entry::Inherit(Link::ReadRib, Link::Best))?;
         Ok(())
     }
@@ -51,11 +51,11 @@ impl<F: Writes> Network<F> {
         requires { Stands self.old }
         ensures { IfOk result (TakesTurn tasks.ReadRib self.old self.new journal.old journal.new) }
     {
-        let Some(reader) = &mut self.reader else {
+        let Some(reader) = &mut self.readers.reader else {
             return Ok(Done::Nothing);
         };
         a_stranger_reads();
-        let Some(change) = self.exits.take(reader)? else {
+        let Some(change) = self.readers.exits.take(reader)? else {
             return Ok(Done::Nothing);
         };
         let forwarded = self.forward(&change, journal);
@@ -78,8 +78,9 @@ impl<F: Writes> Network<F> {
         journal.push_change(Link::ReadRib, change)?;
         // By cases: rattle's borrow checker can't plan a `?` on a value that holds a forwarding row.
         match self
+            .readers
             .rib
-            .take_external(change, &self.tree, &mut self.registry, journal)
+            .take_external(change, &self.above.tree, &mut self.registry, journal)
         {
             Ok(_) => Ok(()),
             Err(error) => Err(error),
@@ -97,19 +98,14 @@ impl<F: Writes> Network<F> {
         requires informed { Informed contests.now self.old }
         ensures { IfOk result (TakesTurn tasks.Ext self.old self.new journal.old journal.new) }
     {
-        self.exits.prepare()?;
-        let lent = Lent::of(
-            &self.declared,
-            &self.tree,
-            &self.redist,
-            &self.chains,
-            &self.hops,
-        );
-        let best = contests.best(&lent);
-        let read = over_best(&self.exits, self.reader.as_ref(), &best);
+        self.readers.exits.prepare()?;
+        let above = &self.above;
+        let best = contests.best(above);
+        let read = over_best(&self.readers.exits, self.readers.reader.as_ref(), &best);
         let turn = self
+            .readers
             .rib
-            .turn(&self.tree, &read, &mut self.registry, journal)?;
+            .turn(&above.tree, &read, &mut self.registry, journal)?;
         if rested(turn) {
             return Ok(Done::Nothing);
         }
@@ -121,7 +117,7 @@ impl<F: Writes> Network<F> {
     pub(crate) fn next_external(&self) -> Option<Task>
         ensures { result ≡ next_task phases.Ext self.now }
     {
-        if self.rib.busy() {
+        if self.readers.rib.busy() {
             return Some(Task::Ext);
         }
         None
@@ -132,8 +128,8 @@ impl<F: Writes> Network<F> {
         requires { Stands self.now }
         ensures { result ≡ has_work tasks.ReadRib self.now }
     {
-        match &self.reader {
-            Some(reader) => self.exits.waiting(reader) > 0,
+        match &self.readers.reader {
+            Some(reader) => self.readers.exits.waiting(reader) > 0,
             None => false,
         }
     }
@@ -160,12 +156,11 @@ impl<F: Writes> Network<F> {
         requires informed { Informed contests.now self.now }
         ensures { IfOk result (HasRow (read_links self.now.exits.queue self.now.reader (best_of self.now)) links.ReadRib p) }
     {
-        let Some(reader) = &self.reader else {
+        let Some(reader) = &self.readers.reader else {
             return Ok(None);
         };
-        let lent = self.lent();
-        let best = contests.best(&lent);
-        match self.exits.read(reader, &best, p)? {
+        let best = contests.best(&self.above);
+        match self.readers.exits.read(reader, &best, p)? {
             Some(route) => Ok(Some(Value::Route(route))),
             None => Ok(None),
         }
@@ -174,14 +169,14 @@ impl<F: Writes> Network<F> {
     /// The routes that the forwarding side has, over the best ones.
     pub(crate) fn read_routes<'a>(
         &'a self,
-        best: &'a Best<'a, Lent<'a, F>, F>,
-    ) -> ReadRoutes<'a, Lent<'a, F>, F>
+        best: &'a Best<'a, Above<F>, F>,
+    ) -> ReadRoutes<'a, Above<F>, F>
         requires { HaveReaders self.now }
         ensures exits { result.exits.now ≡ self.now.exits }
         ensures reader { option_copied result.reader ≡ self.now.reader }
         ensures best { result.best.now ≡ best.now }
     {
-        over_best(&self.exits, self.reader.as_ref(), best)
+        over_best(&self.readers.exits, self.readers.reader.as_ref(), best)
     }
 
     /// The row at a prefix of a link of the RIB's exit.
@@ -196,10 +191,9 @@ impl<F: Writes> Network<F> {
         requires informed { Informed contests.now self.now }
         ensures { IfOk result (HasRow (external_links self.now.rib (int_rows self.now.tree)) link p) }
     {
-        let lent = self.lent();
-        let best = contests.best(&lent);
+        let best = contests.best(&self.above);
         let read = self.read_routes(&best);
-        self.rib.asked(link, &self.tree, &read, p)
+        self.readers.rib.asked(link, &self.above.tree, &read, p)
     }
 
     /// Where the next row of a link of the RIB's exit may stand, beyond a place.
@@ -214,10 +208,11 @@ impl<F: Writes> Network<F> {
         requires informed { Informed contests.now self.now }
         ensures { IsNextPlace (external_links self.now.rib (int_rows self.now.tree) link) (key_of after) result }
     {
-        let lent = self.lent();
-        let best = contests.best(&lent);
+        let best = contests.best(&self.above);
         let read = self.read_routes(&best);
-        self.rib.next_candidate(link, &self.tree, &read, after)
+        self.readers
+            .rib
+            .next_candidate(link, &self.above.tree, &read, after)
     }
 
     /// The next hop of the row of `ext` at a prefix. Takes no memory.
@@ -226,8 +221,7 @@ impl<F: Writes> Network<F> {
         requires informed { Informed contests.now self.now }
         ensures { result ≡ option_map external_hop (ext_rows self.now.rib p) }
     {
-        let lent = self.lent();
-        let best = contests.best(&lent);
+        let best = contests.best(&self.above);
         let row = self.read_routes(&best).external(&p)?;
         Some(row.next_hop)
     }
@@ -243,11 +237,10 @@ impl<F: Writes> Network<F> {
         requires informed { Informed contests.now self.now }
         ensures { IsNextPlace (read_links self.now.exits.queue self.now.reader (best_of self.now) links.ReadRib) (key_of after) result }
     {
-        let Some(reader) = &self.reader else {
+        let Some(reader) = &self.readers.reader else {
             return None;
         };
-        let lent = self.lent();
-        let best = contests.best(&lent);
-        self.exits.next_read(reader, &best, after)
+        let best = contests.best(&self.above);
+        self.readers.exits.next_read(reader, &best, after)
     }
 }

@@ -43,7 +43,7 @@ impl<F: Writes> Network<F> {
     {
         let passed = self.resolve(number, sent, journal)?;
         self.decide(number, passed, contests, journal)?;
-        self.chains.weld(number, journal)
+        self.above.chains.weld(number, journal)
     }
 
     /// What follows a change on `filt.K`, if one came out. Answers the change on `res.K`, if there is one.
@@ -63,7 +63,8 @@ impl<F: Writes> Network<F> {
         let Some(change) = sent else {
             return Ok(None);
         };
-        self.hops
+        self.above
+            .hops
             .take_in(number, change, &mut self.registry, journal)
     }
 
@@ -71,7 +72,7 @@ impl<F: Writes> Network<F> {
     fn next_lost(&self, task: Task) -> Option<Prefix<F>>
         ensures { (chain : Chained) → chain_at (peer_of task) self.now.chains ≡ Some chain → FindsNextLost chain task result }
     {
-        match self.chains.chain(peer_of(task)) {
+        match self.above.chains.chain(peer_of(task)) {
             Some(chain) => chain.next_lost(task),
             None => None,
         }
@@ -92,7 +93,7 @@ impl<F: Writes> Network<F> {
         ensures informed { OnOk result (Informed contests.new self.new) }
     {
         let lost = self.next_lost(task);
-        let turn = self.chains.turn(task, journal)?;
+        let turn = self.above.chains.turn(task, journal)?;
         if let Turn::Nothing = turn {
             return Ok(Done::Nothing);
         }
@@ -115,10 +116,13 @@ impl<F: Writes> Network<F> {
         ensures taken { IfOk result (TakesTurn (tasks.Nh number) self.old self.new journal.old journal.new) }
         ensures informed { OnOk result (Informed contests.new self.new) }
     {
-        let Some(chain) = self.chains.chain(number) else {
+        let Some(chain) = self.above.chains.chain(number) else {
             return Ok(Done::Nothing);
         };
-        let turn = self.hops.turn(number, chain, &mut self.registry, journal)?;
+        let turn = self
+            .above
+            .hops
+            .turn(number, chain, &mut self.registry, journal)?;
         if let Turn::Nothing = turn {
             return Ok(Done::Nothing);
         }

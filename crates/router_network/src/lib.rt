@@ -10,8 +10,10 @@
 //! events may come, and what a message holds, is the crate `router_core`'s matter.
 #![tactic(auto)]
 
+mod above;
 mod best;
 mod candidates;
+mod declarations;
 mod exits;
 mod forwarding;
 mod hops;
@@ -19,10 +21,13 @@ mod lookups;
 mod network;
 mod own;
 mod peers;
+mod protocols;
+mod readers;
 mod reads;
 mod routes;
 mod sessions;
 mod settled;
+mod shown;
 mod steps;
 mod turns;
 

@@ -5,12 +5,13 @@ ghost use Rattle.std.specs.Option.{option_copied};
 ghost use Rattle.hop_side.specs.Resolvers.{resolver_at};
 ghost use Rattle.router_moments.specs.Moments.{first_moment, bound_of};
 
+use crate::above::Above;
 use crate::exits::Policies;
+use crate::readers::Readers;
 use addr4::{Addr, Family, Memory, Texts, V4};
 use event_text::Declared;
 use exit_side::Exits;
 use ext_int::ExtInt;
-use fanout_queue::Reader;
 use hop_side::NextHops;
 use nexthop_resolver::{Metric, Resolver};
 use peer_out::Writes;
@@ -23,20 +24,14 @@ use rib_tree::Tree;
 use std::alloc::Global;
 use std::marker::Model;
 
-/// A network of stages: what events and turns change of the router, for the prefixes of one family.
+/// A network of stages: what events and turns change of the router, for the prefixes of one family. What the best routes are
+/// decided from and who reads them are apart, so that the one is lent while the other changes; both ask the register.
 #[derive(Drop)]
 pub struct Network<F: Texts = V4> {
     pub(crate) alloc: Global,
-    pub(crate) declared: Declared<F>,
-    pub(crate) tree: Tree<F>,
+    pub(crate) above: Above<F>,
     pub(crate) registry: Register<Interior<Addr<F>>, F>,
-    pub(crate) chains: Peers<F>,
-    pub(crate) hops: NextHops<F>,
-    pub(crate) outgoing: Policies<F>,
-    pub(crate) exits: Exits<F>,
-    pub(crate) reader: Option<Reader>,
-    pub(crate) redist: Redist<F>,
-    pub(crate) rib: RibExit<ExtInt<F>>,
+    pub(crate) readers: Readers<F>,
 }
 
 impl<F: Texts> Model for Network<F> {
@@ -66,7 +61,7 @@ impl<F: Texts> Model for Network<F> {
 
     ghost coded = { moment_code (declaration_code profile_row.the_row.coded (speaker_row.the_row word).coded peer_row.the_row.coded) (treed_code (branch_code proto_row.the_row.coded (interior_row.the_row word).coded)) (registry_code (interior_row.the_row word).coded) (peers_row.the_row family_row.the_row ⟦<V4 as Family>⟧).coded (hops_row.the_row family_row.the_row ⟦<V4 as Family>⟧ ⟦<V4 as Clone>⟧).coded (policies_row.the_row family_row.the_row ⟦<V4 as Family>⟧).coded (exits_row.the_row family_row.the_row ⟦<V4 as Family>⟧ ⟦<V4 as Clone>⟧).coded (coded_option reader_row.the_row.coded) (redist_row.the_row family_row.the_row ⟦<V4 as Family>⟧).coded (rib_row.the_row (ext_row.the_row family_row.the_row ⟦<V4 as Family>⟧ ⟦<V4 as Clone>⟧)).coded };
 
-    ghost view = { λ n. record { declared = n.declared; tree = n.tree; registry = n.registry; chains = n.chains; hops = n.hops; outgoing = n.outgoing; exits = n.exits; reader = n.reader; redist = n.redist; rib = n.rib } };
+    ghost view = { λ n. record { declared = n.above.declared; tree = n.above.tree; registry = n.registry; chains = n.above.chains; hops = n.above.hops; outgoing = n.readers.outgoing; exits = n.readers.exits; reader = n.readers.reader; redist = n.above.redist; rib = n.readers.rib } };
 }
 
 impl<F: Writes> Network<F> {
@@ -77,18 +72,24 @@ impl<F: Writes> Network<F> {
         let declared = Declared::new(alloc);
         declared.known();
         let exits = Exits::new(alloc, declared.profile());
-        Network {
-            alloc,
+        let above = Above {
             declared,
             tree: Tree::new(alloc),
-            registry: Register::new(alloc),
+            redist: Redist::new(alloc),
             chains: Peers::new(alloc),
             hops: NextHops::new(alloc),
+        };
+        let readers = Readers {
             outgoing: Policies::new(alloc),
             exits,
             reader: None,
-            redist: Redist::new(alloc),
             rib: RibExit::new(alloc),
+        };
+        Network {
+            alloc,
+            above,
+            registry: Register::new(alloc),
+            readers,
         }
     }
 
@@ -101,38 +102,38 @@ impl<F: Writes> Network<F> {
     pub fn declared(&self) -> &Declared<F>
         ensures { result.now ≡ self.now.declared }
     {
-        &self.declared
+        &self.above.declared
     }
 
     /// The tree of the interior routes.
     pub fn tree(&self) -> &Tree<F>
         ensures { result.now ≡ self.now.tree }
     {
-        &self.tree
+        &self.above.tree
     }
 
     /// The next hops of a peer's routes. None exactly where no such peer is declared.
     pub fn resolver(&self, number: u32) -> Option<&Resolver<Metric, F>>
         ensures { option_copied result ≡ resolver_at number self.now.hops }
     {
-        self.hops.resolver(number)
+        self.above.hops.resolver(number)
     }
 
     /// The external routes on their way to the forwarding table.
     pub fn external(&self) -> &RibExit<ExtInt<F>>
         ensures { result.now ≡ self.now.rib }
     {
-        &self.rib
+        &self.readers.rib
     }
 
     /// How many turns an idle takes at most.
     pub fn bound(&self) -> Result<u128, Memory>
         ensures { IfOk result (λ bound. bound ≡ bound_of self.now) }
     {
-        let rows = plus(self.chains.rows()?, self.tree.rows())?;
-        let hops = plus(self.hops.known()?, self.rib.known())?;
-        let peers = self.declared.peers().len() as u128;
-        most_turns(peers, rows, hops, self.exits.most_unread())
+        let rows = plus(self.above.chains.rows()?, self.above.tree.rows())?;
+        let hops = plus(self.above.hops.known()?, self.readers.rib.known())?;
+        let peers = self.above.declared.peers().len() as u128;
+        most_turns(peers, rows, hops, self.readers.exits.most_unread())
     }
 }
 

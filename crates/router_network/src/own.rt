@@ -31,7 +31,7 @@ impl<F: Writes> Network<F> {
         requires stands { Stands self.old }
         ensures { HasStepped self.old (events.Redist proto on) 0 self.new [] }
     {
-        self.redist.edit(proto, on);
+        self.above.redist.edit(proto, on);
     }
 
     /// A change of `int` goes on through redistribution; where `red` changes, the best route is decided anew.
@@ -48,10 +48,10 @@ impl<F: Writes> Network<F> {
         ensures known { OnOk result (Knows contests.new (branch_rows self.new)) }
         ensures counts { OnOk result (KeepsCounts contests.old contests.new) }
     {
-        let Some(me) = self.declared.speaker() else {
+        let Some(me) = self.above.declared.speaker() else {
             unreachable!()
         };
-        let sent = self.redist.take_in(change, &me)?;
+        let sent = self.above.redist.take_in(change, &me)?;
         self.send_own(sent, contests, journal)
     }
 
@@ -84,10 +84,10 @@ impl<F: Writes> Network<F> {
         ensures taken { IfOk result (TakesTurn tasks.Red self.old self.new journal.old journal.new) }
         ensures informed { OnOk result (Informed contests.new self.new) }
     {
-        let Some(me) = self.declared.speaker() else {
+        let Some(me) = self.above.declared.speaker() else {
             return Ok(Done::Nothing);
         };
-        let turn = self.redist.unit(&self.tree, &me)?;
+        let turn = self.above.redist.unit(&self.above.tree, &me)?;
         if let Turn::Nothing = turn {
             return Ok(Done::Nothing);
         }
@@ -100,7 +100,7 @@ impl<F: Writes> Network<F> {
     pub(crate) fn next_own(&self) -> Option<Task>
         ensures { result ≡ next_task phases.Red self.now }
     {
-        if self.redist.busy() {
+        if self.above.redist.busy() {
             return Some(Task::Red);
         }
         None

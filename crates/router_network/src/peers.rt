@@ -30,8 +30,8 @@ impl<F: Writes> Network<F> {
         ensures value { result ≡ self.now.declared.profile }
         ensures of { IsProfileOf F.V6 result }
     {
-        self.declared.known();
-        self.declared.profile()
+        self.above.declared.known();
+        self.above.declared.profile()
     }
 
     /// This holds for the whole file: how AS numbers and errors in attributes are read and written. Nobody reads the queue
@@ -40,18 +40,20 @@ impl<F: Writes> Network<F> {
         requires { IsProfileOf F.V6 profile }
         ensures { self.new ≡ profiled self.old profile }
     {
-        self.declared.set_profile(profile);
-        self.exits = Exits::new(self.alloc, profile);
+        self.above.declared.set_profile(profile);
+        self.readers.exits = Exits::new(self.alloc, profile);
     }
 
     /// `local6` was said: routes of IPv6 are read in messages from now on (RFC 4760). Takes no memory.
     pub fn speak_ipv6(&mut self)
         ensures { self.new ≡ spoken self.old }
     {
-        self.declared.known();
-        self.declared.set_ipv6();
-        self.declared.known();
-        self.exits.set_profile(self.declared.profile());
+        self.above.declared.known();
+        self.above.declared.set_ipv6();
+        self.above.declared.known();
+        self.readers
+            .exits
+            .set_profile(self.above.declared.profile());
     }
 
     /// `local` was declared: the links of the interior routes begin.
@@ -66,11 +68,11 @@ impl<F: Writes> Network<F> {
         ensures { OnOk result (Pushes (HasStepped self.old (events.Local words) 0 self.new) journal.old journal.new) }
     {
         a_stranger_reads();
-        self.declared.known();
-        self.declared.set_speaker(words);
+        self.above.declared.known();
+        self.above.declared.set_speaker(words);
         begin_rib(journal)?;
         self.begin_reading(journal)?;
-        self.rib.begin(journal)
+        self.readers.rib.begin(journal)
     }
 
     /// `peer` was declared: its chain and its resolver begin, without routes and rules.
@@ -86,15 +88,15 @@ impl<F: Writes> Network<F> {
         requires formed { IsWellFormed self.old.declared.v6 self.old.declared.profile (events.Peer number words client) }
         ensures { OnOk result (Pushes (HasStepped self.old (events.Peer number words client) 0 self.new) journal.old journal.new) }
     {
-        let Some(me) = self.declared.speaker() else {
+        let Some(me) = self.above.declared.speaker() else {
             unreachable!()
         };
-        self.declared.add_peer(number, words, client)?;
-        let Some(peer) = self.declared.peer(number) else {
+        self.above.declared.add_peer(number, words, client)?;
+        let Some(peer) = self.above.declared.peer(number) else {
             unreachable!()
         };
-        self.chains.begin(number, me, peer.words, journal)?;
-        self.hops.begin(peer.words.number, journal)?;
+        self.above.chains.begin(number, me, peer.words, journal)?;
+        self.above.hops.begin(peer.words.number, journal)?;
         Ok(())
     }
 
@@ -111,7 +113,7 @@ impl<F: Writes> Network<F> {
         if self.is_up(number) {
             return journal.push_line(Line::Ignored);
         }
-        self.declared.begin_session(number);
+        self.above.declared.begin_session(number);
         self.begin_exit(number, journal)
     }
 
@@ -121,14 +123,14 @@ impl<F: Writes> Network<F> {
         requires stands { Stands self.old }
         ensures { HasStepped self.old (events.FilterIn number rules) 0 self.new [] }
     {
-        self.chains.edit(number, rules);
+        self.above.chains.edit(number, rules);
     }
 
     /// Whether the peer is up.
     pub(crate) fn is_up(&self, number: u32) -> bool
         ensures { result ≡ is_up (peer_at number self.now.declared.peers) }
     {
-        match self.declared.peer(number) {
+        match self.above.declared.peer(number) {
             Some(peer) => peer.up,
             None => false,
         }
@@ -139,7 +141,7 @@ impl<F: Writes> Network<F> {
         requires { IsSome (chain_at number self.now.chains) }
         ensures { Some result.now ≡ chain_at number self.now.chains }
     {
-        self.chains.chain(number).unwrap()
+        self.above.chains.chain(number).unwrap()
     }
 }
 

@@ -6,9 +6,9 @@ ghost use Rattle.std.specs.Option.{option_copied};
 ghost use Rattle.std.specs.FinMap as map;
 ghost use Rattle.decision.specs.Branches.{best_rows};
 ghost use Rattle.rib_split.specs.Splitting.{external_row};
-ghost use Rattle.router_network.specs.Informed.{rows_lent};
+ghost use Rattle.router_network.specs.Informed.{rows_above};
 
-use crate::best::Lent;
+use crate::above::Above;
 use addr4::{Addr, Place, Prefix, Texts, V4};
 use decision::{Best, Branches};
 use exit_side::Exits;
@@ -26,9 +26,9 @@ pub(crate) struct ReadRoutes<'a, B: Branches<F>, F: Texts = V4> {
     pub(crate) reader: Option<&'a Reader>,
     pub(crate) best: &'a Best<'a, B, F>,
     /// The branches, as they were lent to the best routes.
-    pub(crate) lent: &'a Lent<'a, F>,
+    pub(crate) above: &'a Above<F>,
     ghost live: { (r : ℕ) → option_copied reader ≡ Some r → IsSome (map.get exits.now.queue r) },
-    ghost own: { B.rows best.now.all.now ≡ rows_lent lent.now },
+    ghost own: { B.rows best.now.all.now ≡ rows_above above.now },
 }
 
 impl<'a, B: Branches<F>, F: Writes> Reading<F> for ReadRoutes<'a, B, F> {
@@ -42,7 +42,7 @@ impl<'a, B: Branches<F>, F: Writes> Reading<F> for ReadRoutes<'a, B, F> {
         let reader = self.reader?;
         match self.exits.first_unread(reader, *p) {
             Some(change) => external_row(&change.before),
-            None => best_external(self.best, self.lent, p),
+            None => best_external(self.best, self.above, p),
         }
     }
 
@@ -67,8 +67,8 @@ impl<'a, B: Branches<F>, F: Writes> Reading<F> for ReadRoutes<'a, B, F> {
 pub(crate) fn over_best<'a, F: Texts>(
     exits: &'a Exits<F>,
     reader: Option<&'a Reader>,
-    best: &'a Best<'a, Lent<'a, F>, F>,
-) -> ReadRoutes<'a, Lent<'a, F>, F>
+    best: &'a Best<'a, Above<F>, F>,
+) -> ReadRoutes<'a, Above<F>, F>
     requires { (r : ℕ) → option_copied reader ≡ Some r → IsSome (map.get exits.now.queue r) }
     ensures exits { result.exits.now ≡ exits.now }
     ensures reader { option_copied result.reader ≡ option_copied reader.entry }
@@ -78,18 +78,18 @@ pub(crate) fn over_best<'a, F: Texts>(
         exits,
         reader,
         best,
-        lent: best.all,
+        above: best.all,
     }
 }
 
 /// What forwarding needs of the best route at a prefix, if a peer sent it.
 fn best_external<B: Branches<F>, F: Texts>(
     best: &Best<'_, B, F>,
-    lent: &Lent<'_, F>,
+    above: &Above<F>,
     p: &Prefix<F>,
 ) -> Option<External<Addr<F>>>
-    requires { B.rows best.now.all.now ≡ rows_lent lent.now }
+    requires { B.rows best.now.all.now ≡ rows_above above.now }
     ensures { result ≡ external_row (best_rows (B.rows best.now.all.now) p.now) }
 {
-    lent.external(best.winner(p)?, p)
+    above.external(best.winner(p)?, p)
 }

@@ -1,24 +1,18 @@
-//! Interior routes: they come, go and are lost with their protocol; and the register's answers.
+//! Interior routes: they come and go, and what follows a change of `int`; and the register's answers.
 
 ghost use Rattle.std.specs.Prelude.{◌≡◌, OnOk, IfOk, IfSome, IsSome, Some, None};
 ghost use Rattle.event_text.specs.declared.event.Event.TheVariants as events;
 ghost use Rattle.event_text.specs.Declarations.{refusal};
-ghost use Rattle.journal_text.specs.declared.link.Task.TheVariants as tasks;
 ghost use Rattle.register_interest.specs.Covers.{matched};
 ghost use Rattle.register_interest.specs.Matches.{lent_match};
-ghost use Rattle.rib_tree.specs.Trees.{branch_of, int_rows, AreNumbered, IsTree, IsFullBut};
-ghost use Rattle.rib_tree.specs.Steps.{fed_tree, tree_overdue};
-ghost use Rattle.rib_tree.specs.Falls.{way_of_route};
+ghost use Rattle.rib_tree.specs.Trees.{IsTree, IsFullBut};
 ghost use Rattle.hop_side.specs.Resolvers.{IsHops};
 ghost use Rattle.rib_exit.specs.Exits.{IsExit};
 ghost use Rattle.journal_text.specs.Journals.{Adds};
 ghost use Rattle.router_moments.specs.Moments.{Gives};
-ghost use Rattle.loss_chain.specs.Steps.{live_after};
-ghost use Rattle.live_state.specs.Lives.{interior_fed};
-ghost use Rattle.router_moments.specs.Lives.{live_state};
 ghost use Rattle.router_moments.specs.Stands.{Stands, HaveReaders};
 ghost use Rattle.router_moments.specs.Turns.{Registers};
-ghost use Rattle.router_moments.specs.Works.{TakesTurn, Informs, MayFollow, Follows, Settles, Turned, SetsRoute, HasProtocolRoom, EndsProtocol, HasStepped, Pushes};
+ghost use Rattle.router_moments.specs.Works.{Informs, MayFollow, Follows, Settles, SetsRoute, HasStepped, Pushes};
 ghost use Rattle.router_network.specs.Informed.{Informed, InformedOver};
 ghost use Rattle.router_network.specs.Reads.{TakesInto};
 
@@ -27,12 +21,11 @@ use crate::network::Network;
 use crate::steps::ignored;
 use addr4::{Addr, Family, Memory, Prefix};
 use decision::Contests;
-use journal_text::{Journal, Line, Task};
-use link_change::{Change, Turn};
+use journal_text::{Journal, Line};
+use link_change::Change;
 use peer_out::Writes;
 use register_interest::{Interest, Register};
 use rib_route::{Interior, Proto};
-use router_moments::Done;
 use std::alloc::Global;
 
 impl<F: Writes> Network<F> {
@@ -69,31 +62,10 @@ impl<F: Writes> Network<F> {
         ensures steps { IfOk result (λ turns. Gives (HasStepped self.old (events.RouteDel proto p) turns self.new) journal.old journal.new) }
         ensures informed { OnOk result (Informed contests.new self.new) }
     {
-        if !self.tree.has(proto, p) {
+        if !self.above.tree.has(proto, p) {
             return ignored(journal);
         }
         self.route(proto, p, None, contests, journal)?;
-        journal.flush()?;
-        Ok(0)
-    }
-
-    /// `lost`: the protocol's routes go to a deletion stage of their own. Where 16 stand and it has routes, the oldest runs
-    /// to its end first (NSDI 2005, section 5.1.2).
-    pub fn lose_protocol(
-        &mut self,
-        proto: Proto,
-        contests: &mut Contests<F>,
-        journal: &mut Journal<F>,
-    ) -> Result<u128, Memory>
-        requires admitted { refusal self.old.declared (events.Lose proto) ≡ None }
-        requires few { AreNumbered 4294967294 self.old.tree }
-        requires stands { Stands self.old }
-        requires informed { Informed contests.old self.old }
-        ensures steps { IfOk result (λ turns. Gives (HasStepped self.old (events.Lose proto) turns self.new) journal.old journal.new) }
-        ensures informed { OnOk result (Informed contests.new self.new) }
-    {
-        self.make_protocol_room(proto, contests, journal)?;
-        self.lose_protocol_with_room(proto, journal)?;
         journal.flush()?;
         Ok(0)
     }
@@ -108,43 +80,6 @@ impl<F: Writes> Network<F> {
         journal.push_line(Line::Cover(address, prefix_of(&found), subnet))?;
         journal.flush()?;
         Ok(0)
-    }
-
-    /// Makes room for one more deletion stage of a protocol.
-    fn make_protocol_room(
-        &mut self,
-        proto: Proto,
-        contests: &mut Contests<F>,
-        journal: &mut Journal<F>,
-    ) -> Result<(), Memory>
-        requires stands { Stands self.old }
-        requires informed { Informed contests.old self.old }
-        ensures makes { OnOk result (Gives (HasProtocolRoom proto self.old self.new) journal.old journal.new) }
-        ensures informed { OnOk result (Informed contests.new self.new) }
-    {
-        match self.tree.overdue(proto) {
-            Some(task) => {
-                self.drain_task(task, contests, journal)?;
-                Ok(())
-            }
-            None => journal.flush(),
-        }
-    }
-
-    fn lose_protocol_with_room(
-        &mut self,
-        proto: Proto,
-        journal: &mut Journal<F>,
-    ) -> Result<(), Memory>
-        requires stands { Stands self.old }
-        requires free { tree_overdue proto self.old.tree ≡ None }
-        requires few { AreNumbered 4294967294 self.old.tree }
-        requires since { IsSome self.old.declared.speaker }
-        ensures ends { OnOk result (Pushes (EndsProtocol proto self.old self.new) journal.old journal.new) }
-        ensures rows { OnOk result (int_rows self.new.tree ≡ int_rows self.old.tree) }
-    {
-        self.tree.lose(proto, journal)?;
-        Ok(())
     }
 
     /// A protocol's route at a prefix is this one from now on, or gone.
@@ -166,18 +101,18 @@ impl<F: Writes> Network<F> {
         // By cases: the prover asks for a route in sight where one is passed on.
         match new {
             None => {
-                let sent = self.tree.feed(proto, p, None, journal)?;
+                let sent = self.above.tree.feed(proto, p, None, journal)?;
                 self.settle(proto, sent, contests, journal)
             }
             Some(row) => {
-                let sent = self.tree.feed(proto, p, Some(row), journal)?;
+                let sent = self.above.tree.feed(proto, p, Some(row), journal)?;
                 self.settle(proto, sent, contests, journal)
             }
         }
     }
 
     /// What follows a change in a protocol's branch, by what came out on `int`; behind it the stage that it emptied goes.
-    fn settle(
+    pub(crate) fn settle(
         &mut self,
         proto: Proto,
         sent: Option<Change<Interior<Addr<F>>, Prefix<F>>>,
@@ -192,7 +127,7 @@ impl<F: Writes> Network<F> {
         ensures informed { OnOk result (Informed contests.new self.new) }
     {
         self.follow(sent, contests, journal)?;
-        self.tree.weld(proto, journal)?;
+        self.above.tree.weld(proto, journal)?;
         Ok(())
     }
 
@@ -248,11 +183,10 @@ impl<F: Writes> Network<F> {
         requires informed { Informed contests.now self.now }
         ensures { OnOk result (TakesInto change.now self.now journal.old journal.new) }
     {
-        let lent = self.lent();
-        let best = contests.best(&lent);
+        let best = contests.best(&self.above);
         let read = self.read_routes(&best);
         // By cases: rattle's borrow checker can't plan a `?` on a value that holds a forwarding row.
-        match self.rib.take_interior(change, &read, journal) {
+        match self.readers.rib.take_interior(change, &read, journal) {
             Ok(_) => Ok(()),
             Err(error) => Err(error),
         }
@@ -265,50 +199,9 @@ impl<F: Writes> Network<F> {
         ensures { OnOk result (Informs change.now self.old self.new) }
     {
         let reached = register(&mut self.registry, self.alloc, change)?;
-        self.hops.reach(reached.as_slice())?;
-        self.rib.reach(reached.as_slice())?;
+        self.above.hops.reach(reached.as_slice())?;
+        self.readers.rib.reach(reached.as_slice())?;
         Ok(())
-    }
-
-    /// One turn of the stage of a protocol's loss, and the text of its lines.
-    #[inline(never)]
-    pub(crate) fn turn_route(
-        &mut self,
-        proto: Proto,
-        loss: u32,
-        contests: &mut Contests<F>,
-        journal: &mut Journal<F>,
-    ) -> Result<Done, Memory>
-        requires stands { Stands self.old }
-        requires informed { Informed contests.old self.old }
-        ensures taken { IfOk result (TakesTurn (tasks.Rdel proto loss) self.old self.new journal.old journal.new) }
-        ensures informed { OnOk result (Informed contests.new self.new) }
-    {
-        match self.tree.unit(Task::Rdel(proto, loss), journal)? {
-            Turn::Nothing => Ok(Done::Nothing),
-            Turn::Quiet => self.turned(proto, None, contests, journal),
-            Turn::Sent(change) => self.turned(proto, Some(change), contests, journal),
-        }
-    }
-
-    /// What follows a turn that was taken, and the text of its lines.
-    fn turned(
-        &mut self,
-        proto: Proto,
-        sent: Option<Change<Interior<Addr<F>>, Prefix<F>>>,
-        contests: &mut Contests<F>,
-        journal: &mut Journal<F>,
-    ) -> Result<Done, Memory>
-        requires tree { IsTree self.old.tree }
-        requires full { IsFullBut proto self.old.tree }
-        requires follow { MayFollow self.old }
-        requires informed { InformedOver sent contests.old self.old }
-        ensures turned { IfOk result (Turned proto sent self.old self.new journal.old journal.new) }
-        ensures informed { OnOk result (Informed contests.new self.new) }
-    {
-        self.settle(proto, sent, contests, journal)?;
-        journal.flush()?;
-        Ok(Done::Taken)
     }
 }
 

@@ -57,7 +57,7 @@ impl<F: Writes> Network<F> {
         ensures informed { OnOk result (Informed contests.new self.new) }
     {
         let had = self.has_candidate(number, prefix);
-        let sent = self.chains.feed(number, prefix, row, journal)?;
+        let sent = self.above.chains.feed(number, prefix, row, journal)?;
         let has = self.has_candidate(number, prefix);
         enter(contests, prefix, had, has)?;
         self.settle_peer(number, sent, contests, journal)?;
@@ -80,7 +80,7 @@ impl<F: Writes> Network<F> {
         ensures loses { OnOk result (Gives (HasLost number session self.old self.new) journal.old journal.new) }
         ensures informed { OnOk result (Informed contests.new self.new) }
     {
-        self.exits.end(number, journal)?;
+        self.readers.exits.end(number, journal)?;
         self.make_room(number, contests, journal)?;
         self.lose_with_room(number, session, journal)?;
         journal.flush()
@@ -99,7 +99,7 @@ impl<F: Writes> Network<F> {
         ensures makes { OnOk result (Gives (HasRoom number self.old self.new) journal.old journal.new) }
         ensures informed { OnOk result (Informed contests.new self.new) }
     {
-        match self.chains.overdue(number) {
+        match self.above.chains.overdue(number) {
             Some(task) => {
                 self.drain_task(task, contests, journal)?;
                 Ok(())
@@ -120,8 +120,8 @@ impl<F: Writes> Network<F> {
         requires silent { exit_at number self.old.exits ≡ None }
         ensures { OnOk result (Pushes (Ends number session self.old self.new) journal.old journal.new) }
     {
-        self.chains.lose(number, session, journal)?;
-        self.declared.end_session(number);
+        self.above.chains.lose(number, session, journal)?;
+        self.above.declared.end_session(number);
         Ok(())
     }
 }

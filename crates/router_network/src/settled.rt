@@ -92,9 +92,9 @@ impl<F: AsksLosses> Network<F> {
         match phase {
             Phase::Rdel => F::loss_held(self, &p),
             Phase::Red => self.own_held(p),
-            Phase::Del => self.chains.first_loss_at(p),
-            Phase::Fin => self.chains.first_walk_at(p),
-            Phase::Nh => task_of(self.hops.first_held(&self.lent(), p)),
+            Phase::Del => self.above.chains.first_loss_at(p),
+            Phase::Fin => self.above.chains.first_walk_at(p),
+            Phase::Nh => task_of(self.above.hops.first_held(&self.above, p)),
             Phase::ReadRib => self.reader_held(p),
             Phase::Out => self.exit_held(p, contests),
             Phase::Ext => self.external_held(p, contests),
@@ -110,15 +110,14 @@ impl<F: Writes> Network<F> {
         requires room { length room.old ≡ 65 }
         ensures { result ≡ held_in phases.Rdel self.now p }
     {
-        let lent = self.lent();
         let mut count: usize = 0;
         for number in 0..self.numbers() {
-            if let Some(hop) = lent.next_hop(number, &p) {
+            if let Some(hop) = self.above.next_hop(number, &p) {
                 room[count] = hop;
                 count += 1;
             }
         }
-        self.tree.first_loss_at(p, &room[..count])
+        self.above.tree.first_loss_at(p, &room[..count])
     }
 
     /// Below which all peers have their numbers, at most 65.
@@ -126,7 +125,7 @@ impl<F: Writes> Network<F> {
         ensures few { result ≤ 65 }
         ensures all { (k : ℕ) → k < 65 → result ≤ k → chain_at k self.now.chains ≡ None }
     {
-        let last = self.chains.last();
+        let last = self.above.chains.last();
         if last < 65 { last + 1 } else { 65 }
     }
 
@@ -134,7 +133,7 @@ impl<F: Writes> Network<F> {
     fn own_held(&self, p: Prefix<F>) -> Option<Task>
         ensures { result ≡ held_in phases.Red self.now p }
     {
-        if self.tree.row(p).is_some() && self.redist.holds_up(p) {
+        if self.above.tree.row(p).is_some() && self.above.redist.holds_up(p) {
             return Some(Task::Red);
         }
         None
@@ -145,8 +144,8 @@ impl<F: Writes> Network<F> {
         requires { Stands self.now }
         ensures { result ≡ held_in phases.ReadRib self.now p }
     {
-        let reader = self.reader.as_ref()?;
-        if self.exits.unread(reader, p) {
+        let reader = self.readers.reader.as_ref()?;
+        if self.readers.exits.unread(reader, p) {
             return Some(Task::ReadRib);
         }
         None
@@ -159,7 +158,7 @@ impl<F: Writes> Network<F> {
         ensures { result ≡ held_in phases.Out self.now p }
     {
         let there = self.has_best(p, contests);
-        exit_of(self.exits.first_held(there, p))
+        exit_of(self.readers.exits.first_held(there, p))
     }
 
     /// The next hops of external routes, where they hold up a prefix.
@@ -168,7 +167,7 @@ impl<F: Writes> Network<F> {
         requires informed { Informed contests.now self.now }
         ensures { result ≡ held_in phases.Ext self.now p }
     {
-        if self.rib.holds_up(self.external_hop(p, contests), p) {
+        if self.readers.rib.holds_up(self.external_hop(p, contests), p) {
             return Some(Task::Ext);
         }
         None

@@ -1,4 +1,4 @@
-//! What each event of one network does.
+//! What each event of one network does that declares nothing.
 
 ghost use Rattle.std.specs.Prelude.{◌≡◌, [], ◌∷◌, OnOk, IfOk, None};
 ghost use Rattle.journal_text.specs.declared.line.Line.TheVariants as lines;
@@ -6,14 +6,12 @@ ghost use Rattle.journal_text.specs.Journals.{flushed, with_lines};
 ghost use Rattle.event_text.specs.declared.event.Event.TheVariants as events;
 ghost use Rattle.event_text.specs.Declarations.{refusal};
 ghost use Rattle.router_moments.specs.Moments.{Gives};
-ghost use Rattle.event_text.specs.WellFormed.{IsWellFormed};
 ghost use Rattle.router_moments.specs.Stands.{Stands, AllHaveExits};
 ghost use Rattle.router_moments.specs.Works.{HasStepped, HasIdled};
 ghost use Rattle.router_network.specs.Informed.{Informed};
 
 use crate::network::Network;
-use addr4::{Addr, Memory, Prefix, Texts};
-use bgp_attr::Speaker;
+use addr4::{Memory, Prefix, Texts};
 use decision::Contests;
 use journal_text::{Journal, Line, Link, Task};
 use peer_out::Writes;
@@ -27,79 +25,6 @@ impl<F: Writes> Network<F> {
         requires { Stands self.old }
         ensures { IfOk result (λ turns. Gives (HasStepped self.old events.Nothing turns self.new) journal.old journal.new) }
     {
-        journal.flush()?;
-        Ok(0)
-    }
-
-    /// AS numbers have four octets, in the whole file and in all messages (RFC 6793).
-    pub fn four_octets(&mut self, journal: &mut Journal<F>) -> Result<u128, Memory>
-        requires admitted { refusal self.old.declared events.As4 ≡ None }
-        requires stands { Stands self.old }
-        ensures { IfOk result (λ turns. Gives (HasStepped self.old events.As4 turns self.new) journal.old journal.new) }
-    {
-        let mut profile = self.profile();
-        profile.as4 = true;
-        self.set_profile(profile);
-        journal.flush()?;
-        Ok(0)
-    }
-
-    /// Errors in attributes are handled by the revised table (in the manner of RFC 7606).
-    pub fn revised(&mut self, journal: &mut Journal<F>) -> Result<u128, Memory>
-        requires admitted { refusal self.old.declared events.Revised ≡ None }
-        requires stands { Stands self.old }
-        ensures { IfOk result (λ turns. Gives (HasStepped self.old events.Revised turns self.new) journal.old journal.new) }
-    {
-        let mut profile = self.profile();
-        profile.revised = true;
-        self.set_profile(profile);
-        journal.flush()?;
-        Ok(0)
-    }
-
-    /// This speaker is a route reflector (RFC 4456).
-    pub fn reflect(&mut self, journal: &mut Journal<F>) -> Result<u128, Memory>
-        requires admitted { refusal self.old.declared events.Reflect ≡ None }
-        requires stands { Stands self.old }
-        ensures { IfOk result (λ turns. Gives (HasStepped self.old events.Reflect turns self.new) journal.old journal.new) }
-    {
-        let mut profile = self.profile();
-        profile.reflect = true;
-        self.set_profile(profile);
-        journal.flush()?;
-        Ok(0)
-    }
-
-    /// This speaker is declared, and its links begin.
-    pub fn local(
-        &mut self,
-        words: Speaker<Addr<F>>,
-        journal: &mut Journal<F>,
-    ) -> Result<u128, Memory>
-        requires admitted { refusal self.old.declared (events.Local words) ≡ None }
-        requires stands { Stands self.old }
-        requires formed { IsWellFormed self.old.declared.v6 self.old.declared.profile (events.Local words) }
-        ensures { IfOk result (λ turns. Gives (HasStepped self.old (events.Local words) turns self.new) journal.old journal.new) }
-    {
-        self.declare_speaker(words, journal)?;
-        journal.flush()?;
-        Ok(0)
-    }
-
-    /// A peer is declared, and its links begin.
-    pub fn peer(
-        &mut self,
-        number: u32,
-        words: Speaker,
-        client: bool,
-        journal: &mut Journal<F>,
-    ) -> Result<u128, Memory>
-        requires admitted { refusal self.old.declared (events.Peer number words client) ≡ None }
-        requires stands { Stands self.old }
-        requires formed { IsWellFormed self.old.declared.v6 self.old.declared.profile (events.Peer number words client) }
-        ensures { IfOk result (λ turns. Gives (HasStepped self.old (events.Peer number words client) turns self.new) journal.old journal.new) }
-    {
-        self.declare_peer(number, words, client, journal)?;
         journal.flush()?;
         Ok(0)
     }
@@ -228,7 +153,7 @@ impl<F: Writes> Network<F> {
         ensures steps { IfOk result (λ turns. Gives (HasStepped self.old (events.Down number) turns self.new) journal.old journal.new) }
         ensures informed { OnOk result (Informed contests.new self.new) }
     {
-        let Some(peer) = self.declared.peer(number) else {
+        let Some(peer) = self.above.declared.peer(number) else {
             unreachable!()
         };
         if !peer.up {

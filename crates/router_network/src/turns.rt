@@ -94,15 +94,15 @@ impl<F: Writes> Network<F> {
         ensures none { IfNone result (counts self.now phase ≡ 0) }
     {
         match phase {
-            Phase::Rdel => self.tree.oldest(),
+            Phase::Rdel => self.above.tree.oldest(),
             Phase::Red => self.next_own(),
-            Phase::Del => self.chains.first_loss(),
-            Phase::Fin => self.chains.first_walk(),
-            Phase::Nh => task_of(self.hops.first_busy()),
+            Phase::Del => self.above.chains.first_loss(),
+            Phase::Fin => self.above.chains.first_walk(),
+            Phase::Nh => task_of(self.above.hops.first_busy()),
             Phase::ReadRib => self.next_reader(),
-            Phase::Out => exit_of(self.exits.first_busy()),
+            Phase::Out => exit_of(self.readers.exits.first_busy()),
             Phase::Ext => self.next_external(),
-            Phase::Ref => refresh_of(self.exits.first_refresh()),
+            Phase::Ref => refresh_of(self.readers.exits.first_refresh()),
         }
     }
 

@@ -12,7 +12,7 @@ unreachable-requires g c =
 pub unreachable-requires-in_default-peer : goal.unreachable-requires-in_default-peer
 unreachable-requires-in_default-peer g c =
     let absent = ap (λ (m : Moment). peer_at c.args.number m.declared.peers) c.self.view_is ∙ peer_absent c.args.self.now.declared c.args.number c.args.words c.args.client c.requires.admitted in
-    not_added c.self.inside.declared c.add_peer.new.self c.args.number c.args.words c.args.client absent c.in_ok-add_peer.ensures.ok (sym c.in_default-peer.is ∙ c.peer.ensures)
+    not_added c.self.inside.above.declared c.add_peer.new.self c.args.number c.args.words c.args.client absent c.in_ok-add_peer.ensures.ok (sym c.in_default-peer.is ∙ c.peer.ensures)
 
 pub begin-requires-clause-sound : goal.begin-requires-clause-sound
 begin-requires-clause-sound g c = peers_sound c.args.self.now _ c.self.view_is c.requires.stands

@@ -1,8 +1,4 @@
-use Rattle.router_moments.proofs.Common.{sym, ◌∙◌, ap, route_hop, Chains, filt_at, Moment}
-use Rattle.std.proofs.Common.{option_map}
-use Rattle.std.specs.List.{find}
-use Rattle.std.specs.FinMap as tables
-use Rattle.hop_side.specs.Resolvers.{hop_holds_up}
+use Rattle.router_moments.proofs.Common.{sym, ◌∙◌}
 use Rattle.router_moments.specs.declared.tasks.Phase.TheVariants.{Del, Fin}
 use Rattle.router_moments.proofs.StandLemmas.{peers_sound}
 use Rattle.router_moments.proofs.NextLemmas.{held_of_peers, held_of_hops, held_of_losses, held_of_refreshes}
@@ -29,9 +25,7 @@ returns-in-Fin g c = held_of_peers Fin c.args.phase c.args.self.now _ c.args.p c
 
 pub returns-in-Nh : goal.returns-in-Nh
 returns-in-Nh g c =
-    let chains = c.lent.ensures.chains ∙ sym (ap (λ (n : Moment). n.chains) c.self.view_is) in
-    held_of_hops c.args.phase c.args.self.now _ c.args.p c.first_held.result c.task_of.result c.in-Nh.is c.self.view_is
-    (c.first_held.ensures ∙ ap (λ (a : Chains). find (λ k. hop_holds_up c.self.inside.hops k c.args.p (option_map route_hop (filt_at a k c.args.p))) (tables.keys c.self.inside.hops)) chains) c.task_of.ensures
+    held_of_hops c.args.phase c.args.self.now _ c.args.p c.first_held.result c.task_of.result c.in-Nh.is c.self.view_is c.first_held.ensures c.task_of.ensures
 
 pub returns-in-Ref : goal.returns-in-Ref
 returns-in-Ref g c = held_of_refreshes c.args.phase c.args.self.now c.args.p c.in-Ref.is

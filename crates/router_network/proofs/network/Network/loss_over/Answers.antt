@@ -1,4 +1,4 @@
-use Rattle.router_moments.proofs.Common.{ℕ, refl, arith, ◌≤◌, ◌<◌}
+use Rattle.router_moments.proofs.Common.{ℕ, ap, refl, Moment, arith, ◌≤◌, ◌<◌}
 use Rattle.router_moments.proofs.StandLemmas.{tree_sound}
 use Rattle.router_moments.proofs.HeldLemmas.{hop_more, hop_none}
 use Rattle.router_moments.proofs.NextLemmas.{held_of_tree}
@@ -17,8 +17,8 @@ loop-number-init g c = record { long = c.requires.room; few = omega arith; withi
 pub loop-number-preserved : goal.loop-number-preserved
 loop-number-preserved g c =
     elim c.match-next_hop.branch [
-      | in-Some w ↦ rw w.room-is (rw w.count-is (hop_more c.args.self.now c.args.p _ c.loop-number.room c.loop-number.count c.loop-number.number w.in-Some.hop c.next_hop.result c.lent-lent.ensures.chains (below c.numbers-number-end.result c.loop-number.number c.numbers-number-end.ensures.few c.loop-number-test.true) c.loop-number.invariant c.next_hop.ensures w.in-Some.is))
-      | in_default w ↦ rw w.room-is (rw w.count-is (hop_none c.args.self.now c.args.p _ c.loop-number.room c.loop-number.count c.loop-number.number c.next_hop.result c.lent-lent.ensures.chains (below c.numbers-number-end.result c.loop-number.number c.numbers-number-end.ensures.few c.loop-number-test.true) c.loop-number.invariant c.next_hop.ensures w.in_default.is))
+      | in-Some w ↦ rw w.room-is (rw w.count-is (hop_more c.args.self.now c.args.p _ c.loop-number.room c.loop-number.count c.loop-number.number w.in-Some.hop c.next_hop.result (ap (λ (n : Moment). n.chains) c.self.view_is) (below c.numbers-number-end.result c.loop-number.number c.numbers-number-end.ensures.few c.loop-number-test.true) c.loop-number.invariant c.next_hop.ensures w.in-Some.is))
+      | in_default w ↦ rw w.room-is (rw w.count-is (hop_none c.args.self.now c.args.p _ c.loop-number.room c.loop-number.count c.loop-number.number c.next_hop.result (ap (λ (n : Moment). n.chains) c.self.view_is) (below c.numbers-number-end.result c.loop-number.number c.numbers-number-end.ensures.few c.loop-number-test.true) c.loop-number.invariant c.next_hop.ensures w.in_default.is))
     ]
 
 pub first_loss_at-requires : goal.first_loss_at-requires

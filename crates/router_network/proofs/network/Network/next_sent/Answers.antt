@@ -1,16 +1,17 @@
 use Rattle.router_moments.proofs.Common.{key_of}
 use Rattle.router_network.specs.contracts.network.Network.{the_view}
 use Rattle.router_network.proofs.ReadLemmas.{sent_next}
-use Rattle.router_network.proofs.Lents.{same_declared, same_tree, same_redist, same_chains, same_hops, lent_informed}
-use Rattle.std.proofs.Common.{◌∙◌}
+use Rattle.router_network.proofs.AboveRows.{known_above}
+use Rattle.router_network.proofs.ReadStands.{best_lent}
 use Rattle.router_network.proofs.network.Network.next_sent.Goals as goal
 
 pub returns : goal.returns
 returns g c =
-    sent_next c.args.self.now (the_view g.row.F g.F.Family g.F.Clone c.self.inside) _ _ _ _ _ c.self.view_is (same_declared _ _ c.best-best.ensures ∙ c.lent-lent.ensures.declared) (same_tree _ _ c.best-best.ensures ∙ c.lent-lent.ensures.tree) (same_redist _ _ c.best-best.ensures ∙ c.lent-lent.ensures.redist) (same_chains _ _ c.best-best.ensures ∙ c.lent-lent.ensures.chains) (same_hops _ _ c.best-best.ensures ∙ c.lent-lent.ensures.hops) c.args.link (key_of c.args.after) c.next_candidate.result _ c.next_candidate.ensures.next c.next_candidate.ensures.covers
+    sent_next c.args.self.now (the_view g.row.F g.F.Family g.F.Clone c.self.inside) _ (best_lent c.best-best.result.all.now c.self.inside.above (the_view g.row.F g.F.Family g.F.Clone c.self.inside) c.args.self.now c.best-best.ensures c.self.view_is) c.self.view_is c.args.link (key_of c.args.after) c.next_candidate.result _
+    c.next_candidate.ensures.next c.next_candidate.ensures.covers
 
 pub best-best-requires-clause-known : goal.best-best-requires-clause-known
-best-best-requires-clause-known g c = (lent_informed _ c.args.self.now _ c.lent-lent.ensures c.requires.informed).knows
+best-best-requires-clause-known g c = (known_above _ c.self.inside.above (the_view g.row.F g.F.Family g.F.Clone c.self.inside) _ c.self.view_is c.requires.informed).knows
 
 pub best-best-requires-clause-counted : goal.best-best-requires-clause-counted
-best-best-requires-clause-counted g c = (lent_informed _ c.args.self.now _ c.lent-lent.ensures c.requires.informed).counts
+best-best-requires-clause-counted g c = (known_above _ c.self.inside.above (the_view g.row.F g.F.Family g.F.Clone c.self.inside) _ c.self.view_is c.requires.informed).counts

@@ -1,18 +1,16 @@
-use Rattle.router_moments.proofs.Common.{subst, ap, refl, ◌∙◌, Exited, Moment, with_exits}
+use Rattle.router_moments.proofs.Common.{ap, refl, ◌∙◌, Exited, Moment, with_exits}
 use Rattle.router_network.specs.contracts.network.Network.{the_view}
 use Rattle.router_moments.proofs.CoreLemmas.{readers_of}
 use Rattle.router_moments.proofs.ExternalTurns.{rib_sound, rib_agrees, external_took}
-use Rattle.router_network.specs.Informed.{IsLent}
-use Rattle.router_network.proofs.KnownRows.{informed_view}
-use Rattle.router_network.proofs.Lents.{lent_informed}
-use Rattle.router_network.proofs.ReadStands.{lent_as, parts_stand, read_live}
+use Rattle.router_network.proofs.AboveRows.{known_above}
+use Rattle.router_network.proofs.ReadStands.{best_lent, parts_stand, read_live}
 use Rattle.router_network.proofs.network.Network.turn_external.Goals as goal
 
 pub best-best-requires-clause-known : goal.best-best-requires-clause-known
-best-best-requires-clause-known g c = (lent_informed _ (the_view g.row.F g.F.Family g.F.Clone c.self.inside) _ c.of-lent.ensures (informed_view _ c.args.self.now _ c.self.view_is c.requires.informed)).knows
+best-best-requires-clause-known g c = (known_above _ c.self.inside.above (the_view g.row.F g.F.Family g.F.Clone c.self.inside) _ c.self.view_is c.requires.informed).knows
 
 pub best-best-requires-clause-counted : goal.best-best-requires-clause-counted
-best-best-requires-clause-counted g c = (lent_informed _ (the_view g.row.F g.F.Family g.F.Clone c.self.inside) _ c.of-lent.ensures (informed_view _ c.args.self.now _ c.self.view_is c.requires.informed)).counts
+best-best-requires-clause-counted g c = (known_above _ c.self.inside.above (the_view g.row.F g.F.Family g.F.Clone c.self.inside) _ c.self.view_is c.requires.informed).counts
 
 pub over_best-read-requires : goal.over_best-read-requires
 over_best-read-requires g c =
@@ -28,8 +26,7 @@ turn-requires-clause-agree g c = rib_agrees c.args.self.now _ c.self.view_is c.r
 pub turn-requires-clause-stands : goal.turn-requires-clause-stands
 turn-requires-clause-stands g c =
     let view = c.self.view_is in
-    let lent = lent_as _ _ c.args.self.now (ap (λ (b : _). b.all.now) c.over_best-read.ensures.best ∙ c.best-best.ensures) (subst (λ (n : Moment). IsLent c.of-lent.result n) view c.of-lent.ensures) in
-    parts_stand c.over_best-read.result.exits.now _ c.over_best-read.result.best.now.all.now c.args.self.now lent (c.over_best-read.ensures.exits ∙ c.prepare.ensures ∙ ap (λ (n : Moment). n.exits) view)
+    parts_stand c.over_best-read.result.exits.now _ _ c.args.self.now (best_lent c.over_best-read.result.best.now.all.now c.self.inside.above (the_view g.row.F g.F.Family g.F.Clone c.self.inside) c.args.self.now (ap (λ (b : _). b.all.now) c.over_best-read.ensures.best ∙ c.best-best.ensures) c.self.view_is) (c.over_best-read.ensures.exits ∙ c.prepare.ensures ∙ ap (λ (n : Moment). n.exits) view)
     (c.over_best-read.ensures.reader ∙ c.as_ref.ensures.value ∙ ap (λ (n : Moment). n.reader) view) (the_view g.row.F g.F.Family g.F.Clone c.self.inside) view (readers_of c.args.self.now c.requires.stands)
 
 pub returns : goal.returns

@@ -17,5 +17,5 @@ forward-forwarded-requires-clause-agree g c = rib_agrees c.args.self.now (the_vi
 pub returns : goal.returns
 returns g c =
     reader_took c.a_stranger_reads.ensures.takes c.args.self.now (the_view g.row.F g.F.Family g.F.Clone c.self.inside) _ c.forward-forwarded.new.self c.in-Some.reader c.in-Some-2.change c.take.new.self c.args.journal.now c.forward-forwarded.new.journal c.flush.new.self c.self.view_is c.requires c.in-Some.is
-    (subst (λ (o : Option (Change Route)). Takes c.self.inside.exits.queue c.take.new.self.queue c.in-Some.reader o) c.in-Some-2.is c.in_ok-change.ensures.ok) c.in_ok-change.ensures.after
+    (subst (λ (o : Option (Change Route)). Takes c.self.inside.readers.exits.queue c.take.new.self.queue c.in-Some.reader o) c.in-Some-2.is c.in_ok-change.ensures.ok) c.in_ok-change.ensures.after
     (reader_same (the_view g.row.F g.F.Family g.F.Clone c.self.inside) c.take.new.self (Some c.take.new.reader) (ap Some c.in_ok-change.ensures.same ∙ sym c.in-Some.is)) c.in_ok-forwarded.ensures c.in_ok-flush.ensures.ok
