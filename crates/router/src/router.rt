@@ -15,7 +15,7 @@ ghost use Rattle.router.specs.Steps.{FileActs, GivesBoth, BothAct, SecondBegins,
 
 use crate::journals::Journals;
 use crate::laws::local6_may_stand;
-use crate::second::second_begun;
+use crate::second::begin;
 use addr4::{Addr, Family, Memory, V4};
 use addr6::V6;
 use bgp_attr::Speaker;
@@ -181,8 +181,11 @@ impl Router {
             id: me.id,
             addr,
         };
-        let second = second_begun(self.alloc, profile, words, journals)?;
-        self.second = Some(second);
+        drop(self.second.replace(Core::new(self.alloc)));
+        let Some(second) = &mut self.second else {
+            unreachable!()
+        };
+        begin(second, profile, words, journals)?;
         Ok(0)
     }
 }

@@ -1,6 +1,6 @@
 //! What is asked of the second network: its lines come into the text of both.
 
-ghost use Rattle.std.specs.Prelude.{◌≡◌, ◌+◌, ◌<◌, ◌^◌, ◌∷◌, ◌++◌, [], ℕ, true, OnOk, IfOk};
+ghost use Rattle.std.specs.Prelude.{◌≡◌, ◌+◌, ◌<◌, ◌^◌, ◌∷◌, ◌++◌, [], ℕ, true, false, OnOk, IfOk};
 ghost use Rattle.bgp_attr.specs.Speakers.{IsProfileOf, IsSpeaker};
 ghost use Rattle.event_text.specs.declared.event.Event.TheVariants as events;
 ghost use Rattle.event_text.specs.Declarations.{refusal};
@@ -17,25 +17,24 @@ use bgp_attr::{Profile, Speaker};
 use bgp_wire::Said;
 use event_text::{Event, EventOf};
 use router_core::Core;
-use std::alloc::Global;
 
 /// The second network begins with this speaker's words, and reads and writes messages by this profile.
-pub(crate) fn second_begun(
-    alloc: Global,
+pub(crate) fn begin(
+    second: &mut Core<V6>,
     profile: Profile,
     words: Speaker<Addr<V6>>,
     journals: &mut Journals,
-) -> Result<Core<V6>, Memory>
+) -> Result<(), Memory>
+    requires fresh { second.old ≡ record { moment = first_moment true; events = 0; failed = false } }
     requires family { IsProfileOf true profile }
     requires words { IsSpeaker true profile.as4 words }
-    ensures acts { IfOk result (λ second. GivesSecond (Acts (profiled (first_moment true) profile) (events.Local words) 0 second.moment) journals.old journals.new) }
-    ensures stands { IfOk result (λ second. CoreStands second) }
-    ensures events { IfOk result (λ second. second.events ≡ 1) }
+    ensures acts { OnOk result (GivesSecond (Acts (profiled (first_moment true) profile) (events.Local words) 0 second.new.moment) journals.old journals.new) }
+    ensures stands { OnOk result (CoreStands second.new) }
+    ensures events { OnOk result (second.new.events ≡ 1) }
 {
-    let mut second = Core::new(alloc);
     second.set_profile(profile);
-    told_second(&mut second, Event::Local(words), journals)?;
-    Ok(second)
+    told_second(second, Event::Local(words), journals)?;
+    Ok(())
 }
 
 /// The second network is told an event.

@@ -8,5 +8,5 @@ pub returns-clause-acts : goal.returns-clause-acts
 returns-clause-acts c = (
   refl,
   begun_both c.args.self.now c.self.inside.first c.self.inside.second c.self.inside.failed c.self.view_is c.requires.stands c.args.addr c.local6_may_stand.ensures c.requires.admitted c.requires.said c.speak_ipv6.new.self c.speak_ipv6.ensures.value c.in-Some.me
-      (sym (c.speaker.ensures ∙ ap (λ (d : Declaration). d.speaker) c.declared.ensures) ∙ c.in-Some.is) (in_second c.profile-profile.result) (ap in_second (c.profile-profile.ensures ∙ ap (λ (d : Declaration). d.profile) c.declared-2.ensures)) c.in_ok-second.second c.args.journals.now c.second_begun.new.journals c.in_ok-second.ensures.acts,
+      (sym (c.speaker.ensures ∙ ap (λ (d : Declaration). d.speaker) c.declared.ensures) ∙ c.in-Some.is) (in_second c.profile-profile.result) (ap in_second (c.profile-profile.ensures ∙ ap (λ (d : Declaration). d.profile) c.declared-2.ensures)) c.begin.new.second c.args.journals.now c.begin.new.journals c.in_ok-begin.ensures.acts,
 )

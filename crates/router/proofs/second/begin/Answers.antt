@@ -1,5 +1,5 @@
 use Rattle.router.proofs.BeginLemmas.{local_may_step, few_yet, begun_acts}
-use Rattle.router.proofs.second.second_begun.Goals as goal
+use Rattle.router.proofs.second.begin.Goals as goal
 
 pub told_second-requires-clause-may : goal.told_second-requires-clause-may
 told_second-requires-clause-may c = local_may_step c.args.profile c.args.words c.set_profile.new.self c.set_profile.ensures.value c.requires.words
