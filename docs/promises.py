@@ -92,6 +92,7 @@ class Crate:
 
     def __init__(self, name):
         self.name, self.functions, self.docs, self.traits, self.meets, self.given = name, [], {}, [], [], set()
+        self.homes = {}
         for path in sorted(glob.glob(os.path.join(TOP, 'crates', name, 'src', '**', '*.rt'), recursive=True)):
             self.read(os.path.relpath(path, TOP))
         root = read('crates/%s/src/lib.rt' % name).split('\n')
@@ -123,6 +124,7 @@ class Crate:
                 trait = TRAIT.match(line)
                 name = (trait or TYPE.match(line))[1]
                 self.docs[name] = sentence(self.paragraph(doc))
+                self.homes[name] = path
                 self.given |= {name} if path.endswith('/src/lib.rt') else set()
                 owner, met, doc = name if trait else None, None, []
                 if trait:
@@ -142,11 +144,14 @@ class Crate:
         return ' '.join(doc[:doc.index('')] if '' in doc else doc)
 
     def public(self):
-        """The public functions, by owner: those of no type first, then those of types in the order of the files."""
+        """The public functions, by owner: those of no type first, then those of types in the order of the files; of a type first those
+        that stand in its own file."""
         owners = {None: []}
         for it in self.functions:
             if ((it.owner or it.name) in self.given or it.path in self.whole) and (it.promises or not it.met):
                 owners.setdefault(it.owner, []).append(it)
+        for owner, found in owners.items():
+            found.sort(key=lambda it: it.path != self.homes.get(owner))
         return {owner: found for owner, found in owners.items() if found}
 
 
