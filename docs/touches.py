@@ -31,7 +31,7 @@ Part = collections.namedtuple('Part', 'crates variants text stem')  # its crates
 PARTS = {
     'redistribution': Part(['redist'], ['Link::Red', 'Task::Red', 'Phase::Red', 'Region::Redistributed'], 'red', 'redist'),
     'refresh': Part(['peer_out', 'out_chain', 'exit_side'], ['Task::Ref', 'Phase::Ref'], 'ref', 'refresh'),
-    'settled': Part([], ['Event::Settled', 'Line::Settled'], 'settled', None),
+    'settled': Part([], ['Question::Settled', 'Line::Settled'], 'settled', None),
 }
 BESIDE = [('documents', r'`%s\b', '*.md', '*/*.md'), ('scripts', r'[\'"]%s\b', '*/*.py', '*/*/*.py', '*/*.js'),
           ('tests', r'(?<![\w.])%s(?=[ .\\"])', 'crates/*_tests/src/*.rt'),

@@ -1,5 +1,5 @@
 -- The table of a branch, and its rows.
-use Rattle.std.specs.Prelude.{◌≡◌, ◌≢◌, ℕ, nat_lt, if◌then◌else◌, List, slice_get, Option, Some, None}
+use Rattle.std.specs.Prelude.{◌≡◌, ◌≢◌, ℕ, nat_lt, if◌then◌else◌, List, slice_get, Option, Some, None, false}
 use Rattle.std.specs.FinMap as map
 use Rattle.std.specs.FinMap.{FinMap}
 use Rattle.addr4.specs.Prefixes.{AddressPrefix, prefix_cmp}
@@ -23,6 +23,10 @@ rows_in tables b = rows_of (table_at tables b)
 -- a walk goes to the prefixes that have rows
 abbrev pub candidates_in : AllRows → ℕ → Candidates
 candidates_in rows b = with_rows (rows b)
+
+-- and to none beside them
+abbrev pub no_candidates : Candidates
+no_candidates q = false
 
 -- a branch's row at a prefix was this one, and is that one from now on; all others stay
 pub record Sets (branch : ℕ) (p : AddressPrefix) (row before : Option Route) (old new : AllRows) : Type 0 where

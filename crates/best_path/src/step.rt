@@ -10,14 +10,23 @@ use crate::candidate::Candidate;
 /// section 9.
 #[derive(Clone, Copy, PartialEq, Eq)]
 pub(crate) enum Step {
+    /// 1. The highest degree of preference (section 9.1.2).
     Preference,
+    /// 2. The fewest AS numbers in the path, an AS_SET counting 1 (section 9.1.2.2 a).
     PathLength,
+    /// 3. The lowest ORIGIN (section 9.1.2.2 b).
     Origin,
+    /// 4. The lowest MULTI_EXIT_DISC of those from one neighbour AS (section 9.1.2.2 c).
     Med,
+    /// 5. External peers before internal ones (section 9.1.2.2 d).
     External,
+    /// 6. The lowest interior cost to the next hop (section 9.1.2.2 e).
     InteriorMetric,
+    /// 7. The lowest BGP identifier, or ORIGINATOR_ID where one is there (section 9.1.2.2 f; RFC 4456, section 9).
     Identifier,
+    /// 8. The shortest CLUSTER_LIST (RFC 4456, section 9).
     ClusterCount,
+    /// 9. The lowest address of the peer (section 9.1.2.2 g).
     Address,
 }
 

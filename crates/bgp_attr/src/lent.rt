@@ -3,13 +3,13 @@
 //! A writer goes over them as over [`Attrs`]: over the path segment by segment ([`LentPath::split_first`]), where an AS may stand
 //! in front, and over the clusters one by one, where one may stand in front.
 
-ghost use Rattle.std.specs.Prelude.{◌≡◌, ◌-◌, ◌≤◌, ◌<◌, ◌^◌, ◌∷◌, [], None, MatchOption, length};
+ghost use Rattle.std.specs.Prelude.{◌≡◌, ◌-◌, ◌≤◌, ◌<◌, ◌^◌, ◌∷◌, [], MatchOption, length};
 ghost use Rattle.bgp_attr.specs.Paths.{times_in_front};
-ghost use Rattle.bgp_attr.specs.Reflections.{reflected_by};
+
+mod reflected;
 
 use crate::attrs::{Aggregator, Attrs, Origin};
 use crate::path::{AsPath, MOST, Numbers, SegmentKind, Segments};
-use crate::reflection::Reflection;
 use crate::unrecognized::Unrecognized;
 use addr4::{Addr, Family, RouterId, V4};
 use std::marker::Model;
@@ -163,43 +163,6 @@ impl<'a> Model for LentReflection<'a> {
     ghost Value = { Reflected };
 
     ghost view = { λ r. record { originator = r.originator; clusters = clusters_behind r.front r.others.now } };
-}
-
-impl<'a> LentReflection<'a> {
-    /// Nothing was added.
-    pub fn none() -> LentReflection<'a>
-        ensures { result ≡ record { originator = None; clusters = [] } }
-    {
-        LentReflection {
-            originator: None,
-            front: None,
-            others: &[],
-        }
-    }
-}
-
-impl Reflection {
-    /// What was added, lent.
-    pub fn lent(&self) -> LentReflection<'_>
-        ensures { result ≡ self.now }
-    {
-        LentReflection {
-            originator: self.originator(),
-            front: None,
-            others: self.clusters(),
-        }
-    }
-
-    /// The same once more reflected ([`Reflection::reflected`]), lent.
-    pub fn lent_reflected(&self, sender: RouterId, cluster: RouterId) -> LentReflection<'_>
-        ensures { result ≡ reflected_by sender cluster self.now }
-    {
-        LentReflection {
-            originator: Some(self.originator().unwrap_or(sender)),
-            front: Some(cluster),
-            others: self.clusters(),
-        }
-    }
 }
 
 /// The attributes of a route, lent. Contracts see the attributes that this makes.

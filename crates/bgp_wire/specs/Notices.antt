@@ -10,8 +10,4 @@ FitsMessage n = length n.octets ≤ 4075
 
 abbrev pub HasShortNotice : Message → Type 0
 HasShortNotice (messages.Notify n) = FitsMessage n
-HasShortNotice (messages.Update u) = Unit {0}
-HasShortNotice messages.Keepalive = Unit {0}
-HasShortNotice messages.Notification = Unit {0}
-HasShortNotice messages.Skip = Unit {0}
-HasShortNotice (messages.Refresh r) = Unit {0}
+HasShortNotice other = Unit {0}

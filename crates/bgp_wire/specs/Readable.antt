@@ -79,11 +79,7 @@ IsReadableUpdate p external u = (v6 : Bool) → IsReadableSaid v6 p external (sa
 
 abbrev pub IsReadableMessage : Profile → Bool → Message → Type 0
 IsReadableMessage p external (messages.Update u) = IsReadableUpdate p external u
-IsReadableMessage p external messages.Keepalive = Unit {0}
-IsReadableMessage p external messages.Notification = Unit {0}
-IsReadableMessage p external messages.Skip = Unit {0}
-IsReadableMessage p external (messages.Refresh r) = Unit {0}
-IsReadableMessage p external (messages.Notify n) = Unit {0}
+IsReadableMessage p external other = Unit {0}
 
 -- octets, as numbers
 abbrev pub AreOctets : List ℕ → Type 0

@@ -5,9 +5,10 @@ ghost use Rattle.bgp_attr.specs.declared.speaker.Profile.{Profile as HowRead};
 ghost use Rattle.bgp_wire.specs.Attributes.{attribute_of};
 ghost use Rattle.bgp_wire.specs.Found.{IsGathered, GathersOne, RefusesOne, IsGatheredTo};
 
-use crate::attributes::{RawAttribute, Verdict, is_revised, milder, read_attribute};
+use crate::attributes::{RawAttribute, Verdict, read_attribute};
 use crate::found::Found;
 use crate::notice::{FaultKind, Refusal, refused};
+use crate::rules::{is_revised, milder};
 use crate::types::TypeSet;
 use bgp_attr::Profile;
 use std::alloc::Global;

@@ -33,8 +33,10 @@ mod numbers;
 mod path;
 mod prefixes;
 mod reading;
+mod rules;
 mod types;
 mod update;
+mod values;
 mod wire;
 mod writing;
 

@@ -8,6 +8,7 @@ use Rattle.bgp_attr.specs.Speakers.{Speaker}
 use Rattle.journal_text.specs.declared.line.Code.TheVariants.{E3, E6}
 use Rattle.event_text.specs.Event.{Event}
 use Rattle.event_text.specs.declared.event.Event.TheVariants as events
+use Rattle.event_text.specs.declared.event.WholeFile.TheVariants.{As4}
 use Rattle.event_text.specs.declared.declared.DeclaredPeer.{DeclaredPeer}
 use Rattle.event_text.specs.Events.{read_event}
 use Rattle.event_text.specs.Declarations.{Declaration, no_declaration, refusal, refusal_at, refusal_by, session_refusal, undeclared, has_addr, peer_at, begun_at, ended_at, words_of, with_speaker, with_peer, with_session, without_session}
@@ -319,7 +320,7 @@ opening_accepted after makes true asn addr more order =
     let e = makes.as4 (no_declaration false) in (
       as4_read (no_declaration false).profile,
       refl,
-      opens after makes true (after (no_declaration false) events.As4) asn addr more (ap (λ d. d.v6) e) (ap (λ d. d.profile.as4) e) (ap (λ d. d.speaker) e) (ap (λ d. d.peers) e) order.1.0.1 order.1.1,
+      opens after makes true (after (no_declaration false) (events.Whole As4)) asn addr more (ap (λ d. d.v6) e) (ap (λ d. d.profile.as4) e) (ap (λ d. d.speaker) e) (ap (λ d. d.peers) e) order.1.0.1 order.1.1,
     )
 
 pub all_accepted : FilesAreOpened → LinesAreInOrder → LinesAreAccepted

@@ -19,6 +19,7 @@ use Rattle.journal_check.proofs.InkLemmas.{AreInk, inky, both_true, ink_by, ink_
 use Rattle.journal_check.proofs.PrefixBack.{addr_back, ink_addr, id_back}
 use Rattle.addr4.proofs.NumberBack.{number_back}
 use Rattle.event_text.specs.declared.event.Event.TheVariants as events
+use Rattle.event_text.specs.declared.event.WholeFile.TheVariants.{As4}
 use Rattle.event_text.specs.Words.{is_clean, from_one, speaker_by, speaker_of, client_of, octets_of}
 use Rattle.event_text.specs.Events.{local_of, peer_of, one_number, bgp_of, profile_event, interior_event, plain_event, named_event, event_of, in_grammar, read_event}
 use Rattle.mrt_reader.specs.Records.{AreBytes}
@@ -173,7 +174,7 @@ shown_octets octets bytes some =
 
 -- ---- lines
 
-pub as4_read : (p : Profile) → read_event p (line_bytes lines.As4) ≡ Ok events.As4
+pub as4_read : (p : Profile) → read_event p (line_bytes lines.As4) ≡ Ok (events.Whole As4)
 unfolding line_words event_of named_event plain_event interior_event profile_event
 as4_read p = line_read p (codes "as4") [] (shown_by (codes "as4") refl (omega arith), tt) (omega arith) ∙ refl
 

@@ -4,6 +4,7 @@ use Rattle.std.specs.List.{AllByRecursion, join_with_byte}
 use Rattle.bgp_attr.specs.Speakers.{Speaker}
 use Rattle.event_text.specs.Event.{Event}
 use Rattle.event_text.specs.declared.event.Event.TheVariants as events
+use Rattle.event_text.specs.declared.event.WholeFile.TheVariants.{As4}
 use Rattle.event_text.specs.Events.{read_event}
 use Rattle.event_text.specs.Declarations.{Declaration, no_declaration, refusal, with_profile, with_four_octets, with_speaker, with_peer, with_session, without_session}
 use Rattle.mrt_reader.specs.Records.{Record}
@@ -21,7 +22,7 @@ speaker asn addr = record { asn = asn; id = addr / 2 ^ 96; addr = addr }
 
 -- the event that a line is; no peer of a capture is a client
 abbrev pub event_of_line : Line → Event
-event_of_line lines.As4 = events.As4
+event_of_line lines.As4 = events.Whole As4
 event_of_line (lines.Local asn addr) = events.Local (speaker asn addr)
 event_of_line (lines.Peer k asn addr) = events.Peer k (speaker asn addr) false
 event_of_line (lines.Up k) = events.Up k
@@ -31,7 +32,7 @@ event_of_line lines.Idle = events.Idle
 
 -- What these events make of the declarations: a session may begin or end by the lines that say so, and end by a message.
 pub record Declares (after : Declaration → Event → Declaration) : Type 0 where
-  pub as4 : (d : Declaration) → after d events.As4 ≡ with_profile d (with_four_octets d.profile)
+  pub as4 : (d : Declaration) → after d (events.Whole As4) ≡ with_profile d (with_four_octets d.profile)
   pub local : (d : Declaration) (s : Speaker) → after d (events.Local s) ≡ with_speaker d s
   pub peer : (d : Declaration) (k : ℕ) (s : Speaker) → after d (events.Peer k s false) ≡ with_peer d k s false
   pub up : (d : Declaration) (k : ℕ) → (after d (events.Up k) ≡ d) ⊎ (after d (events.Up k) ≡ with_session d k)

@@ -7,15 +7,13 @@ use Rattle.std.proofs.lemmas.Bool.Decides.{nat_tests}
 use Rattle.addr4.specs.Prefixes.{AddressPrefix, prefix_cmp}
 use Rattle.addr4.specs.Places.{IsNextRow}
 use Rattle.link_change.proofs.RowLemmas.{same_function}
-use Rattle.link_change.specs.Rows.{Rows, Candidates, IsNextCandidate, CoversRows}
-use Rattle.best_path.specs.Steps.{pick}
-use Rattle.decision.specs.Branches.{AllRows, best_rows, best_candidates}
+use Rattle.link_change.specs.Rows.{Rows, Candidates, IsNextCandidate, CoversRows, together}
+use Rattle.decision.specs.Branches.{AllRows, best_candidates}
 use Rattle.bgp_attr.specs.Routes.{Route}
 use Rattle.decision.specs.Lineups.{at_prefix, chosen}
-use Rattle.decision.specs.Contests.{Contest, kept, count_from, counted, walkers_in, CountsAt, Counts, Moves, HasMove, Updated, Knows, KnowsAt, winner_in, won_rows}
+use Rattle.decision.specs.Contests.{Contest, kept, count_from, counted, walkers_in, CountsAt, Counts, Moves, HasMove, Updated, winner_in, won_rows}
 use Rattle.decision.specs.Laws.{NoCandidateWhereNoneIsCounted, SomethingIsKnown}
-use Rattle.decision.proofs.LineupLemmas.{by_number, routes_none}
-use Rattle.decision.proofs.BestLemmas.{best_is}
+use Rattle.decision.proofs.LineupLemmas.{by_number}
 use Rattle.decision.proofs.Kept.{at_each}
 
 pub same_count : (f g : ℕ → Bool) (a n : ℕ) → ((b : ℕ) → a ≤ b → b < a + n → g b ≡ f b) → count_from g a n ≡ count_from f a n
@@ -87,20 +85,13 @@ covers_by contests candidates best rows counted known q nowhere =
     sym (ap (λ (r : Rows Route). r q) known)
     ∙ ap (λ (o : Option Contest). chosen (at_prefix rows q) (winner_in o)) (is_none (tables.get contests q) (ap (λ (k : Candidates). k q) counted ∙ nowhere))
 
-pub next_of : (contests : FinMap prefix_cmp Contest) (candidates : ℕ → Candidates) (after result : Option AddressPrefix) → Counts contests candidates
-    → IsNextRow (tables.get contests) after result → IsNextCandidate (best_candidates candidates) after result
-next_of contests candidates after None counts next = λ q beyond. kept_is_candidate candidates q (tables.get contests q) (counts q) ∙ none_is (tables.get contests q) (next q beyond)
-next_of contests candidates after (Some p) counts next = (
-  next.0,
-  kept_is_candidate candidates p (tables.get contests p) (counts p) ∙ next.1,
-  λ q beyond before. kept_is_candidate candidates q (tables.get contests q) (counts q) ∙ none_is (tables.get contests q) (next.2 q beyond before),
-)
+-- nor where nothing stands beside
+first_of : (a b : Bool) → (a || b) ≡ false → a ≡ false
+first_of true b none = none
+first_of false b none = refl
 
-pub covers_best : (contests : FinMap prefix_cmp Contest) (candidates : ℕ → Candidates) (rows : AllRows) → Counts contests candidates → Knows contests rows
-    → CoversRows (best_candidates candidates) (best_rows rows)
-covers_best contests candidates rows counts knows q nowhere =
-    let none = is_none (tables.get contests q) (sym (kept_is_candidate candidates q (tables.get contests q) (counts q)) ∙ nowhere) in
-    best_is rows q ∙ ap pick (routes_none 65 (at_prefix rows q) (subst (KnowsAt (at_prefix rows q)) none (knows q)))
+pub covers_together : {V : Type 0} (candidates beside : Candidates) (rows : Rows V) → CoversRows candidates rows → CoversRows (together candidates beside) rows
+covers_together candidates beside rows covers q none = covers q (first_of (candidates q) (beside q) none)
 
 pub few_counted : (candidates : ℕ → Candidates) (q : AddressPrefix) → counted candidates q ≤ 65
 unfolding counted

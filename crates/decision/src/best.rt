@@ -1,6 +1,7 @@
 //! The link below the decision, as the next stage sees it.
 
 ghost use Rattle.std.specs.Prelude.{◌≡◌};
+ghost use Rattle.link_change.specs.Rows.{together};
 ghost use Rattle.decision.specs.Branches.{best_rows, best_candidates};
 ghost use Rattle.decision.specs.Contests.{won_rows, kept};
 
@@ -9,10 +10,10 @@ use crate::contests::Contests;
 use addr4::{Family, Memory, Place, Prefix, V4};
 use bgp_attr::{Route, SharedAttrs};
 use filter_bank::RouteUpstream;
-use link_change::Upstream;
+use link_change::{Upstream, nearer};
 
 /// The link `best`: the best route at each prefix over these branches, by what is known of them. The branch whose row it is is
-/// asked for it, and no other; a walk asks none. [`Contests::best`] makes it.
+/// asked for it, and no other; a walk asks none for a row. [`Contests::best`] makes it.
 #[derive(Drop)]
 pub struct Best<'a, B: Branches<F>, F: Family = V4> {
     pub all: &'a B,
@@ -38,7 +39,7 @@ impl<'a, B: Branches<F>, F: Family> Upstream<F> for Best<'a, B, F> {
 
     ghost rows = { λ s. best_rows (B.rows s.all.now) };
 
-    ghost candidates = { λ s. best_candidates (B.candidates s.all.now) };
+    ghost candidates = { λ s. together (best_candidates (B.candidates s.all.now)) (B.beside s.all.now) };
 
     fn asked(&self, p: &Prefix<F>) -> Result<Option<Route<SharedAttrs<F>>>, Memory> {
         match self.contests.winner(p) {
@@ -48,7 +49,7 @@ impl<'a, B: Branches<F>, F: Family> Upstream<F> for Best<'a, B, F> {
     }
 
     fn next_candidate(&self, after: &Place<Prefix<F>>) -> Option<Prefix<F>> {
-        self.contests.next_kept(after)
+        nearer(self.contests.next_kept(after), self.all.next_beside(after))
     }
 }
 

@@ -4,8 +4,8 @@ ghost use Rattle.std.specs.Prelude.{◌≡◌, ◌<◌, ℕ, Some, None, true, f
 ghost use Rattle.std.specs.FinMap as tables;
 ghost use Rattle.addr4.specs.Prefixes.{AddressPrefix};
 ghost use Rattle.addr4.specs.Places.{key_of, IsNextRow};
-ghost use Rattle.link_change.specs.Rows.{Candidates, IsNextCandidate, CoversRows};
-ghost use Rattle.decision.specs.Branches.{Decides, AllRows, best_rows, best_candidates};
+ghost use Rattle.link_change.specs.Rows.{Candidates};
+ghost use Rattle.decision.specs.Branches.{Decides, AllRows, best_rows};
 ghost use Rattle.decision.specs.Contests.{Knows, KnowsBefore, Updated, winner_in, Counts, Moves, HasMove, IsNoted, CoversAt};
 
 use crate::best::Best;
@@ -122,14 +122,6 @@ impl<F: Family> Contests<F> {
         }
         self.go(prefix);
         Ok(())
-    }
-
-    /// The least prefix beyond a place at which a branch has a candidate. Every best route stands at one.
-    pub fn next_candidate(&self, after: &Place<Prefix<F>>) -> Option<Prefix<F>>
-        ensures next { (candidates : ℕ → Candidates) → Counts self.now candidates → IsNextCandidate (best_candidates candidates) (key_of after.now) result }
-        ensures covers { (candidates : ℕ → Candidates) (rows : AllRows) → Counts self.now candidates → Knows self.now rows → CoversRows (best_candidates candidates) (best_rows rows) }
-    {
-        self.next_kept(after)
     }
 
     /// The link `best` over the branches that are known.

@@ -14,7 +14,8 @@
 //! alone: MULTI_EXIT_DISC counts between routes of one neighbour AS only, so a route that wins takes out others, and one that
 //! goes lets others back in. Another branch is asked for its row in two cases: where it alone had one at the prefix, for its
 //! candidate, and where it wins or has won, for the row that is sent. A lookup asks the winner alone, and a walk of `best`
-//! asks nobody: it goes from one prefix that is kept to the next.
+//! asks no branch: it goes from one prefix that is kept to the next, and to those beside them ([`Branches::next_beside`]),
+//! where a walk goes though no branch has a candidate there.
 //!
 //! What is kept true: that the winners and the lines are those of the branches' rows (`Knows`), and that the counts are those of
 //! their candidates, with something kept exactly where one branch has a candidate (`Counts`). Whoever holds the state says each

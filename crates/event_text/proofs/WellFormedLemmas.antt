@@ -16,6 +16,7 @@ use Rattle.journal_text.proofs.ReadNames.{read_number_named, read_link_named}
 use Rattle.rib_route.specs.declared.Proto.{Proto}
 use Rattle.rib_route.specs.Ifaces.{is_iface_name, iface_of}
 use Rattle.event_text.specs.declared.event.Event.TheVariants as events
+use Rattle.event_text.specs.declared.event.WholeFile.TheVariants as whole
 use Rattle.policy_rules.specs.Rules.{Rule}
 use Rattle.policy_rules.specs.Ranges.{AreRules}
 use Rattle.policy_rules.specs.Grammar.{rules_of}
@@ -301,9 +302,9 @@ module _ (profile : Profile) where
   profile_ok : (w : List ℕ) (ws : List (List ℕ)) → IfSome (profile_event w ws) (IsWellFormed false profile)
   unfolding profile_event
   profile_ok w ws =
-      either (bytes_eq w (codes "as4")) _ _ (IsWellFormed false profile) (either (nat_eq (length ws) 0) (Some events.As4) None (IsWellFormed false profile) tt tt)
-      (either (bytes_eq w (codes "revised")) _ _ (IsWellFormed false profile) (either (nat_eq (length ws) 0) (Some events.Revised) None (IsWellFormed false profile) tt tt)
-      (either (bytes_eq w (codes "reflect")) _ None (IsWellFormed false profile) (either (nat_eq (length ws) 0) (Some events.Reflect) None (IsWellFormed false profile) tt tt) tt))
+      either (bytes_eq w (codes "as4")) _ _ (IsWellFormed false profile) (either (nat_eq (length ws) 0) (Some (events.Whole whole.As4)) None (IsWellFormed false profile) tt tt)
+      (either (bytes_eq w (codes "revised")) _ _ (IsWellFormed false profile) (either (nat_eq (length ws) 0) (Some (events.Whole whole.Revised)) None (IsWellFormed false profile) tt tt)
+      (either (bytes_eq w (codes "reflect")) _ None (IsWellFormed false profile) (either (nat_eq (length ws) 0) (Some (events.Whole whole.Reflect)) None (IsWellFormed false profile) tt tt) tt))
 
   interior_event_ok : (w : List ℕ) (ws : List (List ℕ)) → IfSome (interior_event w ws) (IsWellFormed false profile)
   unfolding interior_event

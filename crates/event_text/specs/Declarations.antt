@@ -8,11 +8,14 @@ use Rattle.bgp_attr.specs.Speakers.{IsSpeaker, IsNeighbourOf}
 use Rattle.journal_text.specs.declared.link.Link.{Link}
 use Rattle.journal_text.specs.declared.link.Link.TheVariants as links
 use Rattle.journal_text.specs.declared.link.Task.{Task}
-use Rattle.journal_text.specs.declared.link.Task.TheVariants.{Del, Fin, Nh, ReadRib, Out, Rdel, Red, Ext, Ref}
+use Rattle.journal_text.specs.declared.link.Task.TheVariants.{Del, Fin, Nh, Out, Ref}
 use Rattle.journal_text.specs.declared.line.Code.{Code}
 use Rattle.journal_text.specs.declared.line.Code.TheVariants.{E3, E4, E5, E6, E7, E8}
-use Rattle.event_text.specs.Event.{Event}
-use Rattle.event_text.specs.declared.event.Event.TheVariants.{Nothing, As4, Revised, Reflect, Local, Peer, Up, Down, Bgp, FilterIn, FilterOut, RouteAdd, RouteDel, Lose, Redist, Cover, Settled, Idle, Work, Ask, Show}
+use Rattle.event_text.specs.Event.{Event, Question}
+use Rattle.event_text.specs.declared.event.Event.TheVariants.{Nothing, Whole, Local, Peer, Up, Down, Bgp, FilterIn, FilterOut, Work, Query}
+use Rattle.event_text.specs.declared.event.Question.TheVariants.{Ask, Show}
+use Rattle.event_text.specs.declared.event.WholeFile.{WholeFile}
+use Rattle.event_text.specs.declared.event.WholeFile.TheVariants.{As4, Revised, Reflect}
 use Rattle.event_text.specs.declared.declared.DeclaredPeer.{DeclaredPeer}
 
 -- AS numbers have two octets, errors in attributes are handled by RFC 4271, section 6.3, and this speaker is no route reflector, in the
@@ -35,6 +38,17 @@ with_revised p = record p { revised = true }
 -- behind `reflect`: this speaker is a route reflector (RFC 4456)
 abbrev pub with_reflection : Profile → Profile
 with_reflection p = record p { reflect = true }
+
+-- what a line says of the whole file, and whether one has said it
+abbrev pub with_whole : WholeFile → Profile → Profile
+with_whole As4 p = with_four_octets p
+with_whole Revised p = with_revised p
+with_whole Reflect p = with_reflection p
+
+abbrev pub is_said : WholeFile → Profile → Bool
+is_said As4 p = p.as4
+is_said Revised p = p.revised
+is_said Reflect p = p.reflect
 
 -- What one network knows of what was declared: which family it is of, what holds for the whole file, the words of `local`, with the address
 -- of that family, and the peers in the order in which they were declared. Their addresses are IPv4's.
@@ -95,12 +109,9 @@ abbrev pub task_refusal : Task → List DeclaredPeer → Option Code
 task_refusal (Del k s) peers = undeclared (peer_at k peers)
 task_refusal (Fin k) peers = undeclared (peer_at k peers)
 task_refusal (Nh k) peers = undeclared (peer_at k peers)
-task_refusal ReadRib peers = None
-task_refusal Red peers = None
-task_refusal Ext peers = None
 task_refusal (Out k) peers = undeclared (peer_at k peers)
 task_refusal (Ref k) peers = undeclared (peer_at k peers)
-task_refusal (Rdel proto n) peers = None
+task_refusal other peers = None
 
 -- a link of a peer needs it declared; the others don't
 abbrev pub link_refusal : Link → List DeclaredPeer → Option Code
@@ -108,21 +119,10 @@ link_refusal (links.In k) peers = undeclared (peer_at k peers)
 link_refusal (links.Peer k s) peers = undeclared (peer_at k peers)
 link_refusal (links.Filt k) peers = undeclared (peer_at k peers)
 link_refusal (links.Res k) peers = undeclared (peer_at k peers)
-link_refusal (links.Org proto) peers = None
-link_refusal (links.Lost proto n) peers = None
-link_refusal links.Low peers = None
-link_refusal links.Dyn peers = None
-link_refusal links.Int peers = None
-link_refusal links.Red peers = None
-link_refusal links.Best peers = None
-link_refusal links.ReadRib peers = None
-link_refusal links.Ebgp peers = None
-link_refusal links.Ibgp peers = None
-link_refusal links.Ext peers = None
-link_refusal links.Fib peers = None
 link_refusal (links.Read j s) peers = undeclared (peer_at j peers)
 link_refusal (links.Outf j s) peers = undeclared (peer_at j peers)
 link_refusal (links.Adv j s) peers = undeclared (peer_at j peers)
+link_refusal other peers = None
 
 -- why a peer may not be declared: something of it is taken, it is a client of another AS, its number is too high
 abbrev pub peer_refusal : Speaker → List DeclaredPeer → ℕ → Speaker → Bool → Option Code
@@ -132,12 +132,15 @@ peer_refusal local peers k words client =
     else if nat_le k 64 then None
     else Some E6
 
+-- a question about a peer's link needs the peer declared
+abbrev pub question_refusal : Question → List DeclaredPeer → Option Code
+question_refusal (Ask link p) peers = link_refusal link peers
+question_refusal (Show link) peers = link_refusal link peers
+question_refusal other peers = None
+
 -- where `local` was declared: what holds for the whole file is said too late
 abbrev pub refusal_by : Bool → Speaker → List DeclaredPeer → Event → Option Code
-refusal_by v6 local peers Nothing = None
-refusal_by v6 local peers As4 = Some E7
-refusal_by v6 local peers Revised = Some E7
-refusal_by v6 local peers Reflect = Some E7
+refusal_by v6 local peers (Whole word) = Some E7
 refusal_by v6 local peers (Local words) = Some E3
 refusal_by v6 local peers (Peer k words client) = peer_refusal (to_peers v6 local) peers k words client
 refusal_by v6 local peers (Up k) = session_refusal (peer_at k peers)
@@ -145,40 +148,16 @@ refusal_by v6 local peers (Down k) = undeclared (peer_at k peers)
 refusal_by v6 local peers (Bgp k octets) = undeclared (peer_at k peers)
 refusal_by v6 local peers (FilterIn k rules) = rules_refusal (length rules) (peer_at k peers)
 refusal_by v6 local peers (FilterOut k rules) = rules_refusal (length rules) (peer_at k peers)
-refusal_by v6 local peers (RouteAdd p row) = None
-refusal_by v6 local peers (RouteDel proto p) = None
-refusal_by v6 local peers (Lose proto) = None
-refusal_by v6 local peers (Redist proto on) = None
-refusal_by v6 local peers (Cover addr) = None
-refusal_by v6 local peers (Settled p) = None
-refusal_by v6 local peers Idle = None
 refusal_by v6 local peers (Work task n) = task_refusal task peers
-refusal_by v6 local peers (Ask link p) = link_refusal link peers
-refusal_by v6 local peers (Show link) = link_refusal link peers
+refusal_by v6 local peers (Query question) = question_refusal question peers
+refusal_by v6 local peers other = None
 
 -- before `local`: what holds for the whole file is said once
 abbrev pub refusal_first : Profile → Event → Option Code
 refusal_first profile Nothing = None
-refusal_first profile As4 = if profile.as4 then Some E7 else None
-refusal_first profile Revised = if profile.revised then Some E7 else None
-refusal_first profile Reflect = if profile.reflect then Some E7 else None
+refusal_first profile (Whole word) = if is_said word profile then Some E7 else None
 refusal_first profile (Local words) = None
-refusal_first profile (Peer k words client) = Some E4
-refusal_first profile (Up k) = Some E4
-refusal_first profile (Down k) = Some E4
-refusal_first profile (Bgp k octets) = Some E4
-refusal_first profile (FilterIn k rules) = Some E4
-refusal_first profile (FilterOut k rules) = Some E4
-refusal_first profile (RouteAdd p row) = Some E4
-refusal_first profile (RouteDel proto p) = Some E4
-refusal_first profile (Lose proto) = Some E4
-refusal_first profile (Redist proto on) = Some E4
-refusal_first profile (Cover addr) = Some E4
-refusal_first profile (Settled p) = Some E4
-refusal_first profile Idle = Some E4
-refusal_first profile (Work task n) = Some E4
-refusal_first profile (Ask link p) = Some E4
-refusal_first profile (Show link) = Some E4
+refusal_first profile other = Some E4
 
 -- why an event may not stand here; none where it may
 abbrev pub refusal_at : Bool → Profile → Option Speaker → List DeclaredPeer → Event → Option Code

@@ -11,7 +11,9 @@ use Rattle.policy_rules.specs.Rules.{Rule}
 use Rattle.policy_rules.specs.Words.{◌>>=◌, words}
 use Rattle.policy_rules.specs.Grammar.{rules_of}
 use Rattle.event_text.specs.Event.{Event}
-use Rattle.event_text.specs.declared.event.Event.TheVariants.{Nothing, As4, Revised, Reflect, Local, Peer, Up, Down, Bgp, FilterIn, FilterOut, RouteAdd, RouteDel, Lose, Redist, Cover, Settled, Idle, Work, Ask, Show}
+use Rattle.event_text.specs.declared.event.Event.TheVariants.{Nothing, Whole, Local, Peer, Up, Down, Bgp, FilterIn, FilterOut, RouteAdd, RouteDel, Lose, Redist, Idle, Work, Query}
+use Rattle.event_text.specs.declared.event.Question.TheVariants.{Cover, Settled, Ask, Show}
+use Rattle.event_text.specs.declared.event.WholeFile.TheVariants.{As4, Revised, Reflect}
 use Rattle.event_text.specs.Words.{is_clean, from_one, speaker_by, speaker_of, client_of, octets_of, interior_of, switch_of, link_named, task_named}
 
 -- what follows `local`
@@ -95,15 +97,15 @@ redist_of other = None
 
 -- what follows `cover`
 unfoldable pub cover_of : Bool → List (List ℕ) → Option Event
-cover_of v6 (addr ∷ []) = addr_of v6 addr >>= λ a. Some (Cover a)
+cover_of v6 (addr ∷ []) = addr_of v6 addr >>= λ a. Some (Query (Cover a))
 cover_of v6 other = None
 
 -- a line that holds for the whole file: its word, alone
 unfoldable pub profile_event : List ℕ → List (List ℕ) → Option Event
 profile_event w ws =
-    if bytes_eq w (codes "as4") then (if length ws == 0 then Some As4 else None)
-    else if bytes_eq w (codes "revised") then (if length ws == 0 then Some Revised else None)
-    else if bytes_eq w (codes "reflect") then (if length ws == 0 then Some Reflect else None)
+    if bytes_eq w (codes "as4") then (if length ws == 0 then Some (Whole As4) else None)
+    else if bytes_eq w (codes "revised") then (if length ws == 0 then Some (Whole Revised) else None)
+    else if bytes_eq w (codes "reflect") then (if length ws == 0 then Some (Whole Reflect) else None)
     else None
 
 -- an event of the interior routes or of the whole file, by its first word and the others
@@ -128,17 +130,17 @@ unfoldable pub ask_of : Bool → List (List ℕ) → Option Event
 ask_of v6 (link ∷ p ∷ []) = do
   l ← link_named v6 link
   n ← prefix_of v6 p
-  Some (Ask l n)
+  Some (Query (Ask l n))
 ask_of v6 other = None
 
 -- what follows `show`
 unfoldable pub show_of : Bool → List (List ℕ) → Option Event
-show_of v6 (link ∷ []) = link_named v6 link >>= λ l. Some (Show l)
+show_of v6 (link ∷ []) = link_named v6 link >>= λ l. Some (Query (Show l))
 show_of v6 other = None
 
 -- what follows `settled`
 unfoldable pub settled_of : Bool → List (List ℕ) → Option Event
-settled_of v6 (p ∷ []) = prefix_of v6 p >>= λ n. Some (Settled n)
+settled_of v6 (p ∷ []) = prefix_of v6 p >>= λ n. Some (Query (Settled n))
 settled_of v6 other = None
 
 -- an event that isn't `local`, `peer`, `bgp` or `filter`, by its first word and the others

@@ -8,7 +8,7 @@ use Rattle.journal_text.specs.declared.line.Code.{Code}
 use Rattle.journal_text.specs.declared.line.Code.TheVariants.{E1, E2, E4, E7, E9}
 use Rattle.policy_rules.specs.Words.{◌>>=◌, words}
 use Rattle.event_text.specs.Event.{Event}
-use Rattle.event_text.specs.declared.event.Event.TheVariants.{Nothing, As4, Revised, Reflect, Local, Peer, Up, Down, Bgp, FilterIn, FilterOut, RouteAdd, RouteDel, Lose, Redist, Cover, Settled, Idle, Work, Ask, Show}
+use Rattle.event_text.specs.declared.event.Event.TheVariants.{Nothing, Whole, Local, Peer, Up, Down, Bgp, Idle}
 use Rattle.event_text.specs.declared.event.FileEvent.{FileEvent}
 use Rattle.event_text.specs.declared.event.FileEvent.TheVariants.{First, Local6, Second}
 use Rattle.event_text.specs.Words.{is_clean, host6_of}
@@ -88,26 +88,14 @@ file_refusal d (Second event) = second_refusal d event
 -- one network is told the event, and the other nothing of it
 abbrev pub is_of_one : Event → Bool
 is_of_one Nothing = false
-is_of_one As4 = false
-is_of_one Revised = false
-is_of_one Reflect = false
+is_of_one (Whole word) = false
 is_of_one (Local words) = false
 is_of_one (Peer k words client) = false
 is_of_one (Up k) = false
 is_of_one (Down k) = false
 is_of_one (Bgp k octets) = false
-is_of_one (FilterIn k rules) = true
-is_of_one (FilterOut k rules) = true
-is_of_one (RouteAdd p row) = true
-is_of_one (RouteDel proto p) = true
-is_of_one (Lose proto) = true
-is_of_one (Redist proto on) = true
-is_of_one (Cover addr) = true
-is_of_one (Settled p) = true
 is_of_one Idle = false
-is_of_one (Work task n) = true
-is_of_one (Ask link p) = true
-is_of_one (Show link) = true
+is_of_one other = true
 
 -- its words are those of the network that is told it, and the second is told only what is its alone
 abbrev pub IsWellSaid : Profile → FileEvent → Type 0

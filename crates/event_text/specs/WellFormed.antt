@@ -9,10 +9,11 @@ use Rattle.rib_route.specs.Ifaces.{is_iface_name}
 use Rattle.rib_route.specs.Rows.{Interior}
 use Rattle.journal_text.specs.Names.{IsNamed}
 use Rattle.journal_text.specs.declared.link.Task.{Task}
-use Rattle.journal_text.specs.declared.link.Task.TheVariants.{Del, Fin, Nh, ReadRib, Out, Rdel, Red, Ext, Ref}
+use Rattle.journal_text.specs.declared.link.Task.TheVariants.{Del, Fin, Nh, Out, Rdel, Ref}
 use Rattle.policy_rules.specs.Ranges.{AreRules}
-use Rattle.event_text.specs.Event.{Event}
+use Rattle.event_text.specs.Event.{Event, Question}
 use Rattle.event_text.specs.declared.event.Event.TheVariants as events
+use Rattle.event_text.specs.declared.event.Question.TheVariants.{Cover, Settled, Ask, Show}
 
 -- a number from 1 of 32 bits
 pub record IsNumber (n : ℕ) : Type 0 where
@@ -43,20 +44,20 @@ abbrev pub IsTask : Task → Type 0
 IsTask (Del k s) = IsNumber k × IsNumber s
 IsTask (Fin k) = IsNumber k
 IsTask (Nh k) = IsNumber k
-IsTask ReadRib = Unit {0}
-IsTask Red = Unit {0}
-IsTask Ext = Unit {0}
 IsTask (Out k) = IsNumber k
 IsTask (Ref k) = IsNumber k
 IsTask (Rdel proto n) = IsNumber n
+IsTask other = Unit {0}
+
+abbrev pub IsQuestion : Bool → Question → Type 0
+IsQuestion v6 (Cover addr) = IsAddress v6 addr
+IsQuestion v6 (Settled n) = IsPrefixOf v6 n
+IsQuestion v6 (Ask link n) = IsNamed link × IsPrefixOf v6 n
+IsQuestion v6 (Show link) = IsNamed link
 
 -- its numbers, words, octets, prefix, link and task are what the grammar says, behind the lines that hold for the whole file; its addresses
 -- are those of the network's family, and a peer's is IPv4's
 abbrev pub IsWellFormed : Bool → Profile → Event → Type 0
-IsWellFormed v6 p events.Nothing = Unit {0}
-IsWellFormed v6 p events.As4 = Unit {0}
-IsWellFormed v6 p events.Revised = Unit {0}
-IsWellFormed v6 p events.Reflect = Unit {0}
 IsWellFormed v6 p (events.Local words) = IsSpeaker v6 p.as4 words
 IsWellFormed v6 p (events.Peer k words client) = IsNumber k × IsSpeaker false p.as4 words × MayBeClient p client
 IsWellFormed v6 p (events.Up k) = IsNumber k
@@ -66,11 +67,6 @@ IsWellFormed v6 p (events.FilterIn k rules) = IsNumber k × AreRules v6 p.as4 ru
 IsWellFormed v6 p (events.FilterOut k rules) = IsNumber k × AreRules v6 p.as4 rules
 IsWellFormed v6 p (events.RouteAdd n row) = IsPrefixOf v6 n × IsInterior v6 row
 IsWellFormed v6 p (events.RouteDel proto n) = IsPrefixOf v6 n
-IsWellFormed v6 p (events.Lose proto) = Unit {0}
-IsWellFormed v6 p (events.Redist proto on) = Unit {0}
-IsWellFormed v6 p (events.Cover addr) = IsAddress v6 addr
-IsWellFormed v6 p (events.Settled n) = IsPrefixOf v6 n
-IsWellFormed v6 p events.Idle = Unit {0}
 IsWellFormed v6 p (events.Work task n) = IsTask task × (n < 2 ^ 32)
-IsWellFormed v6 p (events.Ask link n) = IsNamed link × IsPrefixOf v6 n
-IsWellFormed v6 p (events.Show link) = IsNamed link
+IsWellFormed v6 p (events.Query question) = IsQuestion v6 question
+IsWellFormed v6 p other = Unit {0}

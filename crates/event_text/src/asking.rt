@@ -4,7 +4,7 @@ ghost use Rattle.std.specs.Prelude.{◌≡◌};
 ghost use Rattle.policy_rules.specs.Words.{words};
 ghost use Rattle.event_text.specs.Events.{cover_of, work_of, ask_of, show_of, settled_of};
 
-use crate::event::{Event, EventOf};
+use crate::event::{Event, EventOf, Question};
 use crate::words::{is_end, link_named, task_named};
 use addr4::{Family, Texts, read_addr, read_number, read_prefix};
 use policy_rules::first_word;
@@ -20,7 +20,7 @@ pub(crate) fn cover<F: Texts>(rest: &[u8]) -> Option<EventOf<F>>
         return None;
     }
     let addr = read_addr(addr).ok()?;
-    Some(Event::Cover(addr))
+    Some(Event::Query(Question::Cover(addr)))
 }
 
 /// What follows `work`.
@@ -52,7 +52,7 @@ pub(crate) fn ask<F: Texts>(rest: &[u8]) -> Option<EventOf<F>>
     }
     let link = link_named::<F>(name)?;
     let prefix = read_prefix(prefix).ok()?;
-    Some(Event::Ask(link, prefix))
+    Some(Event::Query(Question::Ask(link, prefix)))
 }
 
 /// What follows `show`.
@@ -66,7 +66,7 @@ pub(crate) fn show<F: Family>(rest: &[u8]) -> Option<EventOf<F>>
         return None;
     }
     let link = link_named::<F>(name)?;
-    Some(Event::Show(link))
+    Some(Event::Query(Question::Show(link)))
 }
 
 /// What follows `settled`.
@@ -80,5 +80,5 @@ pub(crate) fn settled<F: Texts>(rest: &[u8]) -> Option<EventOf<F>>
         return None;
     }
     let prefix = read_prefix(prefix).ok()?;
-    Some(Event::Settled(prefix))
+    Some(Event::Query(Question::Settled(prefix)))
 }

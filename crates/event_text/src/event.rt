@@ -1,23 +1,71 @@
 //! Events.
 
+ghost use Rattle.std.specs.Prelude.{◌≡◌};
+ghost use Rattle.event_text.specs.Declarations.{with_whole};
+
 use addr4::{Addr, Prefix};
 use addr6::V6;
-use bgp_attr::{Octets, Speaker};
+use bgp_attr::{Octets, Profile, Speaker};
 use journal_text::{Link, Task};
 use policy_rules::Rules;
 use rib_route::{Interior, Proto};
+
+/// What a line says of the whole file. It stands before `local`, and once.
+#[derive(Clone, Copy)]
+pub enum WholeFile {
+    /// `as4`: AS numbers have four octets, here and in all messages (RFC 6793).
+    As4,
+    /// `revised`: errors in attributes are handled by the revised table (in the manner of RFC 7606).
+    Revised,
+    /// `reflect`: this speaker is a route reflector, and its identifier is that of its cluster (RFC 4456).
+    Reflect,
+}
+
+impl WholeFile {
+    /// How messages are read once a line said this.
+    pub fn said(self, profile: Profile) -> Profile
+        ensures { result ≡ with_whole self profile }
+    {
+        match self {
+            WholeFile::As4 => Profile {
+                as4: true,
+                ..profile
+            },
+            WholeFile::Revised => Profile {
+                revised: true,
+                ..profile
+            },
+            WholeFile::Reflect => Profile {
+                reflect: true,
+                ..profile
+            },
+        }
+    }
+}
+
+/// What a network is asked. Nothing changes by it.
+#[derive(Drop)]
+pub enum Question<A = Addr, P = Prefix> {
+    /// `cover ADDR`: which interior route holds the address, and for which subnet that answer holds.
+    Cover(A),
+    /// `settled PREFIX`: whether the rows at the prefix are final, or some background work may still change them.
+    Settled(P),
+    /// `ask LINK PREFIX`
+    Ask(Link, P),
+    /// `show LINK`
+    Show(Link),
+}
+
+/// A question to the network of a family.
+pub type QuestionOf<F> = Question<Addr<F>, Prefix<F>>;
 
 /// One event that a network is told: its addresses, prefixes and rules are those of its family. K is a peer's number, from 1.
 #[derive(Drop)]
 pub enum Event<A = Addr, P = Prefix, R = Rules> {
     /// A line without words, or a comment.
     Nothing,
-    /// `as4`: AS numbers have four octets, here and in all messages (RFC 6793).
-    As4,
-    /// `revised`: errors in attributes are handled by the revised table.
-    Revised,
-    /// `reflect`: this speaker is a route reflector, and its identifier is that of its cluster (RFC 4456).
-    Reflect,
+    /// `as4`, `revised`, `reflect`.
+    Whole(WholeFile),
     /// `local AS ID ADDR`
     Local(Speaker<A>),
     /// `peer K AS ID ADDR`, and `client` behind it where the peer is a client of the route reflector.
@@ -42,18 +90,12 @@ pub enum Event<A = Addr, P = Prefix, R = Rules> {
     Lose(Proto),
     /// `redist PROTO on`, `redist PROTO off`: from now on the protocol's routes are redistributed into BGP, or aren't.
     Redist(Proto, bool),
-    /// `cover ADDR`: which interior route holds the address, and for which subnet that answer holds.
-    Cover(A),
-    /// `settled PREFIX`: whether the rows at the prefix are final, or some background work may still change them.
-    Settled(P),
     /// `idle`
     Idle,
     /// `work TASK N`
     Work(Task, u32),
-    /// `ask LINK PREFIX`
-    Ask(Link, P),
-    /// `show LINK`
-    Show(Link),
+    /// `cover`, `settled`, `ask`, `show`.
+    Query(Question<A, P>),
 }
 
 /// An event of the network of a family.

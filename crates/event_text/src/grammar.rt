@@ -6,7 +6,7 @@ ghost use Rattle.event_text.specs.Events.{local_of, peer_of, one_number, bgp_of,
 ghost use Rattle.event_text.specs.WellFormed.{IsWellFormed};
 
 use crate::asking::{ask, cover, settled, show, work};
-use crate::event::Event;
+use crate::event::{Event, WholeFile};
 use crate::routes::{filter, lost, redist, route};
 use crate::words::{client, from_one, is_clean, is_end, octets, speaker, speaker_by};
 use addr4::{Memory, V4};
@@ -185,11 +185,11 @@ fn profile_event(word: &[u8], rest: &[u8]) -> Option<Event>
         return None;
     }
     if word == b"as4".as_slice() {
-        Some(Event::As4)
+        Some(Event::Whole(WholeFile::As4))
     } else if word == b"revised".as_slice() {
-        Some(Event::Revised)
+        Some(Event::Whole(WholeFile::Revised))
     } else if word == b"reflect".as_slice() {
-        Some(Event::Reflect)
+        Some(Event::Whole(WholeFile::Reflect))
     } else {
         None
     }

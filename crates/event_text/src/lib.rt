@@ -19,7 +19,7 @@ mod routes;
 mod words;
 
 pub use declared::{Declared, DeclaredPeer};
-pub use event::{Event, EventOf, FileEvent};
+pub use event::{Event, EventOf, FileEvent, Question, QuestionOf, WholeFile};
 pub use file::{admit_file, parse_file};
 pub use grammar::parse;
 pub use laws::lines_of_ipv4_stay;

@@ -2,10 +2,10 @@
 
 ghost use Rattle.std.specs.Prelude.{◌≡◌, if◌then◌else◌, false, Some, None};
 ghost use Rattle.journal_text.specs.declared.line.Code.TheVariants.{E7};
-ghost use Rattle.event_text.specs.Declarations.{refusal, is_taken, session_refusal, rules_refusal, undeclared, task_refusal, link_refusal, peer_refusal, refusal_by, refusal_first};
+ghost use Rattle.event_text.specs.Declarations.{refusal, is_taken, session_refusal, rules_refusal, undeclared, task_refusal, link_refusal, peer_refusal, refusal_by, refusal_first, question_refusal, is_said};
 
 use crate::declared::{Declared, DeclaredPeer, has_addr, peer_of};
-use crate::event::{Event, EventOf};
+use crate::event::{Event, EventOf, Question, QuestionOf, WholeFile};
 use addr4::Family;
 use bgp_attr::{Profile, Speaker};
 use journal_text::{Code, Link, Task};
@@ -76,7 +76,7 @@ fn task_refusal(task: Task, peers: &[DeclaredPeer]) -> Option<Code>
     match task {
         Task::Del(peer, _) | Task::Fin(peer) | Task::Nh(peer) | Task::Out(peer) | Task::Ref(peer) =>
             undeclared(peer_of(peers, peer)),
-        Task::ReadRib | Task::Rdel(_, _) | Task::Red | Task::Ext => None,
+        _ => None,
     }
 }
 
@@ -92,18 +92,18 @@ fn link_refusal(link: Link, peers: &[DeclaredPeer]) -> Option<Code>
         | Link::Read(peer, _)
         | Link::Outf(peer, _)
         | Link::Adv(peer, _) => undeclared(peer_of(peers, peer)),
-        Link::Org(_)
-        | Link::Lost(_, _)
-        | Link::Low
-        | Link::Dyn
-        | Link::Int
-        | Link::Red
-        | Link::Best
-        | Link::ReadRib
-        | Link::Ebgp
-        | Link::Ibgp
-        | Link::Ext
-        | Link::Fib => None,
+        _ => None,
+    }
+}
+
+/// The same of a question about a link.
+fn question_refusal<F: Family>(question: &QuestionOf<F>, peers: &[DeclaredPeer]) -> Option<Code>
+    ensures { result ≡ question_refusal question.now peers.now }
+{
+    match question {
+        Question::Ask(link, _) => link_refusal(*link, peers),
+        Question::Show(link) => link_refusal(*link, peers),
+        _ => None,
     }
 }
 
@@ -114,15 +114,24 @@ fn repeated(said: bool) -> Option<Code>
     if said { Some(Code::E7) } else { None }
 }
 
+/// Whether a line said this of the whole file already.
+fn is_said(word: WholeFile, profile: Profile) -> bool
+    ensures { result ≡ is_said word profile }
+{
+    match word {
+        WholeFile::As4 => profile.as4,
+        WholeFile::Revised => profile.revised,
+        WholeFile::Reflect => profile.reflect,
+    }
+}
+
 /// Why the event may not stand before `local`.
 fn refusal_first<F: Family>(profile: Profile, event: &EventOf<F>) -> Option<Code>
     ensures { result ≡ refusal_first profile event.now }
 {
     match event {
         Event::Nothing | Event::Local(_) => None,
-        Event::As4 => repeated(profile.as4),
-        Event::Revised => repeated(profile.revised),
-        Event::Reflect => repeated(profile.reflect),
+        Event::Whole(word) => repeated(is_said(*word, profile)),
         _ => Some(Code::E4),
     }
 }
@@ -132,15 +141,7 @@ fn refusal_by<F: Family>(local: Speaker, peers: &[DeclaredPeer], event: &EventOf
     ensures { result ≡ refusal_by false local peers.now event.now }
 {
     match event {
-        Event::Nothing
-        | Event::RouteAdd(_, _)
-        | Event::RouteDel(_, _)
-        | Event::Lose(_)
-        | Event::Redist(_, _)
-        | Event::Cover(_)
-        | Event::Settled(_)
-        | Event::Idle => None,
-        Event::As4 | Event::Revised | Event::Reflect => Some(Code::E7),
+        Event::Whole(_) => Some(Code::E7),
         Event::Local(_) => Some(Code::E3),
         Event::Peer(number, words, client) => {
             peer_refusal(local, peers, *number, *words, *client)
@@ -151,8 +152,8 @@ fn refusal_by<F: Family>(local: Speaker, peers: &[DeclaredPeer], event: &EventOf
         Event::FilterIn(number, rules) => rules_refusal(rules.len(), peer_of(peers, *number)),
         Event::FilterOut(number, rules) => rules_refusal(rules.len(), peer_of(peers, *number)),
         Event::Work(task, _) => task_refusal(*task, peers),
-        Event::Ask(link, _) => link_refusal(*link, peers),
-        Event::Show(link) => link_refusal(*link, peers),
+        Event::Query(question) => question_refusal(question, peers),
+        _ => None,
     }
 }
 

@@ -97,13 +97,7 @@ impl<F: Texts> Chain<F> {
         match task {
             Task::Del(number, session) => number == self.number && self.stage_has(session, p),
             Task::Fin(number) => number == self.number && self.filter_lags(p),
-            Task::Nh(_)
-            | Task::ReadRib
-            | Task::Out(_)
-            | Task::Rdel(_, _)
-            | Task::Red
-            | Task::Ext
-            | Task::Ref(_) => false,
+            _ => false,
         }
     }
 
@@ -144,14 +138,7 @@ impl<F: Texts> Chain<F> {
                 }
                 self.least_lost(session)
             }
-            Task::Fin(_)
-            | Task::Nh(_)
-            | Task::ReadRib
-            | Task::Out(_)
-            | Task::Rdel(_, _)
-            | Task::Red
-            | Task::Ext
-            | Task::Ref(_) => None,
+            _ => None,
         }
     }
 

@@ -42,13 +42,7 @@ impl<F: Texts> Chain<F> {
                 }
                 self.walk(journal)
             }
-            Task::Nh(_)
-            | Task::ReadRib
-            | Task::Out(_)
-            | Task::Rdel(_, _)
-            | Task::Red
-            | Task::Ext
-            | Task::Ref(_) => Ok(Turn::Nothing),
+            _ => Ok(Turn::Nothing),
         }
     }
 

@@ -32,7 +32,7 @@ use Rattle.rib_route.specs.Ifaces.{is_name_byte, is_iface_name}
 use Rattle.journal_text.specs.Names.{IsNameNumber, IsNamed, IsNamedTask, link_in, mark}
 use Rattle.journal_text.specs.Texts.{origin_number, bracketed, segment_text, path_text, lettered, aggregator_text, addresses_text, originator_text, clusters_text, reflection_text, unrecognized_text, required_text, optional_text, attrs_text, sender_number, field_text, known_text, route_text, fib_proto_text, proto_text, gateway_text, with_colons, interior_text, external_text, fib_text, value_text, match_text, dot_number, link_name, link_text, task_name, task_text, held_words, words_line, answer_text, entry_words, code_text, line_words, line_text}
 use Rattle.journal_text.specs.declared.link.Link.{Link}
-use Rattle.journal_text.specs.declared.link.Link.TheVariants.{In, Peer, Filt, Res, Org, Lost, Low, Dyn, Int, Red, Best, ReadRib, Ebgp as EbgpLink, Ibgp as IbgpLink, Ext, Fib, Read as ReadLink, Outf, Adv}
+use Rattle.journal_text.specs.declared.link.Link.TheVariants.{In, Peer, Filt, Res, Org, Lost, Read as ReadLink, Outf, Adv}
 use Rattle.journal_text.specs.declared.link.Task.{Task}
 use Rattle.journal_text.specs.declared.link.Task.TheVariants as tasks
 use Rattle.journal_text.specs.Lines.{Value}
@@ -91,19 +91,10 @@ link_name_ink (Filt k) h = one_number (codes "filt") k (ink_by (codes "filt") re
 link_name_ink (Res k) h = one_number (codes "res") k (ink_by (codes "res") refl) h
 link_name_ink (Org proto) h = proto_ink (codes "org.") proto (ink_by (codes "org.") refl)
 link_name_ink (Lost proto n) h = one_loss (codes "org.") proto n (ink_by (codes "org.") refl) h
-link_name_ink Low h = ink_by (codes "low") refl
-link_name_ink Dyn h = ink_by (codes "dyn") refl
-link_name_ink Int h = ink_by (codes "int") refl
-link_name_ink Red h = ink_by (codes "red") refl
-link_name_ink Best h = ink_by (codes "best") refl
-link_name_ink ReadRib h = ink_by (codes "read.rib") refl
-link_name_ink EbgpLink h = ink_by (codes "ebgp") refl
-link_name_ink IbgpLink h = ink_by (codes "ibgp") refl
-link_name_ink Ext h = ink_by (codes "ext") refl
-link_name_ink Fib h = ink_by (codes "fib") refl
 link_name_ink (ReadLink j s) h = two_numbers (codes "read") j s (ink_by (codes "read") refl) h
 link_name_ink (Outf j s) h = two_numbers (codes "outf") j s (ink_by (codes "outf") refl) h
 link_name_ink (Adv j s) h = two_numbers (codes "adv") j s (ink_by (codes "adv") refl) h
+link_name_ink other h = ink_by (link_name other) refl
 
 mark_ink : (v6 : Bool) → AreInk (mark v6)
 mark_ink true = ink_by (mark true) refl
@@ -118,12 +109,10 @@ unfolding task_name
 task_name_ink (tasks.Del k s) h = two_numbers (codes "del") k s (ink_by (codes "del") refl) h
 task_name_ink (tasks.Fin k) h = one_number (codes "fin") k (ink_by (codes "fin") refl) h
 task_name_ink (tasks.Nh k) h = one_number (codes "nh") k (ink_by (codes "nh") refl) h
-task_name_ink tasks.ReadRib h = ink_by (codes "rd.rib") refl
 task_name_ink (tasks.Out j) h = one_number (codes "out") j (ink_by (codes "out") refl) h
 task_name_ink (tasks.Rdel proto n) h = one_loss (codes "rdel.") proto n (ink_by (codes "rdel.") refl) h
-task_name_ink tasks.Red h = ink_by (codes "red") refl
-task_name_ink tasks.Ext h = ink_by (codes "ext") refl
 task_name_ink (tasks.Ref j) h = one_number (codes "ref") j (ink_by (codes "ref") refl) h
+task_name_ink other h = ink_by (task_name other) refl
 
 task_ink : (v6 : Bool) (task : Task) → IsNamedTask task → AreInk (task_text v6 task)
 unfolding task_text

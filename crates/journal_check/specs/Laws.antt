@@ -121,18 +121,7 @@ texts_of v6 (End link) = End link
 -- what a printed line of a family says of links
 abbrev pub said : Bool → Line → Reading
 said v6 (Journal entry) = Read (record { v6 = v6; entry = texts_of v6 entry })
-said v6 (Out k octets) = Skipped
-said v6 (Note k octets) = Skipped
-said v6 (Row link p value) = Skipped
-said v6 (Rows link count) = Skipped
-said v6 (Cover addr found subnet) = Skipped
-said v6 (Settled p held) = Skipped
-said v6 (Work turns) = Skipped
-said v6 (Bound turns) = Skipped
-said v6 (Idle turns) = Skipped
-said v6 Ignored = Skipped
-said v6 Absent = Skipped
-said v6 (Refused number code) = Skipped
+said v6 other = Skipped
 
 -- A line of a family that the program prints, of at most 65,536 bytes without its LF, is read as what it says.
 abbrev pub PrintedLinesAreReadBack : Type 0

@@ -4,13 +4,14 @@ use Rattle.bgp_attr.specs.Speakers.{Speaker}
 use Rattle.bgp_attr.specs.declared.speaker.Neighbour.{Neighbour}
 use Rattle.bgp_attr.specs.declared.speaker.Profile.{Profile}
 use Rattle.bgp_attr.specs.Speakers.{IsSpeaker}
-use Rattle.event_text.specs.declared.event.Event.TheVariants.{As4, Revised, Reflect, Local, Peer, Up}
+use Rattle.event_text.specs.declared.event.Event.TheVariants.{Whole, Local, Peer, Up}
+use Rattle.event_text.specs.declared.event.WholeFile.{WholeFile}
 use Rattle.event_text.specs.declared.declared.DeclaredPeer.{DeclaredPeer}
-use Rattle.event_text.specs.Declarations.{Declaration, peer_at, refusal, with_profile, with_four_octets, with_revised, with_reflection, with_speaker, with_peer, with_session, without_session, begun_at, ended_at, to_peers, IsCounted, IsDeclaredBy, IsDeclaration}
+use Rattle.event_text.specs.Declarations.{Declaration, peer_at, refusal, with_profile, with_whole, with_speaker, with_peer, with_session, without_session, begun_at, ended_at, to_peers, IsCounted, IsDeclaredBy, IsDeclaration}
 use Rattle.event_text.specs.WellFormed.{IsWellFormed}
 use Rattle.event_text.proofs.Sessions.{KeepsWords, begun_words, ended_words}
 use Rattle.event_text.proofs.DeclarationLemmas.{profile_kept, speaker_kept, peer_kept, session_kept, end_kept, found_peer}
-use Rattle.live_state.proofs.AdmittedLemmas.{as4_is_first, revised_is_first, reflect_is_first}
+use Rattle.live_state.proofs.AdmittedLemmas.{whole_is_first}
 use Rattle.journal_laws.specs.Peers.{words_in, neighbours, KeepsPeers}
 
 -- ---- a declared peer
@@ -88,14 +89,8 @@ profile_leaves d profile declared none =
     let now = profile_kept d profile declared none in
     record { declared = now; peers = record { family = refl; words = λ k w there. there; profile = λ k w there. none_before d k w (profile ≡ d.profile) declared none there; nobody = nobody (with_profile d profile) now } }
 
-pub as4_leaves : (d : Declaration) → IsDeclaration d → refusal d As4 ≡ None → Leaves d (with_profile d (with_four_octets d.profile))
-as4_leaves d declared admitted = profile_leaves d (with_four_octets d.profile) declared (as4_is_first d admitted)
-
-pub revised_leaves : (d : Declaration) → IsDeclaration d → refusal d Revised ≡ None → Leaves d (with_profile d (with_revised d.profile))
-revised_leaves d declared admitted = profile_leaves d (with_revised d.profile) declared (revised_is_first d admitted)
-
-pub reflect_leaves : (d : Declaration) → IsDeclaration d → refusal d Reflect ≡ None → Leaves d (with_profile d (with_reflection d.profile))
-reflect_leaves d declared admitted = profile_leaves d (with_reflection d.profile) declared (reflect_is_first d admitted)
+pub whole_leaves : (d : Declaration) (word : WholeFile) → IsDeclaration d → refusal d (Whole word) ≡ None → Leaves d (with_profile d (with_whole word d.profile))
+whole_leaves d word declared admitted = profile_leaves d (with_whole word d.profile) declared (whole_is_first d word admitted)
 
 pub speaker_leaves : (d : Declaration) (words : Speaker) → IsDeclaration d → refusal d (Local words) ≡ None → IsSpeaker d.v6 d.profile.as4 words → Leaves d (with_speaker d words)
 speaker_leaves d words declared admitted formed = leaves d (with_speaker d words) (speaker_kept d words declared admitted formed) refl refl (λ k w there. there)

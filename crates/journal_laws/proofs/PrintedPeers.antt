@@ -2,11 +2,11 @@
 use Rattle.std.proofs.Common.{◌≡◌, ℕ, suc, ◌^◌, get_or, Fits, w8, ◌<◌, Bool, true, false, cond, List, [], ◌∷◌, Option, Some, None, ◌&&◌, not, arith}
 use Rattle.std.specs.List.{AllByRecursion}
 use Rattle.event_text.specs.Event.{Event}
-use Rattle.event_text.specs.declared.event.Event.TheVariants.{As4, Revised, Reflect, Local, Peer, Up, Down, Bgp}
+use Rattle.event_text.specs.declared.event.Event.TheVariants.{Whole, Local, Peer, Up, Down, Bgp}
 use Rattle.event_text.specs.declared.declared.DeclaredPeer.{DeclaredPeer}
 use Rattle.event_text.specs.Declarations.{Declaration, peer_at, refusal, with_session, without_session, IsDeclaration}
 use Rattle.event_text.specs.WellFormed.{IsWellFormed}
-use Rattle.journal_laws.proofs.DeclaredPeers.{Leaves, leaves_all, as4_leaves, revised_leaves, reflect_leaves, speaker_leaves, peer_leaves, session_leaves, end_leaves}
+use Rattle.journal_laws.proofs.DeclaredPeers.{Leaves, leaves_all, whole_leaves, speaker_leaves, peer_leaves, session_leaves, end_leaves}
 use Rattle.live_state.specs.Messages.{ends_session}
 use Rattle.live_state.specs.Declared.{declared_up, declared_down, declared_heard, declared_after}
 
@@ -34,9 +34,7 @@ module _ (d : Declaration) (k : ℕ) (declared : IsDeclaration d) where
   heard_by octets (Some p) = ended_if (p.up && ends_session d.profile (not p.words.internal) octets)
 
 pub event_leaves : (d : Declaration) (event : Event) → IsDeclaration d → refusal d event ≡ None → IsWellFormed d.v6 d.profile event → Leaves d (declared_after d event)
-event_leaves d As4 declared admitted formed = as4_leaves d declared admitted
-event_leaves d Revised declared admitted formed = revised_leaves d declared admitted
-event_leaves d Reflect declared admitted formed = reflect_leaves d declared admitted
+event_leaves d (Whole word) declared admitted formed = whole_leaves d word declared admitted
 event_leaves d (Local words) declared admitted formed = speaker_leaves d words declared admitted formed
 event_leaves d (Peer k words client) declared admitted formed = peer_leaves d k words client declared admitted formed
 event_leaves d (Up k) declared admitted formed = begun_by d k declared admitted (peer_at k d.peers)

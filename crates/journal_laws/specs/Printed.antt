@@ -11,7 +11,7 @@ use Rattle.journal_text.specs.Texts.{sender_number}
 use Rattle.journal_text.specs.Lines.{Value}
 use Rattle.journal_text.specs.declared.value.Value.TheVariants as values
 use Rattle.journal_text.specs.Lines.{Entry}
-use Rattle.journal_text.specs.declared.entry.Entry.TheVariants.{Begin, Inherit, Add, Delete, Replace, Asked, Weld, End}
+use Rattle.journal_text.specs.declared.entry.Entry.TheVariants.{Add, Delete, Replace, Asked}
 use Rattle.journal_text.specs.Lines.{Line}
 use Rattle.journal_text.specs.declared.line.Line.TheVariants.{Journal, Out, Note, Row}
 use Rattle.journal_check.specs.Laws.{IsValue, IsLine}
@@ -31,9 +31,7 @@ HasRoom v6 a = (as4 : Bool) × (attributes_length v6 as4 a ≤ 4096)
 abbrev pub HasShortText : Bool → Value → Type 0
 HasShortText v6 (values.Attrs a) = HasRoom v6 a
 HasShortText v6 (values.Route r) = HasRoom v6 r.attrs
-HasShortText v6 (values.Interior r) = Unit {0}
-HasShortText v6 (values.External r) = Unit {0}
-HasShortText v6 (values.FibRow r) = Unit {0}
+HasShortText v6 other = Unit {0}
 
 -- ---- values that their texts tell apart
 
@@ -86,14 +84,11 @@ answer_values (Some value) = value ∷ []
 
 -- the values in an entry
 abbrev pub values_of : Entry Value → List Value
-values_of (Begin link) = []
-values_of (Inherit link from) = []
 values_of (Add link p new) = new ∷ []
 values_of (Delete link p old) = old ∷ []
 values_of (Replace link p old new) = old ∷ new ∷ []
 values_of (Asked link p row) = answer_values row
-values_of (Weld upper lower) = []
-values_of (End link) = []
+values_of other = []
 
 -- the values in a line
 abbrev pub values_in : Line → List Value

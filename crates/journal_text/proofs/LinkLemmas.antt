@@ -30,25 +30,9 @@ link_by kind owner number =
     else shared_by kind
 
 link_back : (a : Link) → link_by (kind_of a) (owner_of a) (number_of a) ≡ a
-link_back (In k) = refl
-link_back (Peer k s) = refl
-link_back (Filt k) = refl
-link_back (Res k) = refl
 link_back (Org proto) = ap Org (proto_back proto)
 link_back (Lost proto n) = ap (λ (p : Proto). Lost p n) (proto_back proto)
-link_back Low = refl
-link_back Dyn = refl
-link_back Int = refl
-link_back Red = refl
-link_back Best = refl
-link_back ReadRib = refl
-link_back Ebgp = refl
-link_back Ibgp = refl
-link_back Ext = refl
-link_back Fib = refl
-link_back (Read j s) = refl
-link_back (Outf j s) = refl
-link_back (Adv j s) = refl
+link_back other = refl
 
 true_and : (p q r : Bool) → p ≡ true → q ≡ true → r ≡ true → (p && (q && r)) ≡ true
 true_and p q r hp hq hr = cc

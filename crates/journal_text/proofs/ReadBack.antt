@@ -13,7 +13,7 @@ use Rattle.addr4.proofs.NumberBack.{number_back as decimal_back}
 use Rattle.rib_route.specs.declared.Proto.{Proto}
 use Rattle.rib_route.specs.declared.Proto.TheVariants.{Connected, Static, Ospf, Rip}
 use Rattle.journal_text.specs.declared.link.Link.{Link}
-use Rattle.journal_text.specs.declared.link.Link.TheVariants.{In, Peer, Filt, Res, Org, Lost, Low, Dyn, Int, Red, Best, ReadRib, Ebgp, Ibgp, Ext, Fib, Read, Outf, Adv}
+use Rattle.journal_text.specs.declared.link.Link.TheVariants.{In, Peer, Filt, Res, Org, Lost, Read, Outf, Adv}
 use Rattle.journal_text.specs.declared.link.Task.{Task}
 use Rattle.journal_text.specs.declared.link.Task.TheVariants as tasks
 use Rattle.journal_text.specs.Texts.{proto_text, link_name, link_text, task_name, task_text}
@@ -83,19 +83,10 @@ link_back (Lost Connected n) h = ap (λ ps. link_from_parts (codes "org" ∷ cod
 link_back (Lost Static n) h = ap (λ ps. link_from_parts (codes "org" ∷ codes "static" ∷ ps)) (decimal_alone n h) ∙ lost_back (λ p m. Some (Lost p m)) Static n (Lost Static n) h refl refl
 link_back (Lost Ospf n) h = ap (λ ps. link_from_parts (codes "org" ∷ codes "ospf" ∷ ps)) (decimal_alone n h) ∙ lost_back (λ p m. Some (Lost p m)) Ospf n (Lost Ospf n) h refl refl
 link_back (Lost Rip n) h = ap (λ ps. link_from_parts (codes "org" ∷ codes "rip" ∷ ps)) (decimal_alone n h) ∙ lost_back (λ p m. Some (Lost p m)) Rip n (Lost Rip n) h refl refl
-link_back Low h = refl
-link_back Dyn h = refl
-link_back Int h = refl
-link_back Red h = refl
-link_back Best h = refl
-link_back ReadRib h = refl
-link_back Ebgp h = refl
-link_back Ibgp h = refl
-link_back Ext h = refl
-link_back Fib h = refl
 link_back (Read j s) h = ap (λ ps. link_from_parts (codes "read" ∷ ps)) (two_numbers j s h.0 h.1) ∙ both_back (session_link (codes "read")) j s (Read j s) h.0 h.1 refl
 link_back (Outf j s) h = ap (λ ps. link_from_parts (codes "outf" ∷ ps)) (two_numbers j s h.0 h.1) ∙ both_back (session_link (codes "outf")) j s (Outf j s) h.0 h.1 refl
 link_back (Adv j s) h = ap (λ ps. link_from_parts (codes "adv" ∷ ps)) (two_numbers j s h.0 h.1) ∙ both_back (session_link (codes "adv")) j s (Adv j s) h.0 h.1 refl
+link_back other h = refl
 
 -- ---- tasks
 
@@ -104,25 +95,19 @@ unfolding task_text task_name task_from_parts task_of_two task_of_three plain_ta
 task_back (tasks.Del k s) h = ap (λ ps. task_from_parts (codes "del" ∷ ps)) (two_numbers k s h.0 h.1) ∙ both_back (λ j t. Some (tasks.Del j t)) k s (tasks.Del k s) h.0 h.1 refl
 task_back (tasks.Fin k) h = ap (λ ps. task_from_parts (codes "fin" ∷ ps)) (decimal_alone k h) ∙ one_back (peer_task (codes "fin")) k (tasks.Fin k) h refl
 task_back (tasks.Nh k) h = ap (λ ps. task_from_parts (codes "nh" ∷ ps)) (decimal_alone k h) ∙ one_back (peer_task (codes "nh")) k (tasks.Nh k) h refl
-task_back tasks.ReadRib h = refl
 task_back (tasks.Out j) h = ap (λ ps. task_from_parts (codes "out" ∷ ps)) (decimal_alone j h) ∙ one_back (peer_task (codes "out")) j (tasks.Out j) h refl
 task_back (tasks.Rdel Connected n) h = ap (λ ps. task_from_parts (codes "rdel" ∷ codes "connected" ∷ ps)) (decimal_alone n h) ∙ lost_back (λ p m. Some (tasks.Rdel p m)) Connected n (tasks.Rdel Connected n) h refl refl
 task_back (tasks.Rdel Static n) h = ap (λ ps. task_from_parts (codes "rdel" ∷ codes "static" ∷ ps)) (decimal_alone n h) ∙ lost_back (λ p m. Some (tasks.Rdel p m)) Static n (tasks.Rdel Static n) h refl refl
 task_back (tasks.Rdel Ospf n) h = ap (λ ps. task_from_parts (codes "rdel" ∷ codes "ospf" ∷ ps)) (decimal_alone n h) ∙ lost_back (λ p m. Some (tasks.Rdel p m)) Ospf n (tasks.Rdel Ospf n) h refl refl
 task_back (tasks.Rdel Rip n) h = ap (λ ps. task_from_parts (codes "rdel" ∷ codes "rip" ∷ ps)) (decimal_alone n h) ∙ lost_back (λ p m. Some (tasks.Rdel p m)) Rip n (tasks.Rdel Rip n) h refl refl
-task_back tasks.Red h = refl
-task_back tasks.Ext h = refl
 task_back (tasks.Ref j) h = ap (λ ps. task_from_parts (codes "ref" ∷ ps)) (decimal_alone j h) ∙ one_back (peer_task (codes "ref")) j (tasks.Ref j) h refl
+task_back other h = refl
 
 -- ---- names of either network
 
 -- no name within a network begins with the mark of the second one
 link_unmarked : (link : Link) → is_marked (link_name link) ≡ false
 unfolding link_name
-link_unmarked (In k) = refl
-link_unmarked (Peer k s) = refl
-link_unmarked (Filt k) = refl
-link_unmarked (Res k) = refl
 link_unmarked (Org Connected) = refl
 link_unmarked (Org Static) = refl
 link_unmarked (Org Ospf) = refl
@@ -131,34 +116,15 @@ link_unmarked (Lost Connected n) = refl
 link_unmarked (Lost Static n) = refl
 link_unmarked (Lost Ospf n) = refl
 link_unmarked (Lost Rip n) = refl
-link_unmarked Low = refl
-link_unmarked Dyn = refl
-link_unmarked Int = refl
-link_unmarked Red = refl
-link_unmarked Best = refl
-link_unmarked ReadRib = refl
-link_unmarked Ebgp = refl
-link_unmarked Ibgp = refl
-link_unmarked Ext = refl
-link_unmarked Fib = refl
-link_unmarked (Read j s) = refl
-link_unmarked (Outf j s) = refl
-link_unmarked (Adv j s) = refl
+link_unmarked other = refl
 
 task_unmarked : (task : Task) → is_marked (task_name task) ≡ false
 unfolding task_name
-task_unmarked (tasks.Del k s) = refl
-task_unmarked (tasks.Fin k) = refl
-task_unmarked (tasks.Nh k) = refl
-task_unmarked tasks.ReadRib = refl
-task_unmarked (tasks.Out j) = refl
 task_unmarked (tasks.Rdel Connected n) = refl
 task_unmarked (tasks.Rdel Static n) = refl
 task_unmarked (tasks.Rdel Ospf n) = refl
 task_unmarked (tasks.Rdel Rip n) = refl
-task_unmarked tasks.Red = refl
-task_unmarked tasks.Ext = refl
-task_unmarked (tasks.Ref j) = refl
+task_unmarked other = refl
 
 pub link_back_in : (v6 : Bool) (link : Link) → IsNamed link → link_in (link_text v6 link) ≡ Some (v6, link)
 unfolding link_in link_text

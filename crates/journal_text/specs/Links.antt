@@ -41,85 +41,31 @@ owner_of (Filt k) = k
 owner_of (Res k) = k
 owner_of (Org proto) = proto_number proto
 owner_of (Lost proto n) = proto_number proto
-owner_of Low = 0
-owner_of Dyn = 0
-owner_of Int = 0
-owner_of Red = 0
-owner_of Best = 0
-owner_of ReadRib = 0
-owner_of Ebgp = 0
-owner_of Ibgp = 0
-owner_of Ext = 0
-owner_of Fib = 0
 owner_of (Read j s) = j
 owner_of (Outf j s) = j
 owner_of (Adv j s) = j
+owner_of other = 0
 
 -- the session, or the loss
 abbrev pub number_of : Link → ℕ
-number_of (In k) = 0
 number_of (Peer k s) = s
-number_of (Filt k) = 0
-number_of (Res k) = 0
-number_of (Org proto) = 0
 number_of (Lost proto n) = n
-number_of Low = 0
-number_of Dyn = 0
-number_of Int = 0
-number_of Red = 0
-number_of Best = 0
-number_of ReadRib = 0
-number_of Ebgp = 0
-number_of Ibgp = 0
-number_of Ext = 0
-number_of Fib = 0
 number_of (Read j s) = s
 number_of (Outf j s) = s
 number_of (Adv j s) = s
+number_of other = 0
 
 abbrev pub same_link : Link → Link → Bool
 same_link a b = kind_of a == kind_of b && (owner_of a == owner_of b && number_of a == number_of b)
 
 -- the lowest link of the chain of deletion stages that a link stands in
 abbrev pub base_of : Link → Link
-base_of (In k) = In k
 base_of (Peer k s) = In k
-base_of (Filt k) = Filt k
-base_of (Res k) = Res k
-base_of (Org proto) = Org proto
 base_of (Lost proto n) = Org proto
-base_of Low = Low
-base_of Dyn = Dyn
-base_of Int = Int
-base_of Red = Red
-base_of Best = Best
-base_of ReadRib = ReadRib
-base_of Ebgp = Ebgp
-base_of Ibgp = Ibgp
-base_of Ext = Ext
-base_of Fib = Fib
-base_of (Read j s) = Read j s
-base_of (Outf j s) = Outf j s
-base_of (Adv j s) = Adv j s
+base_of other = other
 
 -- how high a link stands in that chain: later losses stand higher
 abbrev pub rank_of : Link → ℕ
 rank_of (Peer k s) = s + 1
 rank_of (Lost proto n) = n + 1
-rank_of (In k) = 0
-rank_of (Filt k) = 0
-rank_of (Res k) = 0
-rank_of (Org proto) = 0
-rank_of Low = 0
-rank_of Dyn = 0
-rank_of Int = 0
-rank_of Red = 0
-rank_of Best = 0
-rank_of ReadRib = 0
-rank_of Ebgp = 0
-rank_of Ibgp = 0
-rank_of Ext = 0
-rank_of Fib = 0
-rank_of (Read j s) = 0
-rank_of (Outf j s) = 0
-rank_of (Adv j s) = 0
+rank_of other = 0

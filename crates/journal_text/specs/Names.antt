@@ -162,30 +162,18 @@ IsNamed (In k) = IsNameNumber k
 IsNamed (Peer k s) = IsNameNumber k × IsNameNumber s
 IsNamed (Filt k) = IsNameNumber k
 IsNamed (Res k) = IsNameNumber k
-IsNamed (Org proto) = Unit {0}
 IsNamed (Lost proto n) = IsNameNumber n
-IsNamed Low = Unit {0}
-IsNamed Dyn = Unit {0}
-IsNamed Int = Unit {0}
-IsNamed Red = Unit {0}
-IsNamed Best = Unit {0}
-IsNamed ReadRib = Unit {0}
-IsNamed Ebgp = Unit {0}
-IsNamed Ibgp = Unit {0}
-IsNamed Ext = Unit {0}
-IsNamed Fib = Unit {0}
 IsNamed (Read j s) = IsNameNumber j × IsNameNumber s
 IsNamed (Outf j s) = IsNameNumber j × IsNameNumber s
 IsNamed (Adv j s) = IsNameNumber j × IsNameNumber s
+IsNamed other = Unit {0}
 
 -- each number in the task's name is from 1 and below 2^32
 abbrev pub IsNamedTask : Task → Type 0
 IsNamedTask (Del k s) = IsNameNumber k × IsNameNumber s
 IsNamedTask (Fin k) = IsNameNumber k
 IsNamedTask (Nh k) = IsNameNumber k
-IsNamedTask RibReads = Unit {0}
 IsNamedTask (Out j) = IsNameNumber j
 IsNamedTask (Rdel proto n) = IsNameNumber n
-IsNamedTask RedWalks = Unit {0}
-IsNamedTask ExtWalks = Unit {0}
 IsNamedTask (Ref j) = IsNameNumber j
+IsNamedTask other = Unit {0}

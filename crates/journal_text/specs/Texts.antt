@@ -261,18 +261,7 @@ line_text v6 line = words_line (line_words v6 line)
 -- whether a line is one of the journal
 abbrev pub is_entry : Line → Bool
 is_entry (Journal entry) = true
-is_entry (Out k octets) = false
-is_entry (Note k octets) = false
-is_entry (Row link p value) = false
-is_entry (Rows link count) = false
-is_entry (Cover addr found subnet) = false
-is_entry (Settled p held) = false
-is_entry (Work turns) = false
-is_entry (Bound turns) = false
-is_entry (Idle turns) = false
-is_entry Ignored = false
-is_entry Absent = false
-is_entry (Refused number code) = false
+is_entry other = false
 
 -- the text that is printed of a line: of the journal's none where the output is quiet
 abbrev pub shown : Bool → Bool → Line → List ℕ
@@ -284,34 +273,16 @@ text_of v6 quiet lines = flat_map (shown v6 quiet) lines
 -- A line that tells of no link, prefix or address is of no family: it has one text in both networks.
 abbrev pub is_of_family : Line → Bool
 is_of_family (Journal entry) = true
-is_of_family (Out k octets) = false
-is_of_family (Note k octets) = false
 is_of_family (Row link p value) = true
 is_of_family (Rows link count) = true
 is_of_family (Cover addr found subnet) = true
 is_of_family (Settled p held) = true
-is_of_family (Work turns) = false
-is_of_family (Bound turns) = false
-is_of_family (Idle turns) = false
-is_of_family Ignored = false
-is_of_family Absent = false
-is_of_family (Refused number code) = false
+is_of_family other = false
 
 -- the journal's entries among the lines
 abbrev pub entry_list : Line → List (Entry Value)
 entry_list (Journal entry) = entry ∷ []
-entry_list (Out k octets) = []
-entry_list (Note k octets) = []
-entry_list (Row link p value) = []
-entry_list (Rows link count) = []
-entry_list (Cover addr found subnet) = []
-entry_list (Settled p held) = []
-entry_list (Work turns) = []
-entry_list (Bound turns) = []
-entry_list (Idle turns) = []
-entry_list Ignored = []
-entry_list Absent = []
-entry_list (Refused number code) = []
+entry_list other = []
 
 abbrev pub entries_of : List Line → List (Entry Value)
 entries_of lines = flat_map entry_list lines

@@ -8,6 +8,8 @@
 //! rows for each live link ([`Walk`](specs/Walk.antt)). Text formats stand here and nowhere else.
 #![tactic(auto)]
 
+mod answers;
+mod attributes;
 mod entry;
 mod front;
 mod journal;
@@ -19,6 +21,7 @@ mod link;
 mod names;
 mod reader;
 mod reading;
+mod task_reading;
 mod texts;
 mod value;
 mod valued;

@@ -4,7 +4,8 @@ ghost use Rattle.std.specs.Prelude.{◌≡◌};
 ghost use Rattle.journal_text.specs.Links.{same_link};
 ghost use Rattle.journal_text.specs.Names.{link_in, link_of, task_in, task_of};
 
-use crate::reading::{read_link, read_link_in, read_task, read_task_in};
+use crate::reading::read_link;
+use crate::task_reading::{read_link_in, read_task, read_task_in};
 use rib_route::Proto;
 
 /// A link between two stages. K and J are peers' numbers, S is the number of a session, N of a protocol's loss; all count

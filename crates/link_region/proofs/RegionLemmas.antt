@@ -28,26 +28,14 @@ region_by n = cond (nat_eq n 0) Inward (cond (nat_eq n 1) Resolved (cond (nat_eq
 
 region_back : (r : Region) → region_by (region_number r) ≡ r
 region_back Inward = refl
-region_back Resolved = refl
-region_back Decided = refl
-region_back InteriorRoutes = refl
-region_back Redistributed = refl
-region_back External = refl
-region_back Forward = refl
-region_back Outward = refl
+region_back other = refl
 
 same_region : (a b : Region) → nat_eq (region_number a) (region_number b) ≡ true → a ≡ b
 same_region a b e = sym (region_back a) ∙ ap region_by (equal_numbers (region_number a) (region_number b) e) ∙ region_back b
 
 itself : (r : Region) → nat_eq (region_number r) (region_number r) ≡ true
 itself Inward = refl
-itself Resolved = refl
-itself Decided = refl
-itself InteriorRoutes = refl
-itself Redistributed = refl
-itself External = refl
-itself Forward = refl
-itself Outward = refl
+itself other = refl
 
 -- ---- another part in one region
 pub with_side_here : (sides : Sides) (r : Region) (links : Links Value) → with_side sides r links r ≡ links

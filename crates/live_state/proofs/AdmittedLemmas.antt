@@ -7,7 +7,8 @@ use Rattle.rib_route.specs.declared.Proto.{Proto}
 use Rattle.rib_route.specs.declared.Proto.TheVariants.{Connected, Static, Ospf, Rip}
 use Rattle.policy_rules.specs.Rules.{Rule}
 use Rattle.event_text.specs.Event.{Event}
-use Rattle.event_text.specs.declared.event.Event.TheVariants.{As4, Revised, Reflect, Down, Bgp}
+use Rattle.event_text.specs.declared.event.Event.TheVariants.{Whole, Down, Bgp}
+use Rattle.event_text.specs.declared.event.WholeFile.{WholeFile}
 use Rattle.event_text.specs.declared.declared.DeclaredPeer.{DeclaredPeer}
 use Rattle.event_text.specs.Declarations.{Declaration, peer_at, refusal, refusal_at, refusal_first, refusal_by, undeclared, ended_at}
 use Rattle.event_text.proofs.Sessions.{ended_words}
@@ -28,17 +29,9 @@ admitted_first : (v6 : Bool) (profile : Profile) (s : Option Speaker) (ps : List
 admitted_first v6 profile None ps event first e = refl
 admitted_first v6 profile (Some me) ps event first e = absurd (first me e)
 
-pub as4_is_first : (d : Declaration) → refusal d As4 ≡ None → d.speaker ≡ None
+pub whole_is_first : (d : Declaration) (word : WholeFile) → refusal d (Whole word) ≡ None → d.speaker ≡ None
 unfolding refusal
-as4_is_first d e = admitted_first d.v6 d.profile d.speaker d.peers As4 (λ me e. cc) e
-
-pub revised_is_first : (d : Declaration) → refusal d Revised ≡ None → d.speaker ≡ None
-unfolding refusal
-revised_is_first d e = admitted_first d.v6 d.profile d.speaker d.peers Revised (λ me e. cc) e
-
-pub reflect_is_first : (d : Declaration) → refusal d Reflect ≡ None → d.speaker ≡ None
-unfolding refusal
-reflect_is_first d e = admitted_first d.v6 d.profile d.speaker d.peers Reflect (λ me e. cc) e
+whole_is_first d word e = admitted_first d.v6 d.profile d.speaker d.peers (Whole word) (λ me e. cc) e
 
 -- a peer was declared
 there : (o : Option DeclaredPeer) → undeclared o ≡ None → o ≡ None → ⊥

@@ -5,7 +5,7 @@ use Rattle.bgp_wire.specs.declared.message.Message.{Message}
 use Rattle.bgp_wire.specs.declared.message.Message.TheVariants as messages
 use Rattle.bgp_wire.specs.Updates.{fault}
 use Rattle.bgp_wire.specs.Grammar.{IsFrame, Reads, OneAnswer, EachHasOne}
-use Rattle.event_text.specs.declared.event.Event.TheVariants.{Nothing, As4, Revised, Reflect, Local, Peer, Up, Down, Bgp, FilterIn, FilterOut, RouteAdd, RouteDel, Lose, Redist, Cover, Settled, Idle, Work, Ask, Show}
+use Rattle.event_text.specs.declared.event.Event.TheVariants.{Nothing, Up, Down, Bgp, Lose, Idle, Work, Query}
 use Rattle.event_text.specs.declared.declared.DeclaredPeer.{DeclaredPeer}
 use Rattle.event_text.specs.Declarations.{peer_at, with_session, without_session}
 use Rattle.link_change.specs.Rows.{is_empty_map}
@@ -74,27 +74,10 @@ heard_follows l k None octets l' law hears = absurd hears
 heard_follows l k (Some p) octets l' law hears = heard_by l k p octets p.up l' law hears
 
 pub follows : SessionsEnd → DeclarationsFollow
-follows law l Nothing l' after = ap (λ s. s.declared) after
-follows law l As4 l' after = ap (λ s. s.declared) after
-follows law l Revised l' after = ap (λ s. s.declared) after
-follows law l Reflect l' after = ap (λ s. s.declared) after
-follows law l (Local words) l' after = ap (λ s. s.declared) after
-follows law l (Peer k words client) l' after = ap (λ s. s.declared) after
 follows law l (Up k) l' after = ap (λ s. s.declared) after ∙ up_follows l k (peer_at k l.declared.peers)
 follows law l (Down k) l' after = ap (λ s. s.declared) after ∙ down_follows l k (peer_at k l.declared.peers)
 follows law l (Bgp k octets) l' after = heard_follows l k (peer_at k l.declared.peers) octets l' law after
-follows law l (FilterIn k rules) l' after = ap (λ s. s.declared) after
-follows law l (FilterOut k rules) l' after = ap (λ s. s.declared) after
-follows law l (RouteAdd p row) l' after = ap (λ s. s.declared) after
-follows law l (RouteDel proto p) l' after = ap (λ s. s.declared) after
-follows law l (Lose proto) l' after = ap (λ s. s.declared) after
-follows law l (Redist proto on) l' after = ap (λ s. s.declared) after
-follows law l (Cover addr) l' after = ap (λ s. s.declared) after
-follows law l (Settled p) l' after = ap (λ s. s.declared) after
-follows law l Idle l' after = ap (λ s. s.declared) after
-follows law l (Work task n) l' after = ap (λ s. s.declared) after
-follows law l (Ask link p) l' after = ap (λ s. s.declared) after
-follows law l (Show link) l' after = ap (λ s. s.declared) after
+follows law l other l' after = ap (λ s. s.declared) after
 
 -- ---- an event counts at most one loss of a protocol
 same_losses : (l l' : LiveState) → l' ≡ l → (proto : Proto) → l'.losses proto ≤ l.losses proto + 1
@@ -141,26 +124,14 @@ losses_at f a b e = absurd (cc)
 
 pub losses_follow : (l : LiveState) (event : Event) (l' : LiveState) → LiveAfter l event l' → (proto : Proto) → l'.losses proto ≤ l.losses proto + 1
 losses_follow l Nothing l' after = same_losses l l' after
-losses_follow l As4 l' after = session_losses l l' (ap (λ s. s.losses) after)
-losses_follow l Revised l' after = session_losses l l' (ap (λ s. s.losses) after)
-losses_follow l Reflect l' after = session_losses l l' (ap (λ s. s.losses) after)
-losses_follow l (Local words) l' after = session_losses l l' (ap (λ s. s.losses) after)
-losses_follow l (Peer k words client) l' after = session_losses l l' (ap (λ s. s.losses) after)
 losses_follow l (Up k) l' after = session_losses l l' (ap (λ s. s.losses) after ∙ up_losses l k (peer_at k l.declared.peers))
 losses_follow l (Down k) l' after = session_losses l l' (ap (λ s. s.losses) after ∙ down_losses l k (peer_at k l.declared.peers))
 losses_follow l (Bgp k octets) l' after = session_losses l l' (from_losses l l' k (peer_at k l.declared.peers) octets after)
-losses_follow l (FilterIn k rules) l' after = session_losses l l' (ap (λ s. s.losses) after)
-losses_follow l (FilterOut k rules) l' after = session_losses l l' (ap (λ s. s.losses) after)
-losses_follow l (RouteAdd p row) l' after = session_losses l l' (ap (λ s. s.losses) after)
-losses_follow l (RouteDel proto p) l' after = session_losses l l' (ap (λ s. s.losses) after)
 losses_follow l (Lose lost) l' after = λ proto.
     let is : l'.losses proto ≡ with_losses l.losses lost (cond (is_empty_map (l.interior lost)) (l.losses lost) (l.losses lost + 1)) proto = ap (λ s. s.losses proto) after in
     let one = one_loss (same_protocol proto lost) (is_empty_map (l.interior lost)) (l.losses proto) (l.losses lost) (losses_at l.losses proto lost) in
     omega (arith, is, one)
-losses_follow l (Redist proto on) l' after = session_losses l l' (ap (λ s. s.losses) after)
-losses_follow l (Cover addr) l' after = same_losses l l' after
-losses_follow l (Settled p) l' after = same_losses l l' after
 losses_follow l Idle l' after = same_losses l l' after
 losses_follow l (Work task n) l' after = same_losses l l' after
-losses_follow l (Ask link p) l' after = same_losses l l' after
-losses_follow l (Show link) l' after = same_losses l l' after
+losses_follow l (Query question) l' after = same_losses l l' after
+losses_follow l other l' after = session_losses l l' (ap (λ s. s.losses) after)

@@ -28,7 +28,7 @@ use Rattle.rib_route.specs.Distances.{distance, fib_proto, external_proto}
 use Rattle.rib_route.specs.Forwarding.{fib_row}
 use Rattle.redist.specs.Local.{local_route}
 use Rattle.journal_text.specs.declared.link.Link.{Link}
-use Rattle.journal_text.specs.declared.link.Link.TheVariants.{In, Filt, Res, Org, Low, Dyn, Int, Red, Best, ReadRib, Ebgp, Ibgp, Ext, Read, Outf, Adv, Fib}
+use Rattle.journal_text.specs.declared.link.Link.TheVariants.{In, Peer, Lost, Filt, Res, Org, Low, Dyn, Int, Red, Best, ReadRib, Ebgp, Ibgp, Ext, Read, Outf, Adv, Fib}
 use Rattle.journal_text.specs.Lines.{Value}
 use Rattle.journal_text.specs.Walk.{Links}
 use Rattle.journal_text.specs.Values.{valued, attrs_rows, route_rows, interior_rows, external_value, fib_rows}
@@ -74,19 +74,11 @@ abbrev pub origins : Link → List Proto
 origins (Org proto) = proto ∷ []
 origins Low = Connected ∷ Static ∷ []
 origins Dyn = Ospf ∷ Rip ∷ []
-origins Int = Connected ∷ Static ∷ Ospf ∷ Rip ∷ []
-origins Red = Connected ∷ Static ∷ Ospf ∷ Rip ∷ []
-origins Ebgp = Connected ∷ Static ∷ Ospf ∷ Rip ∷ []
-origins Ibgp = Connected ∷ Static ∷ Ospf ∷ Rip ∷ []
-origins Ext = Connected ∷ Static ∷ Ospf ∷ Rip ∷ []
-origins Fib = Connected ∷ Static ∷ Ospf ∷ Rip ∷ []
-origins (Res k) = Connected ∷ Static ∷ Ospf ∷ Rip ∷ []
-origins Best = Connected ∷ Static ∷ Ospf ∷ Rip ∷ []
-origins ReadRib = Connected ∷ Static ∷ Ospf ∷ Rip ∷ []
-origins (Read j s) = Connected ∷ Static ∷ Ospf ∷ Rip ∷ []
-origins (Outf j s) = Connected ∷ Static ∷ Ospf ∷ Rip ∷ []
-origins (Adv j s) = Connected ∷ Static ∷ Ospf ∷ Rip ∷ []
-origins other = []
+origins (In k) = []
+origins (Peer k s) = []
+origins (Filt k) = []
+origins (Lost proto n) = []
+origins other = Connected ∷ Static ∷ Ospf ∷ Rip ∷ []
 
 -- ---- next hops
 abbrev pub or_else : Option Interior → Option Interior → Option Interior

@@ -2,9 +2,9 @@
 -- and 6).
 use Rattle.std.specs.Prelude.{ℕ, ◌&&◌, not, if◌then◌else◌, List, Option, Some, None}
 use Rattle.event_text.specs.Event.{Event}
-use Rattle.event_text.specs.declared.event.Event.TheVariants.{Nothing, As4, Revised, Reflect, Local, Peer, Up, Down, Bgp, FilterIn, FilterOut, RouteAdd, RouteDel, Lose, Redist, Cover, Settled, Idle, Work, Ask, Show}
+use Rattle.event_text.specs.declared.event.Event.TheVariants.{Whole, Local, Peer, Up, Down, Bgp}
 use Rattle.event_text.specs.declared.declared.DeclaredPeer.{DeclaredPeer}
-use Rattle.event_text.specs.Declarations.{Declaration, peer_at, with_profile, with_four_octets, with_revised, with_reflection, with_speaker, with_peer, with_session, without_session}
+use Rattle.event_text.specs.Declarations.{Declaration, peer_at, with_profile, with_whole, with_speaker, with_peer, with_session, without_session}
 use Rattle.live_state.specs.Messages.{ends_session}
 
 -- the declarations where the session of a peer begins, unless one is up
@@ -24,24 +24,10 @@ declared_heard d k octets (Some p) = if p.up && ends_session d.profile (not p.wo
 
 -- the declarations after an event
 abbrev pub declared_after : Declaration → Event → Declaration
-declared_after d Nothing = d
-declared_after d As4 = with_profile d (with_four_octets d.profile)
-declared_after d Revised = with_profile d (with_revised d.profile)
-declared_after d Reflect = with_profile d (with_reflection d.profile)
+declared_after d (Whole word) = with_profile d (with_whole word d.profile)
 declared_after d (Local words) = with_speaker d words
 declared_after d (Peer k words client) = with_peer d k words client
 declared_after d (Up k) = declared_up d k (peer_at k d.peers)
 declared_after d (Down k) = declared_down d k (peer_at k d.peers)
 declared_after d (Bgp k octets) = declared_heard d k octets (peer_at k d.peers)
-declared_after d (FilterIn k rules) = d
-declared_after d (FilterOut k rules) = d
-declared_after d (RouteAdd p row) = d
-declared_after d (RouteDel proto p) = d
-declared_after d (Lose proto) = d
-declared_after d (Redist proto on) = d
-declared_after d (Cover addr) = d
-declared_after d (Settled p) = d
-declared_after d Idle = d
-declared_after d (Work task n) = d
-declared_after d (Ask link p) = d
-declared_after d (Show link) = d
+declared_after d other = d

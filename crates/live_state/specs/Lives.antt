@@ -9,9 +9,9 @@ use Rattle.bgp_attr.specs.Attributes.{Attrs}
 use Rattle.bgp_wire.specs.declared.message.Message.{Message}
 use Rattle.bgp_wire.specs.declared.message.Message.TheVariants as messages
 use Rattle.event_text.specs.Event.{Event}
-use Rattle.event_text.specs.declared.event.Event.TheVariants.{Nothing, As4, Revised, Reflect, Local, Peer, Up, Down, Bgp, FilterIn, FilterOut, RouteAdd, RouteDel, Lose, Redist, Cover, Settled, Idle, Work, Ask, Show}
+use Rattle.event_text.specs.declared.event.Event.TheVariants.{Whole, Local, Peer, Up, Down, Bgp, FilterIn, FilterOut, RouteAdd, RouteDel, Lose, Redist}
 use Rattle.event_text.specs.declared.declared.DeclaredPeer.{DeclaredPeer}
-use Rattle.event_text.specs.Declarations.{Declaration, no_declaration, peer_at, with_profile, with_four_octets, with_revised, with_reflection, with_speaker, with_peer, with_session, without_session}
+use Rattle.event_text.specs.Declarations.{Declaration, no_declaration, peer_at, with_profile, with_whole, with_speaker, with_peer, with_session, without_session}
 use Rattle.policy_rules.specs.Rules.{Rule}
 use Rattle.rib_route.specs.declared.Proto.{Proto}
 use Rattle.rib_route.specs.Rows.{Interior}
@@ -68,11 +68,9 @@ live_fed l k changes = record l { routes = with_routes l.routes k (routes_after 
 -- a message came from a peer that is up. A ROUTE-REFRESH changes no route (RFC 2918)
 abbrev pub heard : LiveState → ℕ → Message → LiveState
 heard l k (messages.Update u) = live_fed l k (changes_of l.declared.profile u)
-heard l k messages.Keepalive = l
-heard l k messages.Skip = l
-heard l k (messages.Refresh r) = l
 heard l k messages.Notification = ended l k
 heard l k (messages.Notify n) = ended l k
+heard l k other = l
 
 -- the rules of one peer become these
 abbrev pub with_rules : (ℕ → List Rule) → ℕ → List Rule → ℕ → List Rule
@@ -123,10 +121,7 @@ ended_if_up l k (Some p) = if p.up then ended l k else l
 
 -- the live state after an event
 abbrev pub LiveAfter : LiveState → Event → LiveState → Type 0
-LiveAfter l Nothing l' = l' ≡ l
-LiveAfter l As4 l' = l' ≡ record l { declared = with_profile l.declared (with_four_octets l.declared.profile) }
-LiveAfter l Revised l' = l' ≡ record l { declared = with_profile l.declared (with_revised l.declared.profile) }
-LiveAfter l Reflect l' = l' ≡ record l { declared = with_profile l.declared (with_reflection l.declared.profile) }
+LiveAfter l (Whole word) l' = l' ≡ record l { declared = with_profile l.declared (with_whole word l.declared.profile) }
 LiveAfter l (Local words) l' = l' ≡ record l { declared = with_speaker l.declared words }
 LiveAfter l (Peer k words client) l' = l' ≡ record l { declared = with_peer l.declared k words client }
 LiveAfter l (Up k) l' = l' ≡ begun_if_down l k (peer_at k l.declared.peers)
@@ -138,9 +133,4 @@ LiveAfter l (RouteAdd p row) l' = l' ≡ interior_fed l row.proto (tables.insert
 LiveAfter l (RouteDel proto p) l' = l' ≡ interior_fed l proto (tables.remove (l.interior proto) p)
 LiveAfter l (Lose proto) l' = l' ≡ interior_lost l proto
 LiveAfter l (Redist proto on) l' = l' ≡ record l { redistributed = with_redistributed l.redistributed proto on }
-LiveAfter l (Cover addr) l' = l' ≡ l
-LiveAfter l (Settled p) l' = l' ≡ l
-LiveAfter l Idle l' = l' ≡ l
-LiveAfter l (Work task n) l' = l' ≡ l
-LiveAfter l (Ask link p) l' = l' ≡ l
-LiveAfter l (Show link) l' = l' ≡ l
+LiveAfter l other l' = l' ≡ l

@@ -39,12 +39,9 @@ changes_of profile u = changes_in profile.second (said_of profile.second u)
 -- ---- the end of a session
 -- whether a message ends the session
 abbrev pub is_ending : Message → Bool
-is_ending (messages.Update u) = false
-is_ending messages.Keepalive = false
-is_ending messages.Skip = false
-is_ending (messages.Refresh r) = false
 is_ending messages.Notification = true
 is_ending (messages.Notify n) = true
+is_ending other = false
 
 -- whether octets of a peer, external or internal, end the session: they have a fault, or their type is that of a NOTIFICATION
 abbrev pub ends_session : Profile → Bool → List ℕ → Bool

@@ -1,9 +1,8 @@
 //! The fields of a record (RFC 6396, sections 2 and 4.4).
 
-ghost use Rattle.std.specs.Prelude.{◌≡◌, ◌+◌, ◌-◌, ◌≤◌, ◌==◌, ◌&&◌, nat_le, if◌then◌else◌, List, ℕ, min, length, take, drop, true};
+ghost use Rattle.std.specs.Prelude.{◌≡◌, ◌+◌, ◌≤◌, ◌==◌, length};
 ghost use Rattle.mrt_reader.specs.Records.{number_at, kind_in, subtype_in, length_in};
-ghost use Rattle.mrt_reader.specs.Fields.{width_of, start_of, interface_at, is_used, state_subtype, message_subtype, sides_in, are_speakers, told_in, told_by_state, Message, NoMessage, is_well_sized, said_of_ipv4, said_in};
-ghost use Rattle.mrt_reader.specs.Kept.{told_of, said_of, IsKeptOf, HasMessage, HasMessageIn};
+ghost use Rattle.mrt_reader.specs.Fields.{width_of, start_of, interface_at, is_used, state_subtype, sides_in, is_well_sized};
 
 use addr4::Addr;
 use byteorder::{BigEndian, ByteOrder};
@@ -18,17 +17,17 @@ const BGP4MP: u16 = 16;
 const BGP4MP_ET: u16 = 17;
 
 /// The number of IPv4 among address families.
-const IPV4: u16 = 1;
+pub(crate) const IPV4: u16 = 1;
 
 /// The state Established.
-const ESTABLISHED: u16 = 6;
+pub(crate) const ESTABLISHED: u16 = 6;
 
 /// The longest BGP message, in octets.
-const LONGEST: usize = 4096;
+pub(crate) const LONGEST: usize = 4096;
 
 /// So many octets of a body may be of use: microseconds, two AS numbers, an interface, the family, two addresses, and a
 /// message.
-const MOST_KEPT: usize = 4 + 8 + 4 + 8 + LONGEST;
+pub(crate) const MOST_KEPT: usize = 4 + 8 + 4 + 8 + LONGEST;
 
 /// A record's header, without the time.
 #[derive(Clone, Copy)]
@@ -72,7 +71,7 @@ pub(crate) enum Body {
 }
 
 /// The number that the two octets from a place are.
-fn short_at(octets: &[u8], i: usize) -> u16
+pub(crate) fn short_at(octets: &[u8], i: usize) -> u16
     requires { i + 2 ≤ length octets.now }
     ensures { result ≡ number_at 2 i octets.now }
 {
@@ -123,7 +122,7 @@ impl Header {
     ghost use Rattle.mrt_reader.specs.Kept.{kept_size};
 
     /// Whether the record's subtype is that of a state change.
-    fn is_state_change(self, as4: bool) -> bool
+    pub(crate) fn is_state_change(self, as4: bool) -> bool
         ensures { result ≡ (self.subtype == state_subtype as4) }
     {
         self.subtype == if as4 { 5 } else { 0 }
@@ -158,7 +157,7 @@ impl Header {
     }
 
     /// Where the interface stands, behind the AS numbers.
-    fn interface(self, as4: bool) -> usize
+    pub(crate) fn interface(self, as4: bool) -> usize
         ensures value { result ≡ interface_at as4 self.kind }
         ensures small { result ≤ 12 }
     {
@@ -167,11 +166,10 @@ impl Header {
 }
 
 impl Header {
-    ghost use Rattle.mrt_reader.specs.Fields.{is_well_sized, sides_in, told_in, interface_at, state_subtype, width_of, start_of};
-    ghost use Rattle.mrt_reader.specs.Kept.{told_of};
+    ghost use Rattle.mrt_reader.specs.Fields.{is_well_sized, sides_in, interface_at, state_subtype, width_of, start_of};
 
     /// Whether the body has room for its fields, and a state change for no more.
-    fn is_well_sized(self, as4: bool) -> bool
+    pub(crate) fn is_well_sized(self, as4: bool) -> bool
         ensures { result ≡ is_well_sized as4 self.kind self.subtype self.length }
     {
         let length = self.length as usize;
@@ -183,7 +181,7 @@ impl Header {
     }
 
     /// The two ends of the session.
-    fn sides(self, as4: bool, body: &[u8]) -> Sides
+    pub(crate) fn sides(self, as4: bool, body: &[u8]) -> Sides
         requires { interface_at as4 self.kind + 12 ≤ length body.now }
         ensures { result ≡ sides_in as4 self.kind body.now }
     {
@@ -196,91 +194,4 @@ impl Header {
             local: Addr::new(long_at(body, interface + 8)),
         }
     }
-}
-
-impl Sides {
-    ghost use Rattle.mrt_reader.specs.Fields.{are_speakers};
-
-    /// Whether each has an AS number and an address that a speaker may have.
-    fn are_speakers(&self) -> bool
-        ensures { result ≡ are_speakers self.now }
-    {
-        self.peer_as != 0 && self.local_as != 0 && self.peer.is_host() && self.local.is_host()
-    }
-}
-
-/// What a new state says.
-fn state_news(new: u16) -> News
-    ensures within { (size : ℕ) → HasMessage size result }
-    ensures told { (kept : List ℕ) → told_of kept result ≡ told_by_state new }
-{
-    if new == ESTABLISHED {
-        News::Established
-    } else {
-        News::Ended
-    }
-}
-
-/// What a message says that begins at a place of a body of so many octets.
-fn message_news(length: usize, place: usize) -> News
-    requires { place ≤ length }
-    ensures within { (size : ℕ) → place ≤ size → HasMessage size result }
-    ensures told { (kept : List ℕ) → told_of kept result ≡ (if nat_le 1 (length - place) && nat_le (length - place) 4096 then Message (drop place kept) else NoMessage) }
-{
-    if 1 <= length - place && length - place <= LONGEST {
-        News::Message(place)
-    } else {
-        News::NoMessage
-    }
-}
-
-/// What the fields of IPv4 say of the session, where the body has room for them.
-fn read_news(as4: bool, header: Header, body: &[u8]) -> News
-    requires sized { is_well_sized as4 header.kind header.subtype header.length ≡ true }
-    requires room { min header.length 4120 ≤ length body.now }
-    ensures within { HasMessage (length body.now) result }
-    ensures told { (whole : List ℕ) → length whole ≡ header.length → body.now ≡ take 4120 whole → told_of body.now result ≡ told_in as4 header.kind header.subtype whole }
-{
-    let interface = header.interface(as4);
-    if header.is_state_change(as4) {
-        state_news(short_at(body, interface + 14))
-    } else {
-        message_news(header.length as usize, interface + 12)
-    }
-}
-
-/// What a body of IPv4 says.
-fn read_ipv4(as4: bool, header: Header, body: &[u8]) -> Body
-    requires { min header.length 4120 ≤ length body.now }
-    ensures within { HasMessageIn (length body.now) result }
-    ensures said { (whole : List ℕ) → length whole ≡ header.length → body.now ≡ take 4120 whole → said_of body.now result ≡ said_of_ipv4 as4 header.kind header.subtype whole }
-{
-    if !header.is_well_sized(as4) {
-        return Body::Malformed;
-    }
-    let sides = header.sides(as4, body);
-    if !sides.are_speakers() {
-        return Body::Unused;
-    }
-    Body::Session(sides, read_news(as4, header, body))
-}
-
-/// What a record says, by its header and what is kept of its body: of one that is of use, the first [`MOST_KEPT`] octets, or
-/// all where it has fewer.
-pub(crate) fn read_body(as4: bool, header: Header, body: &[u8]) -> Body
-    requires { is_used as4 header.kind header.subtype ≡ true → min header.length 4120 ≤ length body.now }
-    ensures within { HasMessageIn (length body.now) result }
-    ensures said { (whole : List ℕ) → IsKeptOf as4 header body.now whole → said_of body.now result ≡ said_in as4 header.kind header.subtype whole }
-{
-    if !header.is_used(as4) {
-        return Body::Unused;
-    }
-    let interface = header.interface(as4);
-    if (header.length as usize) < interface + 4 {
-        return Body::Malformed;
-    }
-    if short_at(body, interface + 2) != IPV4 {
-        return Body::Unused;
-    }
-    read_ipv4(as4, header, body)
 }

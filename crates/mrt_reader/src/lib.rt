@@ -10,6 +10,7 @@
 #![tactic(auto)]
 
 mod answer;
+mod bodies;
 mod fields;
 mod laws;
 mod lines;

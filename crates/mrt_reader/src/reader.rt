@@ -11,7 +11,8 @@ ghost use Rattle.mrt_reader.specs.Files.{HasRead};
 ghost use Rattle.mrt_reader.specs.Sources.{AreTaken, Gives, ReadsNone, holds_record};
 
 use crate::answer::{Code, Next, Stop};
-use crate::fields::{Body, HEADER, Header, read_body, read_header};
+use crate::bodies::read_body;
+use crate::fields::{Body, HEADER, Header, read_header};
 use crate::lines::push_refused;
 use crate::sessions::Written;
 use crate::unread::Unread;

@@ -7,9 +7,10 @@ ghost use Rattle.nexthop_known.specs.Hops.{learnt, staled, settled, is_stale_at,
 
 use crate::answer::{Answer, Hop};
 use crate::index::{
-    Holding, first_with, fresh_of, in_force_of, in_force_or, is_stale, make_all_stale, mark, put,
-    put_all_in_force, take_out, unmark, unshared,
+    Holding, first_with, fresh_of, in_force_of, in_force_or, is_stale, mark, put, take_out, unmark,
+    unshared,
 };
+use crate::sweeps::{make_all_stale, put_all_in_force};
 use addr4::{Addr, Family, Memory, Prefix, V4};
 use std::alloc::Global;
 use std::collections::{BTreeMap, BTreeSet};

@@ -26,6 +26,7 @@ mod answer;
 mod index;
 mod known;
 pub mod laws;
+mod sweeps;
 mod tallies;
 
 pub use answer::{Answer, Hop};

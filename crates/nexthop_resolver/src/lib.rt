@@ -27,8 +27,10 @@
 
 mod asking;
 pub mod laws;
+mod naming;
 mod resolver;
 mod rows;
+mod turns;
 
 pub use resolver::Resolver;
 pub use rows::{FromMatch, Metric, Outlet, Via, Way};

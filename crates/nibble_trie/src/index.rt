@@ -2,10 +2,10 @@
 
 ghost use Rattle.std.specs.Prelude.{◌≡◌, ℕ, ◌+◌, ◌%◌, ◌<◌, ◌≤◌, ◌^◌, Option, Some, None};
 ghost use Rattle.slab.specs.Slab.{HasRoomFor, slab_len};
-ghost use Rattle.nibble_trie.specs.declared.link.Target.TheVariants.{Nothing, Leaf, Inner};
+ghost use Rattle.nibble_trie.specs.declared.link.Target.TheVariants.{Leaf};
 ghost use Rattle.nibble_trie.specs.Links.{leads, IsCell};
-ghost use Rattle.nibble_trie.specs.Keys.{prefix_in, longer_in};
-ghost use Rattle.nibble_trie.specs.Index.{Layout, high, link_at, is_live, IsPlace, IsLaid, Indexes, Lies, Names, with_head, IsAlone, OnWay, IsSpotOf, spot_at, HasHeads, HasWay, HasNamedWay, HasLoneWay, IsBare, Placed, IsAbove, Writes};
+ghost use Rattle.nibble_trie.specs.Keys.{prefix_in};
+ghost use Rattle.nibble_trie.specs.Index.{Layout, high, link_at, is_live, IsPlace, IsLaid, Indexes, Lies, Names, with_head, IsAlone, OnWay, IsSpotOf, spot_at, HasHeads, HasWay, HasNamedWay, HasLoneWay, Placed, Writes};
 
 use crate::branch::{Branch, digit_of};
 use crate::link::{Link, Target};
@@ -162,7 +162,7 @@ impl Index {
         }
     }
 
-    fn write(&mut self, at: Option<(usize, usize)>, link: Link)
+    pub(crate) fn write(&mut self, at: Option<(usize, usize)>, link: Link)
         requires { IsPlace (is_live self.old) at }
         ensures writes { Writes (is_live self.old) (is_live self.new) (link_at self.old) (link_at self.new) at (leads link) }
         ensures len { slab_len self.new.branches ≡ slab_len self.old.branches }
@@ -232,55 +232,5 @@ impl Index {
         let branch = self.branches.insert_reserved(links);
         self.write(spot.at, Link::inner(branch));
         self.below(branch, address, level)
-    }
-
-    // The place that leads to a branch on an address's way, from one above it on.
-    fn above<F: Family>(&self, branch: usize, address: Addr<F>, mut spot: Spot) -> Spot
-        requires { IsAbove self.now address branch spot }
-        ensures way { (heads : ℕ → Option ℕ) (layout : Layout) → IsLaid self.now heads layout → OnWay self.now layout address spot → OnWay self.now layout address result }
-        ensures target { result.target ≡ Inner branch }
-    {
-        'way: loop {
-            match spot.target {
-                Target::Inner(key) => {
-                    if key == branch {
-                        return spot;
-                    }
-                    spot = self.below(key, address, spot.level - 1);
-                }
-                Target::Nothing => unreachable!(),
-                Target::Leaf(_) => unreachable!(),
-            }
-        }
-    }
-
-    // Takes away the branch of a bare link, if it has no other, and those above that are left without.
-    fn prune<F: Family>(&mut self, at: Option<(usize, usize)>, address: Addr<F>)
-        requires { IsBare self.old address at }
-        ensures { (heads : ℕ → Option ℕ) → Indexes self.old heads → Indexes self.new heads }
-    {
-        address.known();
-        let branch = match at {
-            None => return,
-            Some(at) => at.0,
-        };
-        let links = &self.branches[branch];
-        if !links.is_empty() {
-            return;
-        }
-        let above = self.above(branch, address, self.top());
-        self.branches.remove(branch);
-        self.write(above.at, Link::nothing());
-        self.prune(above.at, address);
-    }
-
-    // Makes an address one without a leaf, at its place, where no other has one.
-    pub(crate) fn clear<F: Family>(&mut self, spot: Spot, address: Addr<F>)
-        requires way { HasLoneWay self.old address spot }
-        requires cell { IsCell spot.target }
-        ensures { (heads : ℕ → Option ℕ) (layout : Layout) → IsLaid self.old heads layout → OnWay self.old layout address spot → IsAlone heads layout spot.at address → Indexes self.new (with_head heads address None) }
-    {
-        self.write(spot.at, Link::nothing());
-        self.prune(spot.at, address);
     }
 }

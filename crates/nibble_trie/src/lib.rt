@@ -18,10 +18,12 @@
 
 mod branch;
 mod chain;
+mod clearing;
 mod index;
 mod link;
 mod node;
 mod reading;
+mod removing;
 mod trie;
 mod writing;
 

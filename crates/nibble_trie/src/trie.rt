@@ -9,6 +9,7 @@ ghost use Rattle.nibble_trie.specs.Contents.{HasKey, IsEntered, IsOccupied};
 
 use crate::index::Index;
 use crate::node::Node;
+use crate::removing::remove;
 use crate::{reading, writing};
 use addr4::{Family, Place, Prefix, V4};
 use slab::Slab;
@@ -107,7 +108,7 @@ impl<V, F: Family> Trie<V, F> {
         ensures before { result ≡ map.get self.old.rows prefix }
         ensures rows { self.new.rows ≡ map.remove self.old.rows prefix }
     {
-        writing::remove(&mut self.leaves, &mut self.index, prefix)
+        remove(&mut self.leaves, &mut self.index, prefix)
     }
 
     /// Lends the value at a key, to be changed in place.

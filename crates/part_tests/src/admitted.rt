@@ -14,18 +14,7 @@ pub(crate) fn step(event: &Event, declared: &mut Declared) -> Result<Option<Code
     }
     declared.known();
     match event {
-        Event::As4 => declared.set_profile(Profile {
-            as4: true,
-            ..declared.profile()
-        }),
-        Event::Revised => declared.set_profile(Profile {
-            revised: true,
-            ..declared.profile()
-        }),
-        Event::Reflect => declared.set_profile(Profile {
-            reflect: true,
-            ..declared.profile()
-        }),
+        Event::Whole(word) => declared.set_profile(word.said(declared.profile())),
         Event::Local(words) => declared.set_speaker(*words),
         Event::Peer(number, words, client) => declared.add_peer(*number, *words, *client)?,
         Event::Up(number) => declared.begin_session(*number),

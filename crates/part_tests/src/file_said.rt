@@ -2,7 +2,7 @@
 
 use crate::file_lines::PLAIN;
 use crate::prefixes::{address6, prefix6};
-use event_text::{Event, FileEvent, parse_file};
+use event_text::{Event, FileEvent, Question, parse_file};
 use journal_text::{Link, Task};
 use rib_route::Proto;
 use std::test::Fail;
@@ -22,11 +22,11 @@ fn is_second(number: usize, event: &FileEvent) -> bool {
                 && row.gateway == Some(address6(0xfe80 << 48, 1))
                 && row.metric == 7
         }
-        (2, Event::Ask(link, at)) => {
+        (2, Event::Query(Question::Ask(link, at))) => {
             link.is(Link::In(1)) && *at == prefix6(FRONT + (0x8000 << 16), 33)
         }
         (3, Event::Work(task, turns)) => *task == Task::Out(3) && *turns == 4,
-        (4, Event::Cover(addr)) => *addr == address6(0x0001_0000_0000_0000, 0xff),
+        (4, Event::Query(Question::Cover(addr))) => *addr == address6(0x0001_0000_0000_0000, 0xff),
         _ => false,
     }
 }

@@ -47,8 +47,14 @@ mod second_family;
 #[cfg(test)]
 mod second_octets;
 #[cfg(test)]
+mod second_told;
+#[cfg(test)]
 mod streams;
 #[cfg(test)]
 mod tables;
 #[cfg(test)]
 mod tries;
+#[cfg(test)]
+mod unread_lines;
+#[cfg(test)]
+mod untold;

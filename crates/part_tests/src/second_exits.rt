@@ -11,52 +11,19 @@ ghost use Rattle.exit_side.specs.Exits.{IsExits, AllStand};
 
 use crate::prefixes::prefix6;
 use crate::second_family::{HEARD, PROFILE, came_to, has_lines, heard, peer, route, site, speaker};
-use addr4::{Memory, Place, Prefix, Row};
+use crate::second_told::{ANNOUNCED, WITHDRAWN};
+use crate::untold::{Best, Untold};
+use addr4::{Memory, Prefix, Row};
 use addr6::V6;
 use bgp_attr::{Route, SharedAttrs};
 use cache_stage::Cache;
 use exit_side::Exits;
 use exit_side::laws::nothing_at_first;
-use filter_bank::RouteUpstream;
 use journal_text::Journal;
 use link_change::{Change, Upstream};
 use policy_rules::Rules;
 use std::alloc::Global;
 use std::test::Fail;
-
-/// The rows of `best`.
-type Best = Cache<Route<SharedAttrs<V6>>, V6>;
-
-/// The link `best`, which can't tell of whom its routes came.
-#[derive(Drop)]
-struct Untold<'a> {
-    best: &'a Best,
-}
-
-impl<'a> Upstream<V6> for Untold<'a> {
-    type Row = Route<SharedAttrs<V6>>;
-
-    ghost use Rattle.std.specs.FinMap as map;
-    ghost use Rattle.link_change.specs.Rows.{with_rows};
-
-    ghost rows = { λ s. map.get s.best.now };
-
-    ghost candidates = { λ s. with_rows (map.get s.best.now) };
-
-    fn asked(&self, p: &Prefix<V6>) -> Result<Option<Route<SharedAttrs<V6>>>, Memory> {
-        self.best.asked(p)
-    }
-
-    fn next_candidate(&self, after: &Place<Prefix<V6>>) -> Option<Prefix<V6>> {
-        self.best.next_candidate(after)
-    }
-}
-
-impl<'a> RouteUpstream<V6> for Untold<'a> {
-    fn is_from(&self, _number: u8, _p: &Prefix<V6>) -> bool {
-        false
-    }
-}
 
 /// The first session of a peer begins, without rules for what goes out.
 fn begin(
@@ -201,44 +168,6 @@ fn withdraw(
     exits.end(2, journal)?;
     Ok([external, internal])
 }
-
-/// An external peer gets the local AS in front and the local address as the next hop, an internal one LOCAL_PREF, and both the prefix
-/// in MP_REACH_NLRI (RFC 4760, section 3), behind the attributes of lesser types.
-const ANNOUNCED: &str = "\
-i 6.read.2.1 6.best\n\
-b 6.outf.2.1\n\
-b 6.adv.2.1\n\
-i 6.read.3.1 6.best\n\
-b 6.outf.3.1\n\
-b 6.adv.3.1\n\
-+ 6.read.2.1 2001:db8:1:0:0:0:0:0/48 1:100:-:0:1:o0,p(65001),n2001:db8:0:0:0:0:0:1\n\
-+ 6.read.2.1 ff02:0:0:0:0:0:0:0/16 1:100:-:0:1:o0,p(65001),n2001:db8:0:0:0:0:0:1\n\
-+ 6.outf.2.1 2001:db8:1:0:0:0:0:0/48 o0,p(65000.65001),n2001:db8:0:0:0:0:0:fe\n\
-+ 6.adv.2.1 2001:db8:1:0:0:0:0:0/48 o0,p(65000.65001),n2001:db8:0:0:0:0:0:fe\n\
-out 2 ffffffffffffffffffffffffffffffff0043020000002c\
-400101004002060202fde8fde9\
-800e1c0002011020010db80000000000000000000000fe003020010db80001\n\
-+ 6.read.3.1 2001:db8:1:0:0:0:0:0/48 1:100:-:0:1:o0,p(65001),n2001:db8:0:0:0:0:0:1\n\
-+ 6.read.3.1 ff02:0:0:0:0:0:0:0/16 1:100:-:0:1:o0,p(65001),n2001:db8:0:0:0:0:0:1\n\
-+ 6.outf.3.1 2001:db8:1:0:0:0:0:0/48 o0,p(65001),n2001:db8:0:0:0:0:0:1,l100\n\
-+ 6.adv.3.1 2001:db8:1:0:0:0:0:0/48 o0,p(65001),n2001:db8:0:0:0:0:0:1,l100\n\
-out 3 ffffffffffffffffffffffffffffffff00480200000031\
-400101004002040201fde940050400000064\
-800e1c0002011020010db8000000000000000000000001003020010db80001\n";
-
-/// What isn't there any more stands in MP_UNREACH_NLRI, alone (RFC 4760, section 4).
-const WITHDRAWN: &str = "\
-- 6.read.2.1 2001:db8:1:0:0:0:0:0/48 1:100:-:0:1:o0,p(65001),n2001:db8:0:0:0:0:0:1\n\
-- 6.outf.2.1 2001:db8:1:0:0:0:0:0/48 o0,p(65000.65001),n2001:db8:0:0:0:0:0:fe\n\
-- 6.adv.2.1 2001:db8:1:0:0:0:0:0/48 o0,p(65000.65001),n2001:db8:0:0:0:0:0:fe\n\
-out 2 ffffffffffffffffffffffffffffffff0024020000000d800f0a0002013020010db80001\n\
-- 6.read.3.1 2001:db8:1:0:0:0:0:0/48 1:100:-:0:1:o0,p(65001),n2001:db8:0:0:0:0:0:1\n\
-- 6.outf.3.1 2001:db8:1:0:0:0:0:0/48 o0,p(65001),n2001:db8:0:0:0:0:0:1,l100\n\
-- 6.adv.3.1 2001:db8:1:0:0:0:0:0/48 o0,p(65001),n2001:db8:0:0:0:0:0:1,l100\n\
-out 3 ffffffffffffffffffffffffffffffff0024020000000d800f0a0002013020010db80001\n\
-e 6.read.2.1\n\
-e 6.outf.2.1\n\
-e 6.adv.2.1\n";
 
 /// Whether the turns came to what they should: of those behind the announcement only the walk's first one says something, and it
 /// passes over the prefix of groups; the withdrawal says something at once.

@@ -90,6 +90,6 @@ pub fn peer_of(task: Task) -> u32
     match task {
         Task::Del(number, _) => number,
         Task::Fin(number) | Task::Nh(number) | Task::Out(number) | Task::Ref(number) => number,
-        Task::ReadRib | Task::Rdel(_, _) | Task::Red | Task::Ext => 0,
+        _ => 0,
     }
 }

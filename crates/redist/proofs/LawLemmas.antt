@@ -19,21 +19,10 @@ has_what_is_put s Rip on = refl
 
 pub others_stay_put : OthersStayPut
 others_stay_put s Connected Connected on apart = absurd (apart refl)
-others_stay_put s Connected Static on apart = refl
-others_stay_put s Connected Ospf on apart = refl
-others_stay_put s Connected Rip on apart = refl
-others_stay_put s Static Connected on apart = refl
 others_stay_put s Static Static on apart = absurd (apart refl)
-others_stay_put s Static Ospf on apart = refl
-others_stay_put s Static Rip on apart = refl
-others_stay_put s Ospf Connected on apart = refl
-others_stay_put s Ospf Static on apart = refl
 others_stay_put s Ospf Ospf on apart = absurd (apart refl)
-others_stay_put s Ospf Rip on apart = refl
-others_stay_put s Rip Connected on apart = refl
-others_stay_put s Rip Static on apart = refl
-others_stay_put s Rip Ospf on apart = refl
 others_stay_put s Rip Rip on apart = absurd (apart refl)
+others_stay_put s proto other on apart = refl
 
 pub makes_none : NothingOfNothing
 makes_none me on q = refl

@@ -2,7 +2,7 @@
 use Rattle.std.proofs.Common.{◌≡◌, ℕ, Bool, true, false, List, [], Option, Some, None, refl, ap, subst, ◌∙◌}
 use Rattle.journal_text.specs.Lines.{Line}
 use Rattle.event_text.specs.Event.{Event}
-use Rattle.event_text.specs.declared.event.Event.TheVariants.{Nothing, FilterIn, FilterOut, RouteAdd, RouteDel, Lose, Redist, Cover, Settled, Work, Ask, Show}
+use Rattle.event_text.specs.declared.event.Event.TheVariants.{Nothing, FilterIn, FilterOut, RouteAdd, RouteDel, Lose, Redist, Work, Query}
 use Rattle.event_text.specs.declared.event.FileEvent.{FileEvent}
 use Rattle.event_text.specs.Declarations.{Declaration}
 use Rattle.event_text.specs.FileEvents.{is_of_one}
@@ -32,11 +32,8 @@ none_told d (RouteAdd p row) own = (refl, refl)
 none_told d (RouteDel proto p) own = (refl, refl)
 none_told d (Lose proto) own = (refl, refl)
 none_told d (Redist proto on) own = (refl, refl)
-none_told d (Cover addr) own = (refl, refl)
-none_told d (Settled p) own = (refl, refl)
 none_told d (Work task n) own = (refl, refl)
-none_told d (Ask link p) own = (refl, refl)
-none_told d (Show link) own = (refl, refl)
+none_told d (Query question) own = (refl, refl)
 none_told d other own = absurd (cc)
 
 joined_behind : (idle : Bool) (own own6 : List Line) (all : List FamilyLine) → idle ≡ false → AreJoined idle own own6 all → OneBehindOther own own6 all

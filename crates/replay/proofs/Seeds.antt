@@ -176,11 +176,7 @@ module _ (c : ℕ) (d : Declaration) (r : Ready c d) where
   after (drawn.Withdraw k x) = after_octets k (withdraw_octets x) (peer_at k d.peers)
   after (drawn.Down k) = after_down k (peer_at k d.peers)
   after (drawn.Up k) = after_up k (peer_at k d.peers)
-  after (drawn.Prefer k n) = stays
-  after (drawn.AddHost k n) = stays
-  after (drawn.DeleteHost k) = stays
-  after (drawn.Work task n) = stays
-  after drawn.Idle = stays
+  after other = stays
 
   -- a declared peer
   there : (k : ℕ) → 1 ≤ k → k ≤ 4 → (p : DeclaredPeer) × (peer_at k d.peers ≡ Some p)

@@ -31,9 +31,6 @@ set_fib others rows hops hops' int int' = same_function _ _ each
   where
     each : (link : Link) → with_link (beside others (links_of rows hops int)) Fib (Some (fib_rows (fib_table hops' int' (merged_links rows)))) link ≡ beside others (links_of rows hops' int') link
     each Ebgp = refl
-    each Ibgp = refl
-    each Ext = refl
-    each Fib = refl
     each other = refl
 
 -- what comes out on `fib` leads on
@@ -74,18 +71,12 @@ module _ (others : Links Value) (rows now : Parted) (hops hops' : Resolving Way)
   all_set sides.Ebgp same = same_function _ _ each
     where
       each : (link : Link) → on_fib sides.Ebgp link ≡ beside others (links_of now hops' int) link
-      each Ebgp = refl
       each Ibgp = ap (λ (r : Rows External). Some (external_rows r)) (sym same)
-      each Ext = refl
-      each Fib = refl
       each other = refl
   all_set sides.Ibgp same = same_function _ _ each
     where
       each : (link : Link) → on_fib sides.Ibgp link ≡ beside others (links_of now hops' int) link
       each Ebgp = ap (λ (r : Rows External). Some (external_rows r)) (sym same)
-      each Ibgp = refl
-      each Ext = refl
-      each Fib = refl
       each other = refl
 
   pub part_leads : (link : BgpLink) (p : AddressPrefix) (change : Change External) (caused : Caused) → IsSentOn link rows now p change

@@ -13,7 +13,7 @@ use Rattle.link_change.specs.declared.turn.Turn.TheVariants.{Nothing, Quiet, Sen
 use Rattle.loss_chain.specs.Covering.{IsLeastRow}
 use Rattle.journal_text.specs.declared.link.Link.TheVariants.{Org}
 use Rattle.journal_text.specs.declared.link.Task.{Task}
-use Rattle.journal_text.specs.declared.link.Task.TheVariants.{Del, Fin, Nh, ReadRib, Out, Rdel, Red, Ext, Ref}
+use Rattle.journal_text.specs.declared.link.Task.TheVariants.{Rdel}
 use Rattle.journal_text.specs.Lines.{Value}
 use Rattle.journal_text.specs.Lines.{Entry}
 use Rattle.journal_text.specs.Journals.{Journaled, Adds}
@@ -68,14 +68,7 @@ pub record SweepsTree (old new : Treed) (proto : Proto) (n : ℕ) (sent : Option
 -- whether a task is one of the tree's and has work
 abbrev pub has_tree_turn : Treed → Task → Bool
 has_tree_turn t (Rdel proto n) = is_some (table_of n (branch_of proto t).tables.deletions)
-has_tree_turn t (Del k s) = false
-has_tree_turn t (Fin k) = false
-has_tree_turn t (Nh k) = false
-has_tree_turn t ReadRib = false
-has_tree_turn t Red = false
-has_tree_turn t Ext = false
-has_tree_turn t (Out k) = false
-has_tree_turn t (Ref k) = false
+has_tree_turn t other = false
 
 -- whether the lost table of a task still has a prefix, and one that holds an address
 abbrev pub tree_lags : Treed → Task → AddressPrefix → Bool
@@ -94,14 +87,7 @@ tree_holds_up t p addresses other = false
 -- a turn of a task of the tree
 abbrev pub TurnedTree : Treed → Treed → Task → Option (Change Interior) → List (Entry Value) → Type 0
 TurnedTree old new (Rdel proto n) sent entries = SweepsTree old new proto n sent entries
-TurnedTree old new (Del k s) sent entries = ⊥
-TurnedTree old new (Fin k) sent entries = ⊥
-TurnedTree old new (Nh k) sent entries = ⊥
-TurnedTree old new ReadRib sent entries = ⊥
-TurnedTree old new Red sent entries = ⊥
-TurnedTree old new Ext sent entries = ⊥
-TurnedTree old new (Out k) sent entries = ⊥
-TurnedTree old new (Ref k) sent entries = ⊥
+TurnedTree old new other sent entries = ⊥
 
 -- What a turn that came to this made of the tree and of the journal.
 abbrev pub IsTakenTree : Treed → Treed → Task → Journaled → Journaled → Turn Interior → Type 0
@@ -112,11 +98,4 @@ IsTakenTree old new task before now (Sent change) = Adds (TurnedTree old new tas
 -- a turn empties a table of its own protocol at most
 abbrev pub IsFullAfter : Task → Treed → Type 0
 IsFullAfter (Rdel proto n) t = IsFullBut proto t
-IsFullAfter (Del k s) t = IsFull t
-IsFullAfter (Fin k) t = IsFull t
-IsFullAfter (Nh k) t = IsFull t
-IsFullAfter ReadRib t = IsFull t
-IsFullAfter Red t = IsFull t
-IsFullAfter Ext t = IsFull t
-IsFullAfter (Out k) t = IsFull t
-IsFullAfter (Ref k) t = IsFull t
+IsFullAfter other t = IsFull t

@@ -169,14 +169,7 @@ impl<F: Texts> Tree<F> {
     {
         match task {
             Task::Rdel(proto, loss) => self.sweep(proto, loss, journal),
-            Task::Del(..)
-            | Task::Fin(..)
-            | Task::Nh(..)
-            | Task::ReadRib
-            | Task::Out(..)
-            | Task::Red
-            | Task::Ext
-            | Task::Ref(..) => Ok(Turn::Nothing),
+            _ => Ok(Turn::Nothing),
         }
     }
 

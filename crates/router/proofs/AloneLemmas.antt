@@ -6,7 +6,7 @@ use Rattle.bgp_attr.specs.declared.speaker.Profile.{Profile}
 use Rattle.journal_text.specs.declared.line.Code.{Code}
 use Rattle.journal_text.specs.declared.line.Code.TheVariants.{E4, E7, E9}
 use Rattle.event_text.specs.Event.{Event}
-use Rattle.event_text.specs.declared.event.Event.TheVariants.{Nothing, FilterIn, FilterOut, RouteAdd, RouteDel, Lose, Redist, Cover, Settled, Idle, Work, Ask, Show}
+use Rattle.event_text.specs.declared.event.Event.TheVariants.{Nothing, FilterIn, FilterOut, RouteAdd, RouteDel, Lose, Redist, Idle, Work, Query}
 use Rattle.event_text.specs.declared.event.FileEvent.TheVariants.{Second}
 use Rattle.event_text.specs.declared.declared.DeclaredPeer.{DeclaredPeer}
 use Rattle.event_text.specs.Declarations.{Declaration, refusal, refusal_at, refusal_by, IsDeclaredBy, IsDeclaration}
@@ -27,11 +27,8 @@ alone_by profile me me6 peers (RouteAdd p row) admitted formed own = record { ad
 alone_by profile me me6 peers (RouteDel proto p) admitted formed own = record { admitted = admitted; formed = formed; stays = refl }
 alone_by profile me me6 peers (Lose proto) admitted formed own = record { admitted = admitted; formed = formed; stays = refl }
 alone_by profile me me6 peers (Redist proto on) admitted formed own = record { admitted = admitted; formed = formed; stays = refl }
-alone_by profile me me6 peers (Cover a) admitted formed own = record { admitted = admitted; formed = formed; stays = refl }
-alone_by profile me me6 peers (Settled p) admitted formed own = record { admitted = admitted; formed = formed; stays = refl }
 alone_by profile me me6 peers (Work task n) admitted formed own = record { admitted = admitted; formed = formed; stays = refl }
-alone_by profile me me6 peers (Ask link p) admitted formed own = record { admitted = admitted; formed = formed; stays = refl }
-alone_by profile me me6 peers (Show link) admitted formed own = record { admitted = admitted; formed = formed; stays = refl }
+alone_by profile me me6 peers (Query question) admitted formed own = record { admitted = admitted; formed = formed; stays = refl }
 alone_by profile me me6 peers other admitted formed own = absurd (cc)
 
 -- where `local` was declared and IPv6 is spoken
@@ -49,11 +46,8 @@ in_first me peers (RouteAdd p row) v6 own e = e
 in_first me peers (RouteDel proto p) v6 own e = e
 in_first me peers (Lose proto) v6 own e = e
 in_first me peers (Redist proto on) v6 own e = e
-in_first me peers (Cover a) v6 own e = e
-in_first me peers (Settled p) v6 own e = e
 in_first me peers (Work task n) v6 own e = e
-in_first me peers (Ask link p) v6 own e = e
-in_first me peers (Show link) v6 own e = e
+in_first me peers (Query question) v6 own e = e
 in_first me peers other v6 own e = absurd (cc)
 
 pub second_may : SecondMayStand

@@ -16,7 +16,7 @@ use Rattle.router_moments.specs.Moments.{Moment, Cored, Gives, bound_of}
 use Rattle.router_moments.specs.Blocks.{Acts}
 use Rattle.router_moments.specs.Lives.{live_state}
 use Rattle.router_moments.specs.Stands.{CoreStands}
-use Rattle.router_moments.proofs.ProfileLemmas.{profile_after, profile_follows, family_follows}
+use Rattle.router_moments.proofs.ProfileLemmas.{profile_after, profile_follows, family_follows, whole_spoken}
 use Rattle.router.specs.Ties.{AreTied}
 use Rattle.router.specs.Networks.{BothStand}
 use Rattle.router.specs.Steps.{AreJoined, is_idle, idle_lines, CountsIdle, BothAct, GivesBoth, GivesSecond}
@@ -135,9 +135,7 @@ both_idle m m' m6 m6' turns turns6 all before j1 j2 j3 j4 now first fits bounded
 
 -- ---- what stands then
 v6_stays : (profile : Profile) (event : Event) → (profile_after profile event).v6 ≡ profile.v6
-v6_stays profile events.As4 = refl
-v6_stays profile events.Revised = refl
-v6_stays profile events.Reflect = refl
+v6_stays profile (events.Whole word) = whole_spoken word profile
 v6_stays profile other = refl
 
 pub one_stands : (c c' : Cored) (event : Event) → BothStand c None → CoreStands c' → c'.moment.declared ≡ declared_after c.moment.declared event → BothStand c' None

@@ -6,7 +6,7 @@ use Rattle.bgp_attr.specs.Speakers.{Speaker}
 use Rattle.bgp_attr.specs.declared.speaker.Profile.{Profile}
 use Rattle.journal_text.specs.declared.line.Code.{Code}
 use Rattle.event_text.specs.Event.{Event}
-use Rattle.event_text.specs.declared.event.Event.TheVariants.{Nothing, As4, Revised, Reflect, Local, Peer, Up, Down, Bgp, FilterIn, FilterOut, RouteAdd, RouteDel, Lose, Redist, Cover, Settled, Idle, Work, Ask, Show}
+use Rattle.event_text.specs.declared.event.Event.TheVariants.{Nothing, Whole, Local, Peer, Up, Down, Bgp, Idle}
 use Rattle.event_text.specs.declared.declared.DeclaredPeer.{DeclaredPeer}
 use Rattle.event_text.specs.Declarations.{Declaration, peer_at, has_addr, to_peers, peer_refusal, session_refusal, undeclared, refusal, with_session, without_session, ended_at}
 use Rattle.event_text.specs.WellFormed.{IsWellFormed}
@@ -127,9 +127,7 @@ module _ (law : SessionsEndInBoth) (profile : Profile) (me : Speaker) (addr : �
   by_parts : (event : Event) → refusal d event ≡ None → IsWellFormed false profile event → MayBeTold d d6 event
   unfolding refusal
   by_parts Nothing admitted formed = none Nothing refl refl
-  by_parts As4 admitted formed = absurd (cc)
-  by_parts Revised admitted formed = absurd (cc)
-  by_parts Reflect admitted formed = absurd (cc)
+  by_parts (Whole word) admitted formed = absurd (cc)
   by_parts (Local words) admitted formed = absurd (cc)
   by_parts (Peer k words client) admitted formed = record {
     admitted = declared6 me (to_peers true (with_addr addr me)) peers k words client refl refl (addable_by false me peers k words client admitted) formed.1.host;
@@ -139,18 +137,8 @@ module _ (law : SessionsEndInBoth) (profile : Profile) (me : Speaker) (addr : �
   by_parts (Up k) admitted formed = up_peer k (peer_at k peers) refl admitted formed
   by_parts (Down k) admitted formed = down_peer k (peer_at k peers) refl admitted formed
   by_parts (Bgp k octets) admitted formed = by_peer k octets (peer_at k peers) refl admitted formed
-  by_parts (FilterIn k rules) admitted formed = none _ refl refl
-  by_parts (FilterOut k rules) admitted formed = none _ refl refl
-  by_parts (RouteAdd p row) admitted formed = none _ refl refl
-  by_parts (RouteDel proto p) admitted formed = none _ refl refl
-  by_parts (Lose proto) admitted formed = none _ refl refl
-  by_parts (Redist proto on) admitted formed = none _ refl refl
-  by_parts (Cover a) admitted formed = none _ refl refl
-  by_parts (Settled p) admitted formed = none _ refl refl
   by_parts Idle admitted formed = record { admitted = refl; formed = tt; tied = tied peers }
-  by_parts (Work task n) admitted formed = none _ refl refl
-  by_parts (Ask link p) admitted formed = none _ refl refl
-  by_parts (Show link) admitted formed = none _ refl refl
+  by_parts other admitted formed = none _ refl refl
 
 -- declarations with the same parts are the same
 pub one_declaration : (d : Declaration) (v6 : Bool) (profile : Profile) (speaker : Option Speaker) (peers : List DeclaredPeer) → d.v6 ≡ v6 → d.profile ≡ profile → d.speaker ≡ speaker → d.peers ≡ peers
@@ -211,21 +199,4 @@ pub told_in_two : ToldInTwo
 told_in_two d (Up k) = up_at_once (declared_after d (Up k)) k (peer_at k d.peers)
 told_in_two d (Down k) = down_at_once (declared_after d (Down k)) k (peer_at k d.peers)
 told_in_two d (Bgp k octets) = message_in_two d k octets (peer_at k d.peers) refl
-told_in_two d Nothing = refl
-told_in_two d As4 = refl
-told_in_two d Revised = refl
-told_in_two d Reflect = refl
-told_in_two d (Local words) = refl
-told_in_two d (Peer k words client) = refl
-told_in_two d (FilterIn k rules) = refl
-told_in_two d (FilterOut k rules) = refl
-told_in_two d (RouteAdd p row) = refl
-told_in_two d (RouteDel proto p) = refl
-told_in_two d (Lose proto) = refl
-told_in_two d (Redist proto on) = refl
-told_in_two d (Cover a) = refl
-told_in_two d (Settled p) = refl
-told_in_two d Idle = refl
-told_in_two d (Work task n) = refl
-told_in_two d (Ask link p) = refl
-told_in_two d (Show link) = refl
+told_in_two d other = refl

@@ -2,7 +2,7 @@
 use Rattle.std.specs.Prelude.{◌≡◌, ℕ, true, false, not, if◌then◌else◌, List, Option, Some, None}
 use Rattle.bgp_attr.specs.Speakers.{Speaker}
 use Rattle.event_text.specs.Event.{Event}
-use Rattle.event_text.specs.declared.event.Event.TheVariants.{Nothing, As4, Revised, Reflect, Local, Peer, Up, Down, Bgp, FilterIn, FilterOut, RouteAdd, RouteDel, Lose, Redist, Cover, Settled, Idle, Work, Ask, Show}
+use Rattle.event_text.specs.declared.event.Event.TheVariants.{Nothing, Local, Peer, Up, Down, Bgp, Idle}
 use Rattle.event_text.specs.declared.event.FileEvent.{FileEvent}
 use Rattle.event_text.specs.declared.event.FileEvent.TheVariants.{First, Local6, Second}
 use Rattle.event_text.specs.declared.declared.DeclaredPeer.{DeclaredPeer}
@@ -34,27 +34,12 @@ told_message d k octets (Some p) =
 
 -- Both have the peers, their sessions and their messages, and are idle together; of all else the second is told nothing.
 abbrev pub told : Declaration → Event → Event
-told d Nothing = Nothing
-told d As4 = Nothing
-told d Revised = Nothing
-told d Reflect = Nothing
-told d (Local words) = Nothing
 told d (Peer k words client) = Peer k words client
 told d (Up k) = told_up k (peer_at k d.peers)
 told d (Down k) = told_down k (peer_at k d.peers)
 told d (Bgp k octets) = told_message d k octets (peer_at k d.peers)
-told d (FilterIn k rules) = Nothing
-told d (FilterOut k rules) = Nothing
-told d (RouteAdd p row) = Nothing
-told d (RouteDel proto p) = Nothing
-told d (Lose proto) = Nothing
-told d (Redist proto on) = Nothing
-told d (Cover addr) = Nothing
-told d (Settled p) = Nothing
 told d Idle = Idle
-told d (Work task n) = Nothing
-told d (Ask link p) = Nothing
-told d (Show link) = Nothing
+told d other = Nothing
 
 -- ---- declarations
 -- the words of `local6`: this speaker by its address of IPv6

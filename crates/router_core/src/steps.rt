@@ -26,7 +26,7 @@ use addr4::Memory;
 use bgp_attr::{Octets, Profile};
 use bgp_wire::{Message, Notice, Said, read_message, write_notification};
 use decision::Contests;
-use event_text::{DeclaredPeer, Event, EventOf};
+use event_text::{DeclaredPeer, Event, EventOf, Question, QuestionOf};
 use journal_text::{Journal, Line};
 use router_network::{Network, ignored};
 use std::alloc::Global;
@@ -49,9 +49,7 @@ pub(crate) fn step<F: Hears>(
 {
     match event {
         Event::Nothing => network.nothing(journal),
-        Event::As4 => network.four_octets(journal),
-        Event::Revised => network.revised(journal),
-        Event::Reflect => network.reflect(journal),
+        Event::Whole(word) => network.whole_file(word, journal),
         Event::Local(words) => network.local(words, journal),
         Event::Peer(number, words, client) => network.peer(number, words, client, journal),
         Event::Up(number) => network.up(number, journal),
@@ -63,12 +61,30 @@ pub(crate) fn step<F: Hears>(
         Event::RouteDel(proto, p) => network.route_del(proto, p, contests, journal),
         Event::Lose(proto) => network.lose_protocol(proto, contests, journal),
         Event::Redist(proto, on) => network.redistribution(proto, on, journal),
-        Event::Cover(address) => network.cover(address, journal),
-        Event::Settled(p) => network.settled(p, contests, journal),
         Event::Idle => network.idle_turns(contests, journal),
         Event::Work(task, most) => network.work(task, most, contests, journal),
-        Event::Ask(link, p) => network.look_up(link, p, contests, journal),
-        Event::Show(link) => network.list(link, contests, journal),
+        Event::Query(question) => answer(network, question, contests, journal),
+    }
+}
+
+/// Answers a question; nothing changes by it.
+fn answer<F: Hears>(
+    network: &mut Network<F>,
+    question: QuestionOf<F>,
+    contests: &Contests<F>,
+    journal: &mut Journal<F>,
+) -> Result<u128, Memory>
+    requires admitted { refusal network.old.declared (events.Query question) ≡ None }
+    requires stands { Stands network.old }
+    requires exits { AllHaveExits network.old }
+    requires informed { Informed contests.now network.old }
+    ensures { IfOk result (λ turns. Gives (HasStepped network.old (events.Query question) turns network.new) journal.old journal.new) }
+{
+    match question {
+        Question::Cover(address) => network.cover(address, journal),
+        Question::Settled(p) => network.settled(p, contests, journal),
+        Question::Ask(link, p) => network.look_up(link, p, contests, journal),
+        Question::Show(link) => network.list(link, contests, journal),
     }
 }
 

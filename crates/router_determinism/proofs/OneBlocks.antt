@@ -3,13 +3,15 @@ use Rattle.router_moments.proofs.Common.{with_queue, ◌+◌, int_rows, bound_of
 use Rattle.std.proofs.Common.{[], ◌∷◌, length, map, Option, Some, None, is_some}
 use Rattle.std.specs.FinMap as tables
 use Rattle.journal_text.specs.declared.line.Line.TheVariants as lines
-use Rattle.event_text.specs.declared.event.Event.TheVariants.{Nothing, As4, Revised, Reflect, Local, Peer, Up, Down, Bgp, FilterIn, FilterOut, RouteAdd, RouteDel, Lose, Redist, Cover, Settled, Idle, Work, Ask, Show}
+use Rattle.event_text.specs.Event.{Question}
+use Rattle.event_text.specs.declared.event.Event.TheVariants.{Nothing, Whole, Local, Peer, Up, Down, Bgp, FilterIn, FilterOut, RouteAdd, RouteDel, Lose, Redist, Idle, Work, Query}
+use Rattle.event_text.specs.declared.event.Question.TheVariants.{Cover, Settled, Ask, Show}
 use Rattle.bgp_wire.specs.Grammar.{EachHasOne}
 use Rattle.register_interest.specs.Width.{width}
 use Rattle.rib_tree.specs.Steps.{lost_tree, tree_loss_entries}
 use Rattle.register_interest.specs.Covers.{matched}
 use Rattle.router_moments.specs.Phases.{all_phases}
-use Rattle.router_moments.specs.Blocks.{Just, Hears, Localizes, Refilters, Redirects, LosesProtocol, CoversAddress, TellsSettled, Works, Idles, begun, declared_speaker}
+use Rattle.router_moments.specs.Blocks.{Answers, Just, Hears, Localizes, Refilters, Redirects, LosesProtocol, CoversAddress, TellsSettled, Works, Idles, begun, declared_speaker}
 use Rattle.router_determinism.specs.Parts.{PartsAreOne}
 use Rattle.router_determinism.proofs.OneRoutes.{route_is_one}
 use Rattle.router_determinism.proofs.OneRuns.{One, turns_are_one, as_many, phases_are_one, first_is_one}
@@ -109,6 +111,12 @@ module _ (laws : PartsAreOne) (m : Moment) (said other : List Line) (turns more 
   shown_one link (Some rows) f g =
       f.2 ∙ ap (λ (l : List (AddressPrefix × Value)). map (λ r. lines.Row link r.0 r.1) l ++ lines.Rows link (length l) ∷ []) (laws.listed rows f.0 g.0 f.1.order f.1.each f.1.all g.1.order g.1.each g.1.all) ∙ sym g.2
 
+  answered_one : (question : Question) → Answers question m said → Answers question m other → said ≡ other
+  answered_one (Cover addr) f g = covered_one addr f g
+  answered_one (Settled p) f g = told_one p f g
+  answered_one (Ask link p) f g = f ∙ sym g
+  answered_one (Show link) f g = shown_one link (router_links m link) f g
+
   -- ---- work
   idled_one : Idles m said turns m1 → Idles m other more m2 → OneStep said turns m1 other more m2
   idled_one f g =
@@ -124,9 +132,7 @@ module _ (laws : PartsAreOne) (m : Moment) (said other : List Line) (turns more 
   -- ---- a line for each kind of event
   pub block_is_one : EachHasOne → (event : Event) → IsWellFormed m.declared.v6 m.declared.profile event → IsBlock m event said turns m1 → IsBlock m event other more m2 → OneStep said turns m1 other more m2
   block_is_one law Nothing formed f g = just_one _ _ said other turns more m1 m2 f g
-  block_is_one law As4 formed f g = just_one _ _ said other turns more m1 m2 f g
-  block_is_one law Revised formed f g = just_one _ _ said other turns more m1 m2 f g
-  block_is_one law Reflect formed f g = just_one _ _ said other turns more m1 m2 f g
+  block_is_one law (Whole word) formed f g = just_one _ _ said other turns more m1 m2 f g
   block_is_one law (Local words) formed f g = no_turns said other turns more m1 m2 f.0 g.0 (local_one words f.1 g.1)
   block_is_one law (Peer k words client) formed f g = declared_one m.declared.speaker k words client f g
   block_is_one law (Up k) formed f g = by_peer _ _ _ (peer_at k m.declared.peers) (λ p at. up_one p.up k p) f g
@@ -138,9 +144,6 @@ module _ (laws : PartsAreOne) (m : Moment) (said other : List Line) (turns more 
   block_is_one law (RouteDel proto p) formed f g = dropped_one (is_some (tables.get (branch_of proto m.tree).tables.live p)) proto p f g
   block_is_one law (Lose proto) formed f g = no_turns said other turns more m1 m2 f.0 g.0 (lost_one proto f.1 g.1)
   block_is_one law (Redist proto on) formed f g = just_one _ _ said other turns more m1 m2 f g
-  block_is_one law (Cover addr) formed f g = (covered_one addr f.2 g.2, f.0 ∙ sym g.0, f.1 ∙ sym g.1)
-  block_is_one law (Settled p) formed f g = (told_one p f.2 g.2, f.0 ∙ sym g.0, f.1 ∙ sym g.1)
   block_is_one law Idle formed f g = idled_one f g
   block_is_one law (Work task n) formed f g = worked_one task n f g
-  block_is_one law (Ask link p) formed f g = just_one _ _ said other turns more m1 m2 f g
-  block_is_one law (Show link) formed f g = (shown_one link (router_links m link) f.2 g.2, f.0 ∙ sym g.0, f.1 ∙ sym g.1)
+  block_is_one law (Query question) formed f g = (answered_one question f.2 g.2, f.0 ∙ sym g.0, f.1 ∙ sym g.1)

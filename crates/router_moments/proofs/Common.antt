@@ -24,11 +24,11 @@ pub use Rattle.bgp_wire.specs.declared.message.Update.{Update}
 pub use Rattle.decision.proofs.LawLemmas.{best_is_a_branchs}
 pub use Rattle.decision.specs.Branches.{best_rows}
 pub use Rattle.event_text.proofs.Sessions.{begun_words}
-pub use Rattle.event_text.specs.Declarations.{peer_at, Declaration, with_session, with_four_octets, with_revised, with_reflection, without_session, begun_at, refusal_at}
+pub use Rattle.event_text.specs.Declarations.{peer_at, Declaration, with_session, with_whole, without_session, begun_at, refusal_at}
 pub use Rattle.event_text.specs.WellFormed.{IsWellFormed}
 pub use Rattle.event_text.specs.declared.declared.DeclaredPeer.{DeclaredPeer}
 pub use Rattle.event_text.specs.Event.{Event}
-pub use Rattle.event_text.specs.declared.event.Event.TheVariants.{Down, Bgp, RouteAdd, RouteDel, Lose, Cover, Settled, Work, As4, Revised, Reflect, Up, Redist}
+pub use Rattle.event_text.specs.declared.event.Event.TheVariants.{Down, Bgp, RouteAdd, RouteDel, Lose, Query, Work, Whole, Up, Redist}
 pub use Rattle.exit_laws.proofs.HearLemmas.{unheard_joins}
 pub use Rattle.exit_laws.proofs.OtherLemmas.{others_are_unheard}
 pub use Rattle.exit_laws.specs.Printable.{ArePrintableExits, AreBestRows}
@@ -71,7 +71,7 @@ pub use Rattle.link_change.specs.Turns.{Turn}
 pub use Rattle.link_region.specs.Regions.{joined, with_side, Sides, LeadsIn, region_of}
 pub use Rattle.link_region.specs.declared.regions.Region.{Region}
 pub use Rattle.link_region.specs.declared.regions.Region.TheVariants.{Decided, Inward, Redistributed, Resolved, Outward, InteriorRoutes, Forward}
-pub use Rattle.live_state.proofs.AdmittedLemmas.{speaker_since, as4_is_first, revised_is_first, reflect_is_first}
+pub use Rattle.live_state.proofs.AdmittedLemmas.{speaker_since, whole_is_first}
 pub use Rattle.live_state.specs.Declared.{declared_after}
 pub use Rattle.live_state.specs.Lives.{LiveState}
 pub use Rattle.live_state.specs.Messages.{changes_of, Says, announced_with, withdrawn_from}

@@ -1,11 +1,11 @@
 -- Each peer that is up has an exit, after each event as before it.
-use Rattle.router_moments.proofs.Common.{sym, subst, ◌∙◌, ap, ◌≡◌, ℕ, refl, List, true, arith, false, ◌+◌, Bool, ◌++◌, cond, nat_eq, not, ◌≢◌, ◌&&◌, nat_tests, AddressPrefix, Route, Speaker, Message, begun_words, peer_at, Declaration, with_session, without_session, begun_at, DeclaredPeer, Event, Down, Bgp, RouteAdd, RouteDel, Lose, Cover, Settled, Work, As4, Revised, Reflect, Up, Redist, Exited, with_exit, Queued, Line, as4_is_first, revised_is_first, reflect_is_first, declared_after, changes_of, OutChained, overdue_at, Rule, Proto, tree_overdue, ByPeer, IsBlock, BeginsIf, EndsIf, HearsIf, Declares, BySpeaker, Begins, DropsRouteIf, Moment, with_exits, rules_to, all_phases, Stands, AllHaveExits, HaveSameExits}
+use Rattle.router_moments.proofs.Common.{sym, subst, ◌∙◌, ap, ◌≡◌, ℕ, refl, List, true, arith, false, ◌+◌, Bool, ◌++◌, cond, nat_eq, not, ◌≢◌, ◌&&◌, nat_tests, AddressPrefix, Route, Speaker, Message, begun_words, peer_at, Declaration, with_session, without_session, begun_at, DeclaredPeer, Event, Down, Bgp, RouteAdd, RouteDel, Lose, Query, Work, Whole, Up, Redist, Exited, with_exit, Queued, Line, whole_is_first, declared_after, changes_of, OutChained, overdue_at, Rule, Proto, tree_overdue, ByPeer, IsBlock, BeginsIf, EndsIf, HearsIf, Declares, BySpeaker, Begins, DropsRouteIf, Moment, with_exits, rules_to, all_phases, Stands, AllHaveExits, HaveSameExits}
 use Rattle.std.proofs.Common.{[], ◌∷◌, map, Option, Some, None, is_some}
 use Rattle.std.specs.Prelude.{IsSome, option_map}
 use Rattle.std.specs.FinMap as tables
 use Rattle.bgp_wire.specs.declared.message.Message.TheVariants as messages
 use Rattle.link_region.proofs.RegionLemmas.{by_bool}
-use Rattle.event_text.specs.declared.event.Event.TheVariants.{Nothing, Local, Peer, FilterIn, FilterOut, Idle, Ask, Show}
+use Rattle.event_text.specs.declared.event.Event.TheVariants.{Nothing, Local, Peer, FilterIn, FilterOut, Idle}
 use Rattle.event_text.specs.Declarations.{refusal, words_of, ended_at}
 use Rattle.event_text.proofs.Sessions.{KeepsWords, ended_words}
 use Rattle.live_state.specs.Messages.{ends_session}
@@ -186,9 +186,7 @@ module _ (m m' : Moment) (stands : Stands m) (all : AllHaveExits m) where
 
   pub event_exits : (event : Event) (said : List Line) (turns : ℕ) → refusal m.declared event ≡ None → m'.declared ≡ declared_after m.declared event → IsBlock m event said turns m' → AllHaveExits m'
   event_exits Nothing said turns admitted declared is = stays is.2
-  event_exits As4 said turns admitted declared is = unpeered (no_peer m stands (as4_is_first m.declared admitted)) (ap (λ (x : Moment). x.declared.peers) is.2)
-  event_exits Revised said turns admitted declared is = unpeered (no_peer m stands (revised_is_first m.declared admitted)) (ap (λ (x : Moment). x.declared.peers) is.2)
-  event_exits Reflect said turns admitted declared is = unpeered (no_peer m stands (reflect_is_first m.declared admitted)) (ap (λ (x : Moment). x.declared.peers) is.2)
+  event_exits (Whole word) said turns admitted declared is = unpeered (no_peer m stands (whole_is_first m.declared word admitted)) (ap (λ (x : Moment). x.declared.peers) is.2)
   event_exits (Local words) said turns admitted declared is = by_same m m' all (λ j up. subst (IsUpIn j) declared up) (λ k. ap (λ (x : Moment). is_some (exit_at k x.exits)) is.1.after)
   event_exits (Peer k words client) said turns admitted declared is = declares m.declared.speaker k words client said turns is
   event_exits (Up k) said turns admitted declared is = by_peer (λ p. BeginsIf p.up m k p said turns m') k _ (λ p at begins. begun_if p.up k p said turns at begins) is
@@ -204,9 +202,6 @@ module _ (m m' : Moment) (stands : Stands m) (all : AllHaveExits m) where
   event_exits (Lose proto) said turns admitted declared is = by_same m m' all (λ j up. subst (IsUpIn j) declared up)
       (λ k. ap (λ (x : Moment). is_some (exit_at k x.exits)) is.1.after ∙ first_same (tree_overdue proto m.tree) m is.1.first is.1.room stands is.1.runs k)
   event_exits (Redist proto on) said turns admitted declared is = by_same m m' all (λ j up. subst (IsUpIn j) declared up) (exits_same m m' (ap (λ (x : Moment). x.exits) is.2))
-  event_exits (Cover addr) said turns admitted declared is = stays is.1
-  event_exits (Settled p) said turns admitted declared is = stays is.1
   event_exits Idle said turns admitted declared is = by_same m m' all (λ j up. subst (IsUpIn j) declared up) (phases_same all_phases m is.inner turns m' stands is.runs)
   event_exits (Work task n) said turns admitted declared is = by_same m m' all (λ j up. subst (IsUpIn j) declared up) (turns_same turns task m is.inner m' stands is.taken)
-  event_exits (Ask link p) said turns admitted declared is = stays is.2
-  event_exits (Show link) said turns admitted declared is = stays is.1
+  event_exits (Query question) said turns admitted declared is = stays is.1

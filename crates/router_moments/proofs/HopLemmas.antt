@@ -54,8 +54,6 @@ leads_resolved m me r h e p entries best since live leads sent queued =
     (best_leads m.declared.speaker me (best_of m) (best_at (own_of m) m.chains h) p best since sent (gone_on m h) refl)))
   where
     each : (s : Region) → with_side (gone_on m h) Decided (best_links m.declared.speaker (best_at (own_of m) m.chains h)) s ≡ parts (with_exits (with_hops m r h) e) s
-    each Resolved = refl
-    each Decided = refl
     each External = sym (queue_external m.exits e best m.reader (best_of m) (best_at (own_of m) m.chains h) p live queued sent)
     each Outward = sym (queue_links m.exits e best (best_of m) (best_at (own_of m) m.chains h) p queued sent)
     each other = refl
@@ -102,7 +100,6 @@ falls_lead m me fallen cs r h e p entries resolved weld best since live falls go
     after = subst (λ (rows : Rows Route). IsSent (best_of m) rows p best) (sym kept) sent
 
     each : (s : Region) → welded_side m fallen h cs s ≡ parts (with_exits (with_hops (with_chains m cs) r h) e) s
-    each Inward = refl
     each Resolved = ap (hop_links h) (sym same)
     each Decided = ap (best_links m.declared.speaker) (sym kept)
     each External = sym (queue_external m.exits e best m.reader (best_of m) (best_at (own_of m) cs h) p live queued after)

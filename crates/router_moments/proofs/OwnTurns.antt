@@ -132,8 +132,6 @@ own_works m said m' stands t = one_turn phases.Red m now m' said t.after (keeps_
     reached = with_side (with_side (parts m) Redistributed (own_links m.declared.speaker (own_of now))) Decided (best_links m.declared.speaker (best_of now))
 
     each : (r : Region) → reached r ≡ parts now r
-    each Redistributed = refl
-    each Decided = refl
     each External = sym (queue_external m.exits m'.exits t.decided.best m.reader (best_of m) (best_of now) sent.0 (reader_live m stands) t.queued chosen)
     each Outward = sym (queue_links m.exits m'.exits t.decided.best (best_of m) (best_of now) sent.0 t.queued chosen)
     each other = refl

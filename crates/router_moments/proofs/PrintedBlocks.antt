@@ -1,5 +1,5 @@
 -- What each event says can be printed, and so can what stands behind it.
-use Rattle.router_moments.proofs.Common.{sym, subst, ◌∙◌, ap, ◌≡◌, ℕ, refl, List, true, arith, false, ◌+◌, Bool, ◌++◌, ◌≤◌, cond, ◌<◌, nat_eq, not, ◌&&◌, IfSome, get-empty, AllByRecursion, nat_cmp, AddressPrefix, is_host_prefix, Attrs, Neighbour, Profile, Speaker, AreOctets, Message, Update, peer_at, Declaration, with_four_octets, with_revised, with_reflection, IsWellFormed, DeclaredPeer, Event, Down, Bgp, RouteAdd, RouteDel, Lose, Cover, Settled, Work, As4, Revised, Reflect, Up, Redist, ArePrintableExits, resolver_at, Chained, IsPrefixOf, AllHaveMetrics, IsFit, words_in, printing, Printing, IsPrinted, AreTablesOf, IsInteriorRow, IsPrintableChain, HaveWays, IsNameNumber, Line, Link, Task, Value, Rows, is_empty_map, speaker_since, as4_is_first, revised_is_first, reflect_is_first, LiveState, changes_of, Says, announced_with, withdrawn_from, all_both, table_of, Hop, Resolving, Metric, OutChained, put_each, chain_at, overdue_at, has_turn_in, Rule, width, Proto, Connected, Static, Ospf, Rip, Interior, put_all, Branch, way_of_route, tree_overdue, fed_tree, int_rows, branch_of, ByPeer, IsBlock, BeginsIf, EndsIf, HearsIf, Declares, BySpeaker, Begins, DropsRouteIf, answer_lines, Shows, Moment, router_links, with_exits, rules_to, all_phases, ArePrinted, IsPrintableMoment, Stands, ExitsAt, journal_lines, has_work, FallsRoute}
+use Rattle.router_moments.proofs.Common.{sym, subst, ◌∙◌, ap, ◌≡◌, ℕ, refl, List, true, arith, false, ◌+◌, Bool, ◌++◌, ◌≤◌, cond, ◌<◌, nat_eq, not, ◌&&◌, IfSome, get-empty, AllByRecursion, nat_cmp, AddressPrefix, is_host_prefix, Attrs, Neighbour, Profile, Speaker, AreOctets, Message, Update, peer_at, Declaration, with_whole, IsWellFormed, DeclaredPeer, Event, Down, Bgp, RouteAdd, RouteDel, Lose, Query, Work, Whole, Up, Redist, ArePrintableExits, resolver_at, Chained, IsPrefixOf, AllHaveMetrics, IsFit, words_in, printing, Printing, IsPrinted, AreTablesOf, IsInteriorRow, IsPrintableChain, HaveWays, IsNameNumber, Line, Link, Task, Value, Rows, is_empty_map, speaker_since, whole_is_first, LiveState, changes_of, Says, announced_with, withdrawn_from, all_both, table_of, Hop, Resolving, Metric, OutChained, put_each, chain_at, overdue_at, has_turn_in, Rule, width, Proto, Connected, Static, Ospf, Rip, Interior, put_all, Branch, way_of_route, tree_overdue, fed_tree, int_rows, branch_of, ByPeer, IsBlock, BeginsIf, EndsIf, HearsIf, Declares, BySpeaker, Begins, DropsRouteIf, answer_lines, Shows, Moment, router_links, with_exits, rules_to, all_phases, ArePrinted, IsPrintableMoment, Stands, ExitsAt, journal_lines, has_work, FallsRoute}
 use Rattle.std.proofs.Common.{◌^◌, ◌==◌, [], ◌∷◌, map, Option, Some, None, IsSome, is_some}
 use Rattle.std.specs.Prelude.{filter, length}
 use Rattle.std.proofs.lemmas.List.Elements.{All-nil}
@@ -10,7 +10,11 @@ use Rattle.addr4.specs.Families.{bits_of, IsAddress}
 use Rattle.bgp_wire.specs.declared.message.Message.TheVariants as messages
 use Rattle.bgp_wire.proofs.ReadableLaws.{Every, all_every, every_filter}
 use Rattle.bgp_wire.proofs.ReadableMessages.{read_is_readable}
-use Rattle.event_text.specs.declared.event.Event.TheVariants.{Nothing, Local, Peer, FilterIn, FilterOut, Idle, Ask, Show}
+use Rattle.event_text.specs.Event.{Question}
+use Rattle.event_text.specs.WellFormed.{IsQuestion}
+use Rattle.event_text.specs.declared.event.Event.TheVariants.{Nothing, Local, Peer, FilterIn, FilterOut, Idle}
+use Rattle.event_text.specs.declared.event.Question.TheVariants.{Cover, Settled, Ask, Show}
+use Rattle.router_moments.specs.Blocks.{Answers}
 use Rattle.event_text.specs.Declarations.{refusal}
 use Rattle.register_interest.specs.Covers.{matched, longest, IsLongest}
 use Rattle.register_interest.proofs.CoverLemmas.{longest_is}
@@ -46,7 +50,7 @@ use Rattle.exit_laws.proofs.ResendLemmas.{refresh_is_printed}
 use Rattle.exit_laws.proofs.PrintLemmas.{beginning_is_printed, end_is_printed}
 use Rattle.router_moments.proofs.SessionLemmas.{silenced}
 use Rattle.router_moments.proofs.BeforeLocal.{no_chain}
-use Rattle.router_moments.proofs.ProfileLemmas.{profile_after, nothing_printable}
+use Rattle.router_moments.proofs.ProfileLemmas.{profile_after, nothing_printable, whole_second}
 use Rattle.router_moments.proofs.PrintedTurns.{Goes, IsSaid, feeds_go, route_prints, turns_go, phases_go, first_goes}
 use Rattle.router_moments.proofs.PrintedMoments.{IsShown, shown, known_at, named_by, session_named, chain_fit, tree_fit}
 use Rattle.router_moments.proofs.TurnLaws.{first_works}
@@ -370,6 +374,12 @@ module _ (m : Moment) (stands : Stands m) (printable : IsPrintableMoment m) wher
     dropped_if false proto p said turns m' since prefix is = just _ m said turns m' is (stays _ m refl (ignored, tt))
     dropped_if true proto p said turns m' since prefix is = fed proto p None said m' since prefix tt is.1
 
+    answered : (question : Question) (said : List Line) → IsQuestion m.declared.v6 question → Answers question m said → Printed said
+    answered (Cover addr) said formed is = covered addr said formed is
+    answered (Settled p) said formed is = settled p said formed is
+    answered (Ask link p) said formed is = subst Printed (sym is) (asked link p formed.0 formed.1 (router_links m link) refl)
+    answered (Show link) said formed is = listed link formed (router_links m link) refl said is
+
     -- before `local` nothing stands that could be printed
     profiled_printed : (profile : Profile) (said : List Line) (turns : ℕ) (m' : Moment) → profile.second ≡ m.declared.v6 → m.declared.speaker ≡ None → Just [] (profiled m profile) said turns m' → Leaves profile (printing m.declared) m' said
     profiled_printed profile said turns m' family first is =
@@ -383,9 +393,7 @@ module _ (m : Moment) (stands : Stands m) (printable : IsPrintableMoment m) wher
         }))
 
     pub event_printed : (event : Event) (said : List Line) (turns : ℕ) (m' : Moment) → refusal m.declared event ≡ None → IsWellFormed m.declared.v6 m.declared.profile event → IsBlock m event said turns m' → Leaves (profile_after m.declared.profile event) (printing m.declared) m' said
-    event_printed As4 said turns m' admitted formed is = profiled_printed (with_four_octets m.declared.profile) said turns m' printable.exits.family (as4_is_first m.declared admitted) is
-    event_printed Revised said turns m' admitted formed is = profiled_printed (with_revised m.declared.profile) said turns m' printable.exits.family (revised_is_first m.declared admitted) is
-    event_printed Reflect said turns m' admitted formed is = profiled_printed (with_reflection m.declared.profile) said turns m' printable.exits.family (reflect_is_first m.declared admitted) is
+    event_printed (Whole word) said turns m' admitted formed is = profiled_printed (with_whole word m.declared.profile) said turns m' (whole_second word m.declared.profile ∙ printable.exits.family) (whole_is_first m.declared word admitted) is
     event_printed Nothing said turns m' admitted formed is = just [] m said turns m' is (stays [] m refl tt)
     event_printed (Local words) said turns m' admitted formed is =
         let l = is.1 in
@@ -405,8 +413,6 @@ module _ (m : Moment) (stands : Stands m) (printable : IsPrintableMoment m) wher
     event_printed (RouteDel proto p) said turns m' admitted formed is = dropped_if _ proto p said turns m' (speaker_since m.declared (RouteDel proto p) (λ e. cc) admitted) formed is
     event_printed (Lose proto) said turns m' admitted formed is = protocol_lost proto said m' is.1
     event_printed (Redist proto on) said turns m' admitted formed is = just [] _ said turns m' is (record { chains = printable.chains; interior = printable.interior; hops = printable.hops; ways = printable.ways; exits = printable.exits; printed = tt })
-    event_printed (Cover addr) said turns m' admitted formed is = stays said m' is.1 (covered addr said formed is.2)
-    event_printed (Settled p) said turns m' admitted formed is = stays said m' is.1 (settled p said formed is.2)
     event_printed Idle said turns m' admitted formed is =
         let within = is.within in
         let fits = is.fits in
@@ -418,5 +424,4 @@ module _ (m : Moment) (stands : Stands m) (printable : IsPrintableMoment m) wher
         let most = is.most in
         let low = formed.1 in
         leaves said m' is.inner (turns_go turns task m is.inner m' stands is.taken) (λ inner. subst Printed (sym is.lines) (all_both (IsPrinted (printing m.declared)) is.inner (lines.Work turns ∷ []) inner (plain_printed (printing m.declared) (lines.Work turns) refl refl (omega (arith, most, low)), tt)))
-    event_printed (Ask link p) said turns m' admitted formed is = just _ m said turns m' is (stays _ m refl (asked link p formed.0 formed.1 (router_links m link) refl))
-    event_printed (Show link) said turns m' admitted formed is = stays said m' is.1 (listed link formed (router_links m link) refl said is.2)
+    event_printed (Query question) said turns m' admitted formed is = stays said m' is.1 (answered question said formed is.2)

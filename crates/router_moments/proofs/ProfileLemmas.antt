@@ -1,5 +1,7 @@
--- `as4` and `revised`: before `local` messages are read and written by another profile from now on, and nothing else changes.
-use Rattle.router_moments.proofs.Common.{sym, subst, ◌∙◌, ap, ◌≡◌, ℕ, refl, List, true, false, Bool, cond, ◌&&◌, get-empty, nat_cmp, Route, Printing, Profile, Speaker, peer_at, Declaration, with_session, with_four_octets, with_revised, with_reflection, without_session, DeclaredPeer, Event, Down, Bgp, As4, Revised, Reflect, Up, ArePrintableExits, unread_or_none, Journaled, flushed, Link, Adv, Read, Outf, Rows, Change, declared_after, OutChained, StandsOver, IsBlock, live_state, Moment, best_of, router_links, Gives, read_rows_by, read_of, read_by, Stands, ExitsAt, ReadsOn, MaySend, HasStepped}
+-- What lines say of the whole file: before `local` messages are read and written by another profile from now on, and nothing else changes.
+use Rattle.router_moments.proofs.Common.{sym, subst, ◌∙◌, ap, ◌≡◌, ℕ, refl, List, true, false, Bool, cond, ◌&&◌, get-empty, nat_cmp, Route, Printing, Profile, Speaker, peer_at, Declaration, with_session, with_whole, without_session, DeclaredPeer, Event, Down, Bgp, Whole, Up, ArePrintableExits, unread_or_none, Journaled, flushed, Link, Adv, Read, Outf, Rows, Change, declared_after, OutChained, StandsOver, IsBlock, live_state, Moment, best_of, router_links, Gives, read_rows_by, read_of, read_by, Stands, ExitsAt, ReadsOn, MaySend, HasStepped}
+use Rattle.event_text.specs.declared.event.WholeFile.{WholeFile}
+use Rattle.event_text.specs.declared.event.WholeFile.TheVariants.{As4, Revised, Reflect}
 use Rattle.std.proofs.Common.{not, [], Option, Some, None}
 use Rattle.std.specs.FinMap as tables
 use Rattle.journal_text.specs.declared.link.Link.TheVariants.{ReadRib}
@@ -17,22 +19,26 @@ use Rattle.router_moments.proofs.QueueLemmas.{exits_none}
 
 -- ---- the profile after an event
 abbrev pub profile_after : Profile → Event → Profile
-profile_after profile As4 = with_four_octets profile
-profile_after profile Revised = with_revised profile
-profile_after profile Reflect = with_reflection profile
+profile_after profile (Whole word) = with_whole word profile
 profile_after profile other = profile
 
 -- it is of the same family, and says as before whether IPv6 is spoken
+pub whole_second : (word : WholeFile) (profile : Profile) → (with_whole word profile).second ≡ profile.second
+whole_second As4 profile = refl
+whole_second Revised profile = refl
+whole_second Reflect profile = refl
+
+pub whole_spoken : (word : WholeFile) (profile : Profile) → (with_whole word profile).v6 ≡ profile.v6
+whole_spoken As4 profile = refl
+whole_spoken Revised profile = refl
+whole_spoken Reflect profile = refl
+
 pub second_follows : (profile : Profile) (event : Event) → (profile_after profile event).second ≡ profile.second
-second_follows profile As4 = refl
-second_follows profile Revised = refl
-second_follows profile Reflect = refl
+second_follows profile (Whole word) = whole_second word profile
 second_follows profile other = refl
 
 pub spoken_follows : (profile : Profile) (event : Event) → (profile_after profile event).v6 ≡ profile.v6
-spoken_follows profile As4 = refl
-spoken_follows profile Revised = refl
-spoken_follows profile Reflect = refl
+spoken_follows profile (Whole word) = whole_spoken word profile
 spoken_follows profile other = refl
 
 up_keeps : (d : Declaration) (k : ℕ) (o : Option DeclaredPeer) → d.profile ≡ (declared_up d k o).profile

@@ -35,7 +35,6 @@ interior_set m t quiet i s = each s i
     same = ap (λ (rows : Rows Route). best_at rows m.chains m.hops) own
 
     each : (s : Region) → with_side (parts m) InteriorRoutes (tree_by m.declared.speaker t) s ≡ parts (with_tree m t) s
-    each InteriorRoutes = refl
     each Redistributed = ap (own_links m.declared.speaker) own
     each Decided = ap (best_links m.declared.speaker) same
     each External = ap (read_links m.exits.queue m.reader) same

@@ -173,9 +173,6 @@ carries_change m t p change m1 entries stands sent f = record {
     forwarded = with_side chose Forward (external_links m1.rib (int_rows t))
 
     each : (region : Region) → forwarded region ≡ parts now region
-    each InteriorRoutes = refl
-    each Redistributed = refl
-    each Decided = refl
     each Resolved = sym (f.informed.resolvers.stays.links (filt_at m.chains))
     each Forward = ap (λ (o : Option Speaker). forward_by o m1.rib (int_rows t)) (sym f.local)
     each External = sym (queue_external m.exits m1.exits best m.reader (best_of m) (best_of now) p (reader_live m stands) f.own.queued chosen)

@@ -1,12 +1,12 @@
 -- Who asked for all routes again is served on by each event, and who asks is served from then on.
-use Rattle.router_moments.proofs.Common.{sym, subst, ◌∙◌, ap, ◌≡◌, ℕ, refl, List, true, false, arith, ◌+◌, Bool, ◌++◌, ◌≤◌, cond, AddressPrefix, Speaker, Message, Profile, peer_at, DeclaredPeer, Event, Down, Bgp, RouteAdd, RouteDel, Lose, Cover, Settled, Work, As4, Revised, Reflect, Up, Redist, Exited, Line, declared_after, changes_of, Attrs, OutChained, overdue_at, Proto, tree_overdue, ByPeer, IsBlock, BeginsIf, EndsIf, HearsIf, Declares, BySpeaker, Begins, DropsRouteIf, Moment, with_exits, rules_to, all_phases, Stands, journal_lines, FeedsAll, inl, inr, get-empty, nat_cmp, not}
+use Rattle.router_moments.proofs.Common.{sym, subst, ◌∙◌, ap, ◌≡◌, ℕ, refl, List, true, false, arith, ◌+◌, Bool, ◌++◌, ◌≤◌, cond, AddressPrefix, Speaker, Message, Profile, peer_at, DeclaredPeer, Event, Down, Bgp, RouteAdd, RouteDel, Lose, Query, Work, Whole, Up, Redist, Exited, Line, declared_after, changes_of, Attrs, OutChained, overdue_at, Proto, tree_overdue, ByPeer, IsBlock, BeginsIf, EndsIf, HearsIf, Declares, BySpeaker, Begins, DropsRouteIf, Moment, with_exits, rules_to, all_phases, Stands, journal_lines, FeedsAll, inl, inr, get-empty, nat_cmp, not}
 use Rattle.std.proofs.Common.{[], ◌∷◌, Option, Some, None, append_assoc}
 use Rattle.bgp_wire.specs.declared.message.RouteRefresh.{RouteRefresh}
 use Rattle.bgp_wire.specs.declared.notice.Notice.{Notice}
 use Rattle.bgp_wire.specs.declared.message.Message.TheVariants as messages
 use Rattle.bgp_wire.specs.Grammar.{is_served, Reads, Answers}
 use Rattle.bgp_wire.proofs.MessageLaws.{one_answer}
-use Rattle.event_text.specs.declared.event.Event.TheVariants.{Nothing, Local, Peer, FilterIn, FilterOut, Idle, Ask, Show}
+use Rattle.event_text.specs.declared.event.Event.TheVariants.{Nothing, Local, Peer, FilterIn, FilterOut, Idle}
 use Rattle.journal_text.specs.declared.line.Line.TheVariants as lines
 use Rattle.exit_side.specs.Exits.{chain_at as exit_at, no_exits, refreshed_exits}
 use Rattle.exit_laws.specs.Served.{IsServed}
@@ -117,9 +117,7 @@ module _ (m m' : Moment) (stands : Stands m) (j s : ℕ) (begun : HasBegun j s m
 
   block_serves : (event : Event) (said : List Line) (turns : ℕ) → IsBlock m event said turns m' → Serve said
   block_serves Nothing said turns is = same_moment said is.2
-  block_serves As4 said turns is = profiled_none _ said (ap (λ (x : Moment). x.exits) is.2)
-  block_serves Revised said turns is = profiled_none _ said (ap (λ (x : Moment). x.exits) is.2)
-  block_serves Reflect said turns is = profiled_none _ said (ap (λ (x : Moment). x.exits) is.2)
+  block_serves (Whole word) said turns is = profiled_none _ said (ap (λ (x : Moment). x.exits) is.2)
   block_serves (Local words) said turns is = stays said (ap (λ (x : Moment). x.exits.chains) is.1.after)
   block_serves (Peer k words client) said turns is = declares m.declared.speaker k words client said turns is
   block_serves (Up k) said turns is = by_peer (λ p. BeginsIf p.up m k p said turns m') k (Serve said) (λ p at begins. begun_if p.up k p said turns at begins) is
@@ -134,12 +132,9 @@ module _ (m m' : Moment) (stands : Stands m) (j s : ℕ) (begun : HasBegun j s m
       let last = others_serve is.1.room.exits m'.exits _ (ap (λ (x : Moment). x.exits.chains) is.1.after) j s (since ++ is.1.first) first.served in
       subst (IsServed j s m'.exits) (append_assoc since is.1.first _ ∙ ap (λ (ls : List Line). since ++ ls) (sym is.1.lines)) last
   block_serves (Redist proto on) said turns is = stays said (ap (λ (x : Moment). x.exits.chains) is.2)
-  block_serves (Cover addr) said turns is = same_moment said is.1
-  block_serves (Settled p) said turns is = same_moment said is.1
   block_serves Idle said turns is = by_turns said (subst (λ (ls : List Line). ServesOn m ls m') (sym is.lines) (idle_serves m m' (lines.Bound (bound_of m)) (lines.Idle turns) is.inner all_phases turns stands is.runs))
   block_serves (Work task n) said turns is = by_turns said (serves_then m m' m' is.inner (lines.Work turns ∷ []) said (turns_serve turns task m is.inner m' stands is.taken) (just_said m' (lines.Work turns)) is.lines)
-  block_serves (Ask link p) said turns is = same_moment said is.2
-  block_serves (Show link) said turns is = same_moment said is.1
+  block_serves (Query question) said turns is = same_moment said is.1
 
 pub event_serves : (m m' : Moment) (event : Event) (said : List Line) (turns : ℕ) → Stands m → m'.declared ≡ declared_after m.declared event → IsBlock m event said turns m' → ServesOn m said m'
 event_serves m m' event said turns stands declared is j s since was = record {

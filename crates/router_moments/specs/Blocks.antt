@@ -20,11 +20,12 @@ use Rattle.journal_text.specs.Lines.{Line}
 use Rattle.journal_text.specs.declared.line.Line.TheVariants as lines
 use Rattle.journal_text.specs.Walk.{Leads}
 use Rattle.journal_text.specs.Texts.{entries_of}
-use Rattle.event_text.specs.Event.{Event}
-use Rattle.event_text.specs.declared.event.Event.TheVariants.{Nothing, As4, Revised, Reflect, Local, Peer, Up, Down, Bgp, FilterIn, FilterOut, RouteAdd, RouteDel, Lose, Redist, Cover, Settled, Idle, Work, Ask, Show}
+use Rattle.event_text.specs.Event.{Event, Question}
+use Rattle.event_text.specs.declared.event.Event.TheVariants.{Nothing, Whole, Local, Peer, Up, Down, Bgp, FilterIn, FilterOut, RouteAdd, RouteDel, Lose, Redist, Idle, Work, Query}
+use Rattle.event_text.specs.declared.event.Question.TheVariants.{Cover, Settled, Ask, Show}
 use Rattle.event_text.specs.declared.declared.DeclaredPeer.{DeclaredPeer}
 use Rattle.policy_rules.specs.Rules.{Rule}
-use Rattle.event_text.specs.Declarations.{peer_at, words_of, with_four_octets, with_revised, with_reflection, with_speaker, with_peer, with_session, without_session}
+use Rattle.event_text.specs.Declarations.{peer_at, words_of, with_whole, with_speaker, with_peer, with_session, without_session}
 use Rattle.std.specs.FinMap as tables
 use Rattle.rib_route.specs.declared.Proto.{Proto}
 use Rattle.rib_route.specs.declared.Proto.TheVariants.{Connected, Static, Ospf, Rip}
@@ -226,6 +227,13 @@ Shows link (Some rows) said =
     (listed : List (AddressPrefix × Value)) × AreRows rows listed
     × (said ≡ map (λ r. lines.Row link r.0 r.1) listed ++ lines.Rows link (length listed) ∷ []) × (length listed < 2 ^ 128)
 
+-- what is said to a question
+abbrev pub Answers : Question → Moment → List Line → Type 0
+Answers (Cover addr) m said = CoversAddress addr m said
+Answers (Settled p) m said = TellsSettled p m said
+Answers (Ask link p) m said = said ≡ answer_lines link p (router_links m link)
+Answers (Show link) m said = Shows link (router_links m link) said
+
 -- so many turns, at most n, and fewer only where the task then has no work
 pub record Works (task : Task) (n : ℕ) (m : Moment) (said : List Line) (turns : ℕ) (m' : Moment) : Type 0 where
   pub inner : List Line
@@ -251,9 +259,7 @@ ByPeer P (Some p) = P p
 
 abbrev pub IsBlock : Moment → Event → List Line → ℕ → Moment → Type 0
 IsBlock m Nothing said turns m' = Just [] m said turns m'
-IsBlock m As4 said turns m' = Just [] (profiled m (with_four_octets m.declared.profile)) said turns m'
-IsBlock m Revised said turns m' = Just [] (profiled m (with_revised m.declared.profile)) said turns m'
-IsBlock m Reflect said turns m' = Just [] (profiled m (with_reflection m.declared.profile)) said turns m'
+IsBlock m (Whole word) said turns m' = Just [] (profiled m (with_whole word m.declared.profile)) said turns m'
 IsBlock m (Local words) said turns m' = (turns ≡ 0) × Localizes words m said m'
 IsBlock m (Peer k words client) said turns m' = Declares m m.declared.speaker k words client said turns m'
 IsBlock m (Up k) said turns m' = ByPeer (λ p. BeginsIf p.up m k p said turns m') (peer_at k m.declared.peers)
@@ -265,12 +271,9 @@ IsBlock m (RouteAdd p row) said turns m' = (turns ≡ 0) × AddsRoute p row m sa
 IsBlock m (RouteDel proto p) said turns m' = DropsRouteIf (is_some (tables.get (branch_of proto m.tree).tables.live p)) proto p m said turns m'
 IsBlock m (Lose proto) said turns m' = (turns ≡ 0) × LosesProtocol proto m said m'
 IsBlock m (Redist proto on) said turns m' = Just [] (with_redist m (edited m.redist (with_proto (present m.redist) proto on))) said turns m'
-IsBlock m (Cover addr) said turns m' = (turns ≡ 0) × (m' ≡ m) × CoversAddress addr m said
-IsBlock m (Settled p) said turns m' = (turns ≡ 0) × (m' ≡ m) × TellsSettled p m said
 IsBlock m Idle said turns m' = Idles m said turns m'
 IsBlock m (Work task n) said turns m' = Works task n m said turns m'
-IsBlock m (Ask link p) said turns m' = Just (answer_lines link p (router_links m link)) m said turns m'
-IsBlock m (Show link) said turns m' = (turns ≡ 0) × (m' ≡ m) × Shows link (router_links m link) said
+IsBlock m (Query question) said turns m' = (turns ≡ 0) × (m' ≡ m) × Answers question m said
 
 -- An event was stepped: its lines are as its block says, its entries obey the rules of the journal and lead from the links
 -- before it to those after it, the live state is what the events alone make of it, and what holds between two steps holds. Each

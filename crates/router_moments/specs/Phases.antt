@@ -1,5 +1,5 @@
 -- How many turns are left, phase by phase, and how many an idle takes from a phase on.
-use Rattle.std.specs.Prelude.{ℕ, length, Option, None, Some, is_some, Bool, true, false, ◌+◌, ◌*◌, List, [], ◌∷◌}
+use Rattle.std.specs.Prelude.{ℕ, length, Option, None, Some, is_some, Bool, true, false, ◌+◌, ◌*◌, List, [], ◌∷◌, take}
 use Rattle.bgp_attr.specs.Attributes.{Attrs}
 use Rattle.policy_rules.specs.Rules.{Rule}
 use Rattle.pass_core.specs.Passed.{Walked}
@@ -49,6 +49,18 @@ sent_in e = sum_by (λ c. tables.len c.sent) (tables.values e.chains)
 -- the phases of an idle, in their order
 abbrev pub all_phases : List Phase
 all_phases = Rdel ∷ Red ∷ Del ∷ Fin ∷ Nh ∷ ReadRib ∷ Out ∷ Ext ∷ Ref ∷ []
+
+-- how many of them come before a phase
+abbrev pub phase_place : Phase → ℕ
+phase_place Rdel = 0
+phase_place Red = 1
+phase_place Del = 2
+phase_place Fin = 3
+phase_place Nh = 4
+phase_place ReadRib = 5
+phase_place Out = 6
+phase_place Ext = 7
+phase_place Ref = 8
 
 -- how many changes of `best` the forwarding side hasn't read
 abbrev pub unread_if : Queued Route → Option ℕ → List (Change Route)
@@ -174,10 +186,7 @@ changes_left Red m = own_sends m
 changes_left Del m = counts m Del
 changes_left Fin m = fin_sends m.chains
 changes_left Nh m = nh_sends (beyonds m.chains) m.hops
-changes_left ReadRib m = 0
-changes_left Out m = 0
-changes_left Ext m = 0
-changes_left Ref m = 0
+changes_left other m = 0
 
 -- how many turns an idle takes at most from a phase on
 abbrev pub left_from : Phase → Moment → ℕ
@@ -193,12 +202,4 @@ left_from Ref m = counts m Ref
 
 -- the phases before this one, to which its turns add nothing
 abbrev pub earlier : Phase → List Phase
-earlier Rdel = []
-earlier Red = Rdel ∷ []
-earlier Del = Rdel ∷ Red ∷ []
-earlier Fin = Rdel ∷ Red ∷ Del ∷ []
-earlier Nh = Rdel ∷ Red ∷ Del ∷ Fin ∷ []
-earlier ReadRib = Rdel ∷ Red ∷ Del ∷ Fin ∷ Nh ∷ []
-earlier Out = Rdel ∷ Red ∷ Del ∷ Fin ∷ Nh ∷ ReadRib ∷ []
-earlier Ext = Rdel ∷ Red ∷ Del ∷ Fin ∷ Nh ∷ ReadRib ∷ Out ∷ []
-earlier Ref = Rdel ∷ Red ∷ Del ∷ Fin ∷ Nh ∷ ReadRib ∷ Out ∷ Ext ∷ []
+earlier r = take (phase_place r) all_phases

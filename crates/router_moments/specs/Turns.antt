@@ -337,10 +337,7 @@ rise_bound phases.Red m = 2 * tree_count m.tree
 rise_bound phases.Del m = rows_in m.chains
 rise_bound phases.Fin m = 2 * rows_in m.chains
 rise_bound phases.Nh m = 2 * rows_in m.chains
-rise_bound phases.ReadRib m = 0
-rise_bound phases.Out m = 0
-rise_bound phases.Ext m = 0
-rise_bound phases.Ref m = 0
+rise_bound other m = 0
 
 -- no stage of the phase stands, no walk of it is on, and no next hop has work
 abbrev pub IsOver : Phase → Moment → Type 0

@@ -1,13 +1,12 @@
 -- The rows and candidates of all branches, as they are lent to the decision: what a step of the router moves, and what it leaves.
-use Rattle.router_moments.proofs.Common.{sym, subst, ◌∙◌, ap, ◌≡◌, ℕ, refl, true, arith, false, Bool, ◌≤◌, cond, ◌<◌, suc, zero, nat_eq, ◌≢◌, nat_tests, no_table, AddressPrefix, Route, Speaker, Declaration, resolver_at, Resolvers, rows_by, PeerRows, res_at, ComesOn, IsSent, Rows, no_rows, CoversRows, Candidates, Change, Resolving, Metric, Passed, Protos, redistributed, function_at, Chained, chain_at, Chains, filt_at, filt_by, put_chain, Interior, int_rows, Treed, int_candidates, own_rows, lent_rows, Moment, own_of}
+use Rattle.router_moments.proofs.Common.{sym, subst, ◌∙◌, ap, ◌≡◌, ℕ, refl, true, arith, false, Bool, ◌≤◌, cond, ◌<◌, suc, zero, nat_eq, ◌≢◌, nat_tests, no_table, AddressPrefix, Route, Speaker, Declaration, resolver_at, Resolvers, rows_by, PeerRows, res_at, ComesOn, IsSent, Rows, no_rows, CoversRows, Candidates, Change, Resolving, Metric, Passed, Protos, redistributed, function_at, Chained, chain_at, Chains, filt_at, filt_by, put_chain, Interior, int_rows, Treed, own_rows, lent_rows, Moment, own_of}
 use Rattle.std.proofs.Common.{Option, Some, None, nat_lt}
-use Rattle.link_change.specs.Rows.{with_rows}
 use Rattle.link_region.proofs.RegionLemmas.{by_bool}
 use Rattle.loss_chain.proofs.TableLemmas.{equal_by, other_by}
 use Rattle.in_chain.proofs.CandidateLemmas.{candidates_cover_rows}
 use Rattle.peer_side.proofs.PutLemmas.{put_here, put_other}
 use Rattle.router_moments.specs.Bests.{lent_candidates, candidates_by}
-use Rattle.router_network.specs.Informed.{rows_over, branch_rows, branch_candidates}
+use Rattle.router_network.specs.Informed.{rows_over, branch_rows, branch_candidates, counted_over}
 
 is_low : (b : ℕ) → b < 65 → nat_lt b 65 ≡ true
 is_low b low = grind (arith, nat_tests)
@@ -81,11 +80,14 @@ module _ (m : Moment) (d : Declaration) (t : Treed) (s : Passed Protos) (a : Cha
       ap (λ (x : Declaration). lent_rows (own_rows x.speaker s (int_rows t)) a h) declared ∙ ap (λ (x : Treed). lent_rows (own_rows m.declared.speaker s (int_rows x)) a h) tree
       ∙ ap (λ (x : Passed Protos). lent_rows (own_rows m.declared.speaker x (int_rows m.tree)) a h) redist ∙ ap (λ (x : Chains). lent_rows (own_of m) x h) chains ∙ ap (lent_rows (own_of m) m.chains) hops
 
-  pub lent_candidates_are : lent_candidates (int_candidates t) a ≡ branch_candidates m
-  lent_candidates_are = ap (λ (x : Treed). lent_candidates (int_candidates x) a) tree ∙ ap (lent_candidates (int_candidates m.tree)) chains
+module _ (m : Moment) (d : Declaration) (t : Treed) (s : Passed Protos) (a : Chains) (declared : d ≡ m.declared) (tree : t ≡ m.tree) (redist : s ≡ m.redist) (chains : a ≡ m.chains) where
+  pub counted_are : counted_over (own_rows d.speaker s (int_rows t)) a ≡ branch_candidates m
+  counted_are =
+      ap (λ (x : Declaration). counted_over (own_rows x.speaker s (int_rows t)) a) declared ∙ ap (λ (x : Treed). counted_over (own_rows m.declared.speaker s (int_rows x)) a) tree
+      ∙ ap (λ (x : Passed Protos). counted_over (own_rows m.declared.speaker x (int_rows m.tree)) a) redist ∙ ap (counted_over (own_of m)) chains
 
 -- ---- rows stand at candidates
-own_covered : (s : Option Speaker) (passed : Passed Protos) (int : Rows Interior) (q : AddressPrefix) → int q ≡ None → own_rows s passed int q ≡ None
+pub own_covered : (s : Option Speaker) (passed : Passed Protos) (int : Rows Interior) (q : AddressPrefix) → int q ≡ None → own_rows s passed int q ≡ None
 own_covered None passed int q none = refl
 own_covered (Some me) passed int q none = subst (λ (o : Option Interior). redistributed me (function_at passed q) q o ≡ None) (sym none) refl
 
@@ -97,9 +99,9 @@ filt_covered : (o : Option Chained) (q : AddressPrefix) → candidates_by o q �
 filt_covered None q none = refl
 filt_covered (Some c) q none = candidates_cover_rows c q none
 
-pub lent_covered : (s : Option Speaker) (passed : Passed Protos) (int : Rows Interior) (a : Chains) (h : Resolvers) (b : ℕ) → CoversRows (lent_candidates (with_rows int) a b) (lent_rows (own_rows s passed int) a h b)
-lent_covered s passed int a h zero q none = own_covered s passed int q (no_table (int q) none)
-lent_covered s passed int a h (suc b) q none = res_covered (resolver_at (suc b) h) _ q (filt_covered (cond (nat_lt (suc b) 65) (chain_at (suc b) a) None) q none)
+pub lent_covered : (own : Rows Route) (a : Chains) (h : Resolvers) (b : ℕ) → CoversRows (counted_over own a b) (lent_rows own a h b)
+lent_covered own a h zero q none = no_table (own q) none
+lent_covered own a h (suc b) q none = res_covered (resolver_at (suc b) h) _ q (filt_covered (cond (nat_lt (suc b) 65) (chain_at (suc b) a) None) q none)
 
 -- ---- candidates
 pub candidates_here : (int : Candidates) (a : Chains) (k : ℕ) → k ≢ 0 → k ≤ 64 → lent_candidates int a k ≡ candidates_by (chain_at k a)

@@ -1,7 +1,8 @@
 -- A step of a peer's chain: its candidate comes or goes, and what the decision's state knows behind it.
-use Rattle.router_moments.proofs.Common.{sym, subst, ◌∙◌, ap, ◌≡◌, ℕ, refl, List, true, arith, false, Bool, ◌≤◌, ◌<◌, ◌≢◌, AddressPrefix, Attrs, Route, IsSent, CoversRows, Candidates, Change, Chained, fed, welded, filt_candidates, chain_at, Chains, filt_at, filt_by, put_chain, Task, Entry, Value, own_of, Moment, with_chains, Stands, SettlesPeer, int_candidates, Turn, Journaled, Line, sent_of}
+use Rattle.router_moments.proofs.Common.{sym, subst, ◌∙◌, ap, ◌≡◌, ℕ, refl, List, true, arith, false, Bool, ◌≤◌, ◌<◌, ◌≢◌, AddressPrefix, Attrs, Route, IsSent, CoversRows, Candidates, Change, Chained, fed, welded, filt_candidates, chain_at, Chains, filt_at, filt_by, put_chain, Task, Entry, Value, own_of, Moment, with_chains, Stands, SettlesPeer, Turn, Journaled, Line, sent_of}
 use Rattle.std.proofs.Common.{Option, Some, None, is_some, IsSome}
 use Rattle.std.specs.FinMap as tables
+use Rattle.link_change.specs.Rows.{with_rows}
 use Rattle.link_change.specs.declared.turn.Turn.TheVariants as turns
 use Rattle.addr4.proofs.PrefixOrder.{by_prefix}
 use Rattle.decision.specs.Branches.{AllRows}
@@ -14,10 +15,10 @@ use Rattle.in_chain.proofs.CandidateLemmas.{candidates_cover_rows, feeds_keep_ot
 use Rattle.peer_side.specs.Peers.{peer_of}
 use Rattle.peer_side.specs.Steps.{FeedsInward, TakesInward, ComesInward, WeldsInward, LosesInward, EditsInward, Changes}
 use Rattle.peer_side.proofs.WeldLemmas.{fallen_at}
-use Rattle.router_moments.specs.Bests.{lent_candidates, candidates_by}
+use Rattle.router_moments.specs.Bests.{candidates_by}
 use Rattle.router_moments.specs.Blocks.{ended}
 use Rattle.router_moments.specs.Works.{Ends}
-use Rattle.router_network.specs.Informed.{Contested, Informed, KnowsAbove, KeepsPrefix, KeepsCounts, Shifts, ShiftsAt, HasShift, HasShifted, shifted, branch_rows, branch_candidates}
+use Rattle.router_network.specs.Informed.{Contested, Informed, KnowsAbove, KeepsPrefix, KeepsCounts, Shifts, ShiftsAt, HasShift, HasShifted, shifted, branch_rows, branch_candidates, counted_over}
 use Rattle.router_network.proofs.BranchRows.{lent_over, quiet_rows, candidates_here, candidates_beside, candidates_kept}
 use Rattle.router_network.proofs.Counting.{kept_there, sent_there, covers_at, not_both_none}
 use Rattle.router_network.proofs.KnownRows.{informed_as, informed_same, branch_covered}
@@ -34,14 +35,14 @@ module _ (m : Moment) (k : ℕ) (c : Chained) (stands : Stands m) (at : chain_at
   is_small = let small = numbers.1 in omega (arith, small)
 
   pub candidate_is : branch_candidates m k ≡ filt_candidates c
-  candidate_is = candidates_here (int_candidates m.tree) m.chains k is_peer numbers.1 ∙ ap candidates_by at
+  candidate_is = candidates_here (with_rows (own_of m)) m.chains k is_peer numbers.1 ∙ ap candidates_by at
 
   -- once its chain has become another
   pub candidate_then : (less : Chained) (fallen : Chains) → fallen ≡ put_chain k less m.chains → branch_candidates (with_chains m fallen) k ≡ filt_candidates less
-  candidate_then less fallen put = candidates_here (int_candidates m.tree) fallen k is_peer numbers.1 ∙ ap candidates_by (fallen_at k m.chains fallen less put)
+  candidate_then less fallen put = candidates_here (with_rows (own_of m)) fallen k is_peer numbers.1 ∙ ap candidates_by (fallen_at k m.chains fallen less put)
 
   beside : (less : Chained) (fallen : Chains) → fallen ≡ put_chain k less m.chains → (b : ℕ) → b ≢ k → branch_candidates (with_chains m fallen) b ≡ branch_candidates m b
-  beside less fallen put b apart = ap (λ (a : Chains). lent_candidates (int_candidates m.tree) a b) put ∙ candidates_beside (int_candidates m.tree) m.chains k less b apart
+  beside less fallen put b apart = ap (λ (a : Chains). counted_over (own_of m) a b) put ∙ candidates_beside (with_rows (own_of m)) m.chains k less b apart
 
   -- a candidate moved at one prefix alone
   pub chain_shifts : (p : AddressPrefix) (had has : Bool) (less : Chained) (fallen : Chains) → fallen ≡ put_chain k less m.chains → filt_candidates c p ≡ had → filt_candidates less p ≡ has → ((q : AddressPrefix) → q ≢ p → filt_candidates less q ≡ filt_candidates c q)
@@ -63,7 +64,7 @@ module _ (m : Moment) (k : ℕ) (c : Chained) (stands : Stands m) (at : chain_at
 
   -- none moved
   pub candidates_stay : (less : Chained) (fallen : Chains) → fallen ≡ put_chain k less m.chains → filt_candidates less ≡ filt_candidates c → branch_candidates (with_chains m fallen) ≡ branch_candidates m
-  candidates_stay less fallen put same = ap (λ (a : Chains). lent_candidates (int_candidates m.tree) a) put ∙ candidates_kept (int_candidates m.tree) m.chains k less (same ∙ sym (ap candidates_by at))
+  candidates_stay less fallen put same = ap (λ (a : Chains). counted_over (own_of m) a) put ∙ candidates_kept (with_rows (own_of m)) m.chains k less (same ∙ sym (ap candidates_by at))
 
   -- what the state knows behind a fall, where it keeps the prefix of what came
   pub fallen_above : (sent : Option (Change Route)) (contests : Contested) (fallen : Chains) (p : AddressPrefix) → Changes k p sent m.chains fallen → Knows contests (branch_rows m) → KeepsPrefix sent contests → KnowsAbove k sent contests (with_chains m fallen)
@@ -79,7 +80,7 @@ module _ (m : Moment) (k : ℕ) (c : Chained) (stands : Stands m) (at : chain_at
 
 -- the weld behind a fall moves no candidate
 pub welds_keep : (k : ℕ) (m : Moment) (cs : Chains) (entries : List (Entry Value)) → WeldsInward k m.chains cs entries → branch_candidates (with_chains m cs) ≡ branch_candidates m
-welds_keep k m cs entries w = ap (λ (a : Chains). lent_candidates (int_candidates m.tree) a) w.welds.after ∙ candidates_kept (int_candidates m.tree) m.chains k (welded w.welds.chain) (welds_keep_candidates w.welds.chain ∙ sym (ap candidates_by w.welds.at))
+welds_keep k m cs entries w = ap (λ (a : Chains). counted_over (own_of m) a) w.welds.after ∙ candidates_kept (with_rows (own_of m)) m.chains k (welded w.welds.chain) (welds_keep_candidates w.welds.chain ∙ sym (ap candidates_by w.welds.at))
 
 pub settles_keep : (k : ℕ) (sent : Option (Change Route)) (m m' : Moment) (entries : List (Entry Value)) → SettlesPeer k sent m m' entries → branch_candidates m' ≡ branch_candidates m
 settles_keep k sent m m' entries s = ap branch_candidates s.after ∙ welds_keep k m m'.chains s.weld s.welds
@@ -226,12 +227,12 @@ taken_as task sent (turns.Sent change) a cs before j some is comes = (comes.0, s
 -- a session is lost
 pub loses_informed : (k session : ℕ) (contests : Contested) (m : Moment) (cs : Chains) (entries : List (Entry Value)) → LosesInward k session m.chains cs entries → Informed contests m → Informed contests (with_chains m cs)
 loses_informed k session contests m cs entries l = informed_as contests m (with_chains m cs) (quiet_rows (own_of m) m.chains cs m.hops l.quiet)
-    (ap (λ (a : Chains). lent_candidates (int_candidates m.tree) a) l.loses.after ∙ candidates_kept (int_candidates m.tree) m.chains k (lost session l.loses.chain) (losses_keep_candidates session l.loses.chain ∙ sym (ap candidates_by l.loses.at)))
+    (ap (λ (a : Chains). counted_over (own_of m) a) l.loses.after ∙ candidates_kept (with_rows (own_of m)) m.chains k (lost session l.loses.chain) (losses_keep_candidates session l.loses.chain ∙ sym (ap candidates_by l.loses.at)))
 
 -- the rules of a filter are edited
 pub edits_informed : (k : ℕ) (rules : List Rule) (contests : Contested) (m : Moment) (cs : Chains) → EditsInward k rules m.chains cs → Informed contests m → Informed contests (with_chains m cs)
 edits_informed k rules contests m cs e = informed_as contests m (with_chains m cs) (quiet_rows (own_of m) m.chains cs m.hops e.quiet)
-    (ap (λ (a : Chains). lent_candidates (int_candidates m.tree) a) e.edits.after ∙ candidates_kept (int_candidates m.tree) m.chains k (refiltered rules e.edits.chain) (edits_keep_candidates rules e.edits.chain ∙ sym (ap candidates_by e.edits.at)))
+    (ap (λ (a : Chains). counted_over (own_of m) a) e.edits.after ∙ candidates_kept (with_rows (own_of m)) m.chains k (refiltered rules e.edits.chain) (edits_keep_candidates rules e.edits.chain ∙ sym (ap candidates_by e.edits.at)))
 
 pub ends_informed : (k session : ℕ) (contests : Contested) (m m' : Moment) (said : List Line) → Ends k session m m' said → Informed contests m → Informed contests m'
 ends_informed k session contests m m' said e i =

@@ -19,24 +19,24 @@ module _ (change : Change Interior) (contests : Contested) (m m1 m2 : Moment) (e
   local = ap (λ (n : Moment). n.declared.speaker) (sym informs.after) ∙ own.local
 
   abbrev before : Rows Route
-  before = own_rows m.declared.speaker m.redist over.int
+  before = own_rows m.declared.speaker m.redist over.over.int
 
   abbrev now : Rows Route
   now = own_rows m.declared.speaker m.redist (int_rows m.tree)
 
-  moved : IsSent before now over.prefix follows.own
-  moved = subst (λ (s : Option Speaker). IsSent (own_rows s m.redist over.int) (own_rows s m.redist (int_rows m.tree)) over.prefix follows.own) (sym local) (follows.passed over.int (int_rows m.tree) over.prefix over.comes)
+  moved : IsSent before now over.over.prefix follows.own
+  moved = subst (λ (s : Option Speaker). IsSent (own_rows s m.redist over.over.int) (own_rows s m.redist (int_rows m.tree)) over.over.prefix follows.own) (sym local) (follows.passed over.over.int (int_rows m.tree) over.over.prefix over.over.comes)
 
   decides : DecidesTo 0 follows.own follows.decided.best (all_at now m.chains m1.hops)
   decides = subst (λ (rows : Rows Route). DecidesTo 0 follows.own follows.decided.best (all_at rows m.chains m1.hops)) (sym (own_rows_are m.declared.speaker own.me m.redist (int_rows m.tree) local)) follows.decided.decides
 
-  chosen : IsSent (best_at before m.chains m.hops) (best_at now m.chains m1.hops) over.prefix follows.decided.best
-  chosen = decides (all_at before m.chains m.hops) over.prefix
-      (own_comes follows.own before now m.chains m.hops m1.hops over.prefix moved (λ j. ap (λ (u : PeerRows). u j) (informs.informed.resolvers.stays.rows (filt_at m.chains))))
+  chosen : IsSent (best_at before m.chains m.hops) (best_at now m.chains m1.hops) over.over.prefix follows.decided.best
+  chosen = decides (all_at before m.chains m.hops) over.over.prefix
+      (own_comes follows.own before now m.chains m.hops m1.hops over.over.prefix moved (λ j. ap (λ (u : PeerRows). u j) (informs.informed.resolvers.stays.rows (filt_at m.chains))))
 
   -- what it has stays
   same : read_rows_by m2.exits.queue m.reader (best_at now m.chains m1.hops) ≡ read_rows_by m.exits.queue m.reader (best_at before m.chains m.hops)
-  same = queue_rows m.exits m2.exits follows.decided.best m.reader (best_at before m.chains m.hops) (best_at now m.chains m1.hops) over.prefix over.read.reader follows.queued chosen
+  same = queue_rows m.exits m2.exits follows.decided.best m.reader (best_at before m.chains m.hops) (best_at now m.chains m1.hops) over.over.prefix over.read.reader follows.queued chosen
 
   pub int_readers : HaveReaders m2
   int_readers = subst HaveReaders (sym (own.after ∙ ap (λ (n : Moment). with_exits n m2.exits) informs.after)) (record {

@@ -1,10 +1,9 @@
--- What the decision's state knows within a step: behind a change of `res.K` or `red`, of `filt.K`, and of `int`.
+-- What the decision's state knows within a step: behind a change of `res.K`, of `filt.K`, of `red` and of `int`.
 use Rattle.router_moments.proofs.CoreLemmas.{readers_of}
 use Rattle.router_moments.proofs.Common.{HaveReaders, get-empty, nat_cmp, cond, sym, subst, ◌∙◌, ap, ◌≡◌, ℕ, refl, List, true, arith, false, Bool, ◌≤◌, ◌<◌, suc, zero, ◌≢◌, AddressPrefix, Route, Speaker, Declaration, Exited, Resolvers, res_at, ComesOn, GoesOn, IsSent, Rows, CoversRows, Candidates, Change, Turn, Passed, Protos, passed_rows, redistributed, Chained, filt_rows, filt_candidates, chain_at, Chains, filt_at, filt_by, Registry, Interior, int_rows, Treed, int_candidates, own_rows, lent_rows, Moment, own_of, with_exits, with_hops, with_chains, with_redist, with_tree, Stands, Resolves, Entry, Value, Line, Proto, Journaled, sent_of}
 use Rattle.std.proofs.Common.{Option, Some, None, is_some, IsSome, nat_lt}
 use Rattle.std.specs.FinMap as tables
 use Rattle.loss_chain.proofs.TableLemmas.{other_by}
-use Rattle.link_change.specs.Rows.{with_rows}
 use Rattle.pass_core.specs.Turns.{IsPassedOn, Walks, IsWalked}
 use Rattle.link_change.specs.declared.turn.Turn.TheVariants as turns
 use Rattle.decision.specs.Branches.{AllRows}
@@ -12,17 +11,16 @@ use Rattle.decision.specs.Contests.{Knows, Counts, KnowsBefore}
 use Rattle.hop_side.specs.Steps.{TurnsBelow, ComesBelow}
 use Rattle.journal_text.specs.declared.link.Task.TheVariants.{Rdel}
 use Rattle.rib_tree.specs.Steps.{IsTakenTree, lost_tree}
-use Rattle.router_moments.specs.Works.{EndsProtocol}
+use Rattle.router_moments.specs.Works.{EndsProtocol, Informs}
 use Rattle.peer_side.specs.Steps.{WeldsInward}
-use Rattle.router_moments.specs.Bests.{lent_candidates, candidates_by}
+use Rattle.router_moments.specs.Bests.{candidates_by}
 use Rattle.router_moments.specs.Moments.{first_moment}
-use Rattle.rib_tree.proofs.NewLemmas.{int_empty}
 use Rattle.router_moments.specs.Turns.{ResolvesOn}
 use Rattle.router_moments.proofs.BestLemmas.{comes_none}
 use Rattle.router_moments.proofs.OwnTurns.{own_sent}
 use Rattle.router_moments.proofs.RibLinks.{own_rows_are}
-use Rattle.router_network.specs.Informed.{Contested, Informed, InformedOver, KnowsBut, KnowsAbove, KnowsOver, KeepsPrefix, KeepsCounts, rows_over, rows_over_int, branch_rows, branch_candidates}
-use Rattle.router_network.proofs.BranchRows.{lent_over, lent_are, lent_covered, quiet_rows, over_comes, own_moves}
+use Rattle.router_network.specs.Informed.{Contested, Informed, InformedOver, KnowsBut, KnowsAbove, KnowsOwn, KnowsOver, KeepsPrefix, KeepsCounts, rows_over, own_over, counted_over, branch_rows, branch_candidates}
+use Rattle.router_network.proofs.BranchRows.{lent_over, lent_are, lent_covered, quiet_rows, reached_rows, over_comes}
 use Rattle.router_network.proofs.Counting.{kept_there, not_both_none}
 
 -- ---- the same state of another moment
@@ -35,15 +33,22 @@ same_rows m m' speaker tree redist chains hops =
     ap (λ (x : Option Speaker). lent_rows (own_rows x m'.redist (int_rows m'.tree)) m'.chains m'.hops) speaker ∙ ap (λ (x : Treed). lent_rows (own_rows m.declared.speaker m'.redist (int_rows x)) m'.chains m'.hops) tree
     ∙ ap (λ (x : Passed Protos). lent_rows (own_rows m.declared.speaker x (int_rows m.tree)) m'.chains m'.hops) redist ∙ ap (λ (x : Chains). lent_rows (own_of m) x m'.hops) chains ∙ ap (lent_rows (own_of m) m.chains) hops
 
-pub same_candidates : (m m' : Moment) → m'.tree ≡ m.tree → m'.chains ≡ m.chains → branch_candidates m' ≡ branch_candidates m
-same_candidates m m' tree chains = ap (λ (x : Treed). lent_candidates (int_candidates x) m'.chains) tree ∙ ap (lent_candidates (int_candidates m.tree)) chains
+same_candidates : (m m' : Moment) → m'.declared.speaker ≡ m.declared.speaker → m'.tree ≡ m.tree → m'.redist ≡ m.redist → m'.chains ≡ m.chains → branch_candidates m' ≡ branch_candidates m
+same_candidates m m' speaker tree redist chains =
+    ap (λ (x : Option Speaker). counted_over (own_rows x m'.redist (int_rows m'.tree)) m'.chains) speaker ∙ ap (λ (x : Treed). counted_over (own_rows m.declared.speaker m'.redist (int_rows x)) m'.chains) tree
+    ∙ ap (λ (x : Passed Protos). counted_over (own_rows m.declared.speaker x (int_rows m.tree)) m'.chains) redist ∙ ap (counted_over (own_of m)) chains
 
 pub informed_same : (contests : Contested) (m m' : Moment) → m'.declared.speaker ≡ m.declared.speaker → m'.tree ≡ m.tree → m'.redist ≡ m.redist → m'.chains ≡ m.chains → m'.hops ≡ m.hops → Informed contests m → Informed contests m'
-informed_same contests m m' speaker tree redist chains hops i = informed_as contests m m' (same_rows m m' speaker tree redist chains hops) (same_candidates m m' tree chains) i
+informed_same contests m m' speaker tree redist chains hops i = informed_as contests m m' (same_rows m m' speaker tree redist chains hops) (same_candidates m m' speaker tree redist chains) i
+
+-- where this speaker's own rows are the same
+pub informed_own : (contests : Contested) (m : Moment) (own : Rows Route) → own ≡ own_of m → Informed contests m → (m' : Moment) → branch_rows m' ≡ lent_rows own m.chains m.hops → branch_candidates m' ≡ counted_over own m.chains → Informed contests m'
+informed_own contests m own same i m' rows candidates =
+    informed_as contests m m' (rows ∙ ap (λ (o : Rows Route). lent_rows o m.chains m.hops) same) (candidates ∙ ap (λ (o : Rows Route). counted_over o m.chains) same) i
 
 -- every row of a branch stands at a candidate
 pub branch_covered : (m : Moment) (b : ℕ) → CoversRows (branch_candidates m b) (branch_rows m b)
-branch_covered m = lent_covered m.declared.speaker m.redist (int_rows m.tree) m.chains m.hops
+branch_covered m = lent_covered (own_of m) m.chains m.hops
 
 -- ---- behind a change of `res.K` or `red`
 pub none_known : (k : ℕ) (sent : Option (Change Route)) (contests : Contested) (m : Moment) → sent ≡ None → KnowsBut k sent contests m → Knows contests (branch_rows m)
@@ -144,39 +149,37 @@ hop_but k c sent contests m r h entries stands at turn informed = record {
         by_candidate here true is = kept_there contests (branch_candidates m) k moved.0 (let n = numbers.1 in omega (arith, n)) informed.counts is
         by_candidate {change} here false is = absurd (not_both_none (branch_rows m k) (branch_rows (with_hops m r h) k) moved.0 change here (branch_covered m k moved.0 is) (branch_covered (with_hops m r h) k moved.0 is))
 
--- ---- behind a turn of redistribution
-pub own_but : (me : Speaker) (own : Option (Change Route)) (contests : Contested) (m : Moment) (s : Passed Protos) → m.declared.speaker ≡ Some me → Walks (redistributed me) (int_candidates m.tree) (int_rows m.tree) m.redist s own
-    → Informed contests m → KnowsBut 0 own contests (with_redist m s)
-own_but me own contests m s since walks informed = record {
-  before = branch_rows m;
-  prefix = moved.0;
-  comes = own_moves (own_of m) (own_of (with_redist m s)) m.chains m.hops moved.0 own moved.1;
-  knows = informed.knows;
-  there = there;
+-- ---- behind a change of `red`
+-- where nothing came
+pub own_none : (sent : Option (Change Route)) (contests : Contested) (m : Moment) → sent ≡ None → KnowsOwn sent contests m → Informed contests m
+own_none sent contests m is known = record {
+  knows = subst (λ (own : Rows Route). Knows contests (lent_rows own m.chains m.hops)) (sym stays) known.knows;
+  counts = subst (λ (own : Rows Route). Counts contests (counted_over own m.chains)) (sym stays) known.counts;
 }
   where
-    moved : (p : AddressPrefix) × IsSent (own_of m) (own_of (with_redist m s)) p own
-    moved = own_sent m me s own since walks
+    stays : own_of m ≡ known.own
+    stays = subst (λ (s : Option (Change Route)). IsSent known.own (own_of m) known.prefix s) is known.comes
 
-    there : KeepsPrefix own contests
-    there change is =
-        let here : IsSent (own_of m) (own_of (with_redist m s)) moved.0 (Some change) = subst (IsSent (own_of m) (own_of (with_redist m s)) moved.0) is moved.1 in
-        subst (λ (q : AddressPrefix). IsSome (tables.get contests q)) (sym here.0) (by_candidate change here (branch_candidates m 0 moved.0) refl)
-      where
-        by_candidate : (change : Change Route) → IsSent (own_of m) (own_of (with_redist m s)) moved.0 (Some change) → (t : Bool) → branch_candidates m 0 moved.0 ≡ t → IsSome (tables.get contests moved.0)
-        by_candidate change here true is = kept_there contests (branch_candidates m) 0 moved.0 (omega arith) informed.counts is
-        by_candidate change here false is = absurd (not_both_none (own_of m) (own_of (with_redist m s)) moved.0 change here (branch_covered m 0 moved.0 is) (branch_covered (with_redist m s) 0 moved.0 is))
+pub own_some : (sent : Option (Change Route)) (change : Change Route) (contests : Contested) (m : Moment) → sent ≡ Some change → KnowsOwn sent contests m → KnowsOwn (Some change) contests m
+own_some sent change contests m is known = subst (λ (s : Option (Change Route)). KnowsOwn s contests m) is known
+
+-- behind a turn of redistribution
+own_walked : (me : Speaker) (own : Option (Change Route)) (contests : Contested) (m : Moment) (s : Passed Protos) → m.declared.speaker ≡ Some me → Walks (redistributed me) (int_candidates m.tree) (int_rows m.tree) m.redist s own
+    → Informed contests m → KnowsOwn own contests (with_redist m s)
+own_walked me own contests m s since walks informed =
+    let moved = own_sent m me s own since walks in
+    record { own = own_of m; prefix = moved.0; comes = moved.1; knows = informed.knows; counts = informed.counts }
 
 -- ---- behind a change of `int`
-pub over_but : (me : Speaker) (change taken : Change Interior) (own : Option (Change Route)) (contests : Contested) (m v : Moment) (s : Passed Protos) → v ≡ m → v.declared.speaker ≡ Some me → taken ≡ change → IsPassedOn (redistributed me) v.redist taken own → s ≡ v.redist
-    → KnowsOver change contests m → KnowsBut 0 own contests (with_redist v s)
-over_but me change taken own contests m v s view since same passed stays over = subst (λ (x : Passed Protos). KnowsBut 0 own contests (with_redist v x)) (sym stays) by_view
+pub over_own : (me : Speaker) (change taken : Change Interior) (own : Option (Change Route)) (contests : Contested) (m v : Moment) (s : Passed Protos) → v ≡ m → v.declared.speaker ≡ Some me → taken ≡ change → IsPassedOn (redistributed me) v.redist taken own → s ≡ v.redist
+    → KnowsOver (Some change) contests m → KnowsOwn own contests (with_redist v s)
+over_own me change taken own contests m v s view since same passed stays over = subst (λ (x : Passed Protos). KnowsOwn own contests (with_redist v x)) (sym stays) by_view
   where
-    known : KnowsOver change contests v
-    known = subst (KnowsOver change contests) (sym view) over
+    known : KnowsOver (Some change) contests v
+    known = subst (KnowsOver (Some change) contests) (sym view) over
 
     was : Rows Route
-    was = own_rows v.declared.speaker v.redist known.int
+    was = own_over known.int v
 
     moves : IsSent was (own_of v) known.prefix own
     moves =
@@ -184,43 +187,48 @@ over_but me change taken own contests m v s view since same passed stays over = 
         (subst (λ (rows : Rows Route). IsSent (passed_rows (redistributed me) v.redist known.int) rows known.prefix own) (sym (own_rows_are v.declared.speaker me v.redist (int_rows v.tree) since))
         (passed known.int (int_rows v.tree) known.prefix (subst (λ (c : Change Interior). IsSent known.int (int_rows v.tree) known.prefix (Some c)) (sym same) known.comes)))
 
-    by_view : KnowsBut 0 own contests v
-    by_view = record {
-      before = rows_over_int known.int v;
-      prefix = known.prefix;
-      comes = own_moves was (own_of v) v.chains v.hops known.prefix own moves;
-      knows = known.knows;
-      there = λ c is.
-          let here : IsSent was (own_of v) known.prefix (Some c) = subst (IsSent was (own_of v) known.prefix) is moves in
-          subst (λ (q : AddressPrefix). IsSome (tables.get contests q)) (known.comes.0 ∙ sym here.0) known.there;
-    }
+    by_view : KnowsOwn own contests v
+    by_view = record { own = was; prefix = known.prefix; comes = moves; knows = known.knows; counts = known.counts }
 
 -- where nothing came
 pub over_none : (sent : Option (Change Interior)) (contests : Contested) (m : Moment) → sent ≡ None → InformedOver sent contests m → Informed contests m
-over_none sent contests m is over = record {
-  knows = subst (λ (int : Rows Interior). Knows contests (rows_over_int int m)) (sym stays) over.knows;
-  counts = subst (λ (int : Rows Interior). Counts contests (lent_candidates (with_rows int) m.chains)) (sym stays) over.counts;
+over_none sent contests m is informed = record {
+  knows = subst (λ (int : Rows Interior). Knows contests (lent_rows (own_over int m) m.chains m.hops)) (sym stays) informed.over.knows;
+  counts = subst (λ (int : Rows Interior). Counts contests (counted_over (own_over int m) m.chains)) (sym stays) informed.over.counts;
 }
   where
-    stays : int_rows m.tree ≡ over.int
-    stays = subst (λ (s : Option (Change Interior)). IsSent over.int (int_rows m.tree) over.prefix s) is over.comes
+    stays : int_rows m.tree ≡ informed.over.int
+    stays = subst (λ (s : Option (Change Interior)). IsSent informed.over.int (int_rows m.tree) informed.over.prefix s) is informed.over.comes
 
 pub over_some : (sent : Option (Change Interior)) (change : Change Interior) (contests : Contested) (m : Moment) → sent ≡ Some change → InformedOver sent contests m → InformedOver (Some change) contests m
 over_some sent change contests m is over = subst (λ (s : Option (Change Interior)). InformedOver s contests m) is over
+
+-- once the register and its clients have heard of it
+pub over_told : (change : Change Interior) (contests : Contested) (m m1 : Moment) → InformedOver (Some change) contests m → Informs change m m1 → KnowsOver (Some change) contests m1
+over_told change contests m m1 informed informs = record {
+  int = informed.over.int;
+  prefix = informed.over.prefix;
+  comes = subst (λ (n : Moment). IsSent informed.over.int (int_rows n.tree) informed.over.prefix (Some change)) (sym informs.after) informed.over.comes;
+  knows = subst (λ (n : Moment). Knows contests (lent_rows (own_over informed.over.int n) n.chains n.hops)) (sym informs.after)
+      (subst (Knows contests) (sym (reached_rows (own_over informed.over.int m) m.chains m.hops m1.hops informs.informed.resolvers.stays.rows)) informed.over.knows);
+  counts = subst (λ (n : Moment). Counts contests (counted_over (own_over informed.over.int n) n.chains)) (sym informs.after) informed.over.counts;
+}
 
 -- a tree whose `int` moved by what was sent
 pub tree_over : (sent : Option (Change Interior)) (contests : Contested) (m v : Moment) (t : Treed) (p : AddressPrefix) → v ≡ m → Stands m → IsSent (int_rows v.tree) (int_rows t) p sent → Informed contests m → InformedOver sent contests (with_tree v t)
 tree_over sent contests m v t p view stands moves informed =
     let known : Informed contests v = subst (Informed contests) (sym view) informed in
     let readers : HaveReaders v = subst HaveReaders (sym view) (readers_of m stands) in
-    record { int = int_rows v.tree; prefix = p; comes = moves; knows = known.knows; counts = known.counts; read = record { reader = readers.reader; external = readers.external } }
+    record {
+      over = record { int = int_rows v.tree; prefix = p; comes = moves; knows = known.knows; counts = known.counts };
+      read = record { reader = readers.reader; external = readers.external };
+    }
 
 -- and one whose `int` stayed
 pub tree_quiet : (contests : Contested) (m v : Moment) (t : Treed) → v ≡ m → int_rows t ≡ int_rows v.tree → Informed contests m → Informed contests (with_tree v t)
 tree_quiet contests m v t view same informed =
     let known : Informed contests v = subst (Informed contests) (sym view) informed in
-    informed_as contests v (with_tree v t)
-    (ap (λ (int : Rows Interior). lent_rows (own_rows v.declared.speaker v.redist int) v.chains v.hops) same) (ap (λ (int : Rows Interior). lent_candidates (with_rows int) v.chains) same) known
+    informed_own contests v (own_over (int_rows t) v) (ap (λ (int : Rows Interior). own_over int v) same) known (with_tree v t) refl refl
 
 -- ---- what the calls make of it
 by_turn : {R : Type 0} (P : Option (Change R) → Type 0) (turn : Turn R) (sent : Option (Change R)) → sent ≡ sent_of turn → P (sent_of turn) → P sent
@@ -246,25 +254,22 @@ pub hop_informed : (contests contests' : Contested) (m v : Moment) (r : Registry
 hop_informed contests contests' m v r h m' e view after i keeps knows = decided_informed contests contests' m m' (ap branch_candidates after ∙ ap branch_candidates view) i keeps knows
 
 walk_turned : (me : Speaker) (contests : Contested) (v : Moment) (s : Passed Protos) (turn : Turn Route) → turn ≢ turns.Nothing → v.declared.speaker ≡ Some me → IsWalked (redistributed me) (int_candidates v.tree) (int_rows v.tree) v.redist s turn → Informed contests v
-    → KnowsBut 0 (sent_of turn) contests (with_redist v s)
+    → KnowsOwn (sent_of turn) contests (with_redist v s)
 walk_turned me contests v s turns.Nothing some since walked i = absurd (some refl)
-walk_turned me contests v s turns.Quiet some since walked i = own_but me None contests v s since walked i
-walk_turned me contests v s (turns.Sent change) some since walked i = own_but me (Some change) contests v s since walked i
+walk_turned me contests v s turns.Quiet some since walked i = own_walked me None contests v s since walked i
+walk_turned me contests v s (turns.Sent change) some since walked i = own_walked me (Some change) contests v s since walked i
 
 pub walk_known : (me : Speaker) (contests : Contested) (m v : Moment) (s : Passed Protos) (turn : Turn Route) (sent : Option (Change Route)) → turn ≢ turns.Nothing → v ≡ m → v.declared.speaker ≡ Some me
-    → IsWalked (redistributed me) (int_candidates v.tree) (int_rows v.tree) v.redist s turn → sent ≡ sent_of turn → Informed contests m → KnowsBut 0 sent contests (with_redist v s)
+    → IsWalked (redistributed me) (int_candidates v.tree) (int_rows v.tree) v.redist s turn → sent ≡ sent_of turn → Informed contests m → KnowsOwn sent contests (with_redist v s)
 walk_known me contests m v s turn sent some view since walked is i =
-    by_turn (λ o. KnowsBut 0 o contests (with_redist v s)) turn sent is (walk_turned me contests v s turn some since walked (subst (Informed contests) (sym view) i))
-
-pub walk_informed : (contests contests' : Contested) (m v : Moment) (s : Passed Protos) (m' : Moment) (e : Exited) → v ≡ m → m' ≡ with_exits (with_redist v s) e → Informed contests m → KeepsCounts contests contests' → Knows contests' (branch_rows m') → Informed contests' m'
-walk_informed contests contests' m v s m' e view after i keeps knows = decided_informed contests contests' m m' (ap branch_candidates after ∙ ap branch_candidates view) i keeps knows
+    by_turn (λ o. KnowsOwn o contests (with_redist v s)) turn sent is (walk_turned me contests v s turn some since walked (subst (Informed contests) (sym view) i))
 
 -- ---- at first no branch has a row, nor a candidate
 no_peer : (v6 : Bool) (b : ℕ) → chain_at b (first_moment v6).chains ≡ None
 no_peer v6 b = get-empty nat_cmp b
 
 first_candidates : (v6 : Bool) (b : ℕ) (q : AddressPrefix) → branch_candidates (first_moment v6) b q ≡ false
-first_candidates v6 zero q = ap (λ (rows : Rows Interior). with_rows rows q) int_empty
+first_candidates v6 zero q = refl
 first_candidates v6 (suc b) q = by_low (nat_lt (suc b) 65) (chain_at (suc b) (first_moment v6).chains) (no_peer v6 (suc b))
   where
     by_low : (t : Bool) (o : Option Chained) → o ≡ None → candidates_by (cond t o None) q ≡ false

@@ -5,7 +5,7 @@ mod ShownRows
 pub mod BranchRows
 pub mod ChainShifts
 pub mod Counting
-pub mod IntShifts
+pub mod OwnShifts
 pub mod KnownRows
 pub mod AboveRows
 pub mod LossLemmas

@@ -1,5 +1,5 @@
 -- Steps that change no row of a branch and no candidate: what the decision's state knows stays known.
-use Rattle.router_moments.proofs.Common.{sym, subst, ◌∙◌, ap, ◌≡◌, ℕ, refl, List, true, false, Bool, Route, Rows, Speaker, put_chain, chain_at, lent_rows, own_of, int_rows, int_candidates, Event, Task, Line, peer_at, DeclaredPeer, Journaled, HasStepped, Gives, Exited, Moment, with_exits, Stands, IsBlock, ByPeer, BeginsIf, Declares, BySpeaker, IsTurn, TakesTurn}
+use Rattle.router_moments.proofs.Common.{sym, subst, ◌∙◌, ap, ◌≡◌, ℕ, refl, List, true, false, Bool, Speaker, put_chain, chain_at, lent_rows, own_of, int_rows, Event, Task, Line, peer_at, DeclaredPeer, Journaled, HasStepped, Gives, Exited, Moment, with_exits, Stands, IsBlock, ByPeer, BeginsIf, Declares, BySpeaker, IsTurn, TakesTurn}
 use Rattle.std.proofs.Common.{Option, Some, None, Result}
 use Rattle.std.specs.Result.{OnOk, IfOk}
 use Rattle.exit_side.specs.Exits.{refreshed_exits}
@@ -7,6 +7,7 @@ use Rattle.std.proofs.Common.{Ok, Err}
 use Rattle.event_text.specs.declared.event.Event.TheVariants as events
 use Rattle.event_text.specs.Declarations.{refusal, words_of}
 use Rattle.journal_text.specs.declared.link.Task.TheVariants as tasks
+use Rattle.link_change.specs.Rows.{with_rows}
 use Rattle.in_chain.specs.Steps.{new_chain}
 use Rattle.in_chain.proofs.CandidateLemmas.{no_candidate_at_first}
 use Rattle.nexthop_resolver.specs.Resolving.{nothing_known}
@@ -15,7 +16,7 @@ use Rattle.pass_core.specs.Passed.{present}
 use Rattle.redist.specs.Protocols.{with_proto}
 use Rattle.router_moments.specs.declared.tasks.Done.{Done}
 use Rattle.router_moments.specs.declared.tasks.Done.TheVariants.{Nothing, Taken}
-use Rattle.router_moments.specs.Bests.{lent_candidates, candidates_by}
+use Rattle.router_moments.specs.Bests.{candidates_by}
 use Rattle.router_moments.specs.Moments.{profiled}
 use Rattle.router_moments.specs.Blocks.{declared_peer, declared_speaker, begun, Begins, refreshed}
 use Rattle.bgp_wire.specs.declared.message.RouteRefresh.{RouteRefresh}
@@ -23,9 +24,9 @@ use Rattle.bgp_wire.specs.Grammar.{is_served}
 use Rattle.std.proofs.Common.{cond}
 use Rattle.router_moments.proofs.BeforeLocal.{local_first}
 use Rattle.router_moments.proofs.PeerLemmas.{quiet, same_resolved, no_chain_yet, peer_absent}
-use Rattle.router_network.specs.Informed.{Contested, Informed, branch_rows, branch_candidates}
+use Rattle.router_network.specs.Informed.{Contested, Informed, branch_rows, branch_candidates, counted_over}
 use Rattle.router_network.proofs.BranchRows.{quiet_rows, resolved_rows, candidates_kept}
-use Rattle.router_network.proofs.KnownRows.{informed_as, informed_same}
+use Rattle.router_network.proofs.KnownRows.{informed_as, informed_same, informed_own}
 use Rattle.router_network.proofs.ChainShifts.{edits_informed}
 use Rattle.router_network.proofs.LocalLemmas.{own_before, own_then}
 use Rattle.router_network.proofs.RedistEdits.{own_edited}
@@ -56,19 +57,14 @@ reading_taken (Err e) task contests m m' before now reading t i = tt
 -- ---- events that neither tell nor take a route
 abbrev pub IsQuiet : Event → Type 0
 IsQuiet events.Nothing = Unit {0}
-IsQuiet events.As4 = Unit {0}
-IsQuiet events.Revised = Unit {0}
-IsQuiet events.Reflect = Unit {0}
+IsQuiet (events.Whole word) = Unit {0}
 IsQuiet (events.Local words) = Unit {0}
 IsQuiet (events.Peer k words client) = Unit {0}
 IsQuiet (events.Up k) = Unit {0}
 IsQuiet (events.FilterIn k rules) = Unit {0}
 IsQuiet (events.FilterOut k rules) = Unit {0}
 IsQuiet (events.Redist proto on) = Unit {0}
-IsQuiet (events.Cover addr) = Unit {0}
-IsQuiet (events.Settled p) = Unit {0}
-IsQuiet (events.Ask link p) = Unit {0}
-IsQuiet (events.Show link) = Unit {0}
+IsQuiet (events.Query question) = Unit {0}
 IsQuiet other = ⊥
 
 profile_informed : (contests : Contested) (m m' : Moment) (profile : _) → m' ≡ profiled m profile → Informed contests m → Informed contests m'
@@ -78,8 +74,7 @@ profile_informed contests m m' profile after i = subst (Informed contests) (sym 
 local_informed : (contests : Contested) (m m' : Moment) (words : Speaker) (exits : _) (reader : Option ℕ) → Stands m → refusal m.declared (events.Local words) ≡ None → m' ≡ record (declared_speaker m words) { exits = exits; reader = reader } → Informed contests m → Informed contests m'
 local_informed contests m m' words exits reader stands admitted after i =
     let first = local_first m.declared words admitted in
-    subst (Informed contests) (sym after) (informed_as contests m (record (declared_speaker m words) { exits = exits; reader = reader })
-    (ap (λ (own : Rows Route). lent_rows own m.chains m.hops) (own_then m words stands first ∙ sym (own_before m first))) refl i)
+    subst (Informed contests) (sym after) (informed_own contests m _ (own_then m words stands first ∙ sym (own_before m first)) i (record (declared_speaker m words) { exits = exits; reader = reader }) refl refl)
 
 -- a peer that is declared has no route
 peer_informed : (contests : Contested) (m m' : Moment) (me : Speaker) (k : ℕ) (words : Speaker) (client : Bool) → m.declared.speaker ≡ Some me → Stands m → refusal m.declared (events.Peer k words client) ≡ None → m' ≡ declared_peer m me k words client → Informed contests m
@@ -96,8 +91,8 @@ peer_informed contests m m' me k words client since stands admitted after i = su
     none : candidates_by (Some (new_chain me (words_of m.declared.speaker k words client))) ≡ candidates_by (chain_at k m.chains)
     none = (λ i q. no_candidate_at_first me (words_of m.declared.speaker k words client) q i) ∙ sym (ap candidates_by (no_chain_yet m me k words client since stands absent))
 
-    candidates : lent_candidates (int_candidates m.tree) (put_chain k (new_chain me (words_of m.declared.speaker k words client)) m.chains) ≡ branch_candidates m
-    candidates = candidates_kept (int_candidates m.tree) m.chains k (new_chain me (words_of m.declared.speaker k words client)) none
+    candidates : counted_over (own_of m) (put_chain k (new_chain me (words_of m.declared.speaker k words client)) m.chains) ≡ branch_candidates m
+    candidates = candidates_kept (with_rows (own_of m)) m.chains k (new_chain me (words_of m.declared.speaker k words client)) none
 
 declares_informed : (s : Option Speaker) (contests : Contested) (m m' : Moment) (k : ℕ) (words : Speaker) (client : Bool) (said : List Line) (turns : ℕ) → m.declared.speaker ≡ s → Stands m → refusal m.declared (events.Peer k words client) ≡ None → Declares m s k words client said turns m' → Informed contests m
     → Informed contests m'
@@ -119,20 +114,15 @@ up_informed (Some p) k contests m m' said turns b i = begins_informed p.up k p c
 
 pub quiet_informed : (event : Event) (contests : Contested) (m m' : Moment) (said : List Line) (turns : ℕ) → IsQuiet event → Stands m → refusal m.declared event ≡ None → IsBlock m event said turns m' → Informed contests m → Informed contests m'
 quiet_informed events.Nothing contests m m' said turns q stands admitted b i = subst (Informed contests) (sym b.2) i
-quiet_informed events.As4 contests m m' said turns q stands admitted b i = profile_informed contests m m' _ b.2 i
-quiet_informed events.Revised contests m m' said turns q stands admitted b i = profile_informed contests m m' _ b.2 i
-quiet_informed events.Reflect contests m m' said turns q stands admitted b i = profile_informed contests m m' _ b.2 i
+quiet_informed (events.Whole word) contests m m' said turns q stands admitted b i = profile_informed contests m m' _ b.2 i
 quiet_informed (events.Local words) contests m m' said turns q stands admitted b i = local_informed contests m m' words _ _ stands admitted b.1.after i
 quiet_informed (events.Peer k words client) contests m m' said turns q stands admitted b i = declares_informed m.declared.speaker contests m m' k words client said turns refl stands admitted b i
 quiet_informed (events.Up k) contests m m' said turns q stands admitted b i = up_informed (peer_at k m.declared.peers) k contests m m' said turns b i
 quiet_informed (events.FilterIn k rules) contests m m' said turns q stands admitted b i = subst (Informed contests) (sym b.2.2) (edits_informed k rules contests m b.0 b.1 i)
 quiet_informed (events.FilterOut k rules) contests m m' said turns q stands admitted b i = subst (Informed contests) (sym b.2.2) (informed_same contests m _ refl refl refl refl refl i)
 quiet_informed (events.Redist proto on) contests m m' said turns q stands admitted b i =
-    subst (Informed contests) (sym b.2) (informed_as contests m _ (ap (λ (own : Rows Route). lent_rows own m.chains m.hops) (own_edited m.declared.speaker m.redist (with_proto (present m.redist) proto on) (int_rows m.tree))) refl i)
-quiet_informed (events.Cover addr) contests m m' said turns q stands admitted b i = subst (Informed contests) (sym b.1) i
-quiet_informed (events.Settled p) contests m m' said turns q stands admitted b i = subst (Informed contests) (sym b.1) i
-quiet_informed (events.Ask link p) contests m m' said turns q stands admitted b i = subst (Informed contests) (sym b.2) i
-quiet_informed (events.Show link) contests m m' said turns q stands admitted b i = subst (Informed contests) (sym b.1) i
+    subst (Informed contests) (sym b.2) (informed_own contests m _ (own_edited m.declared.speaker m.redist (with_proto (present m.redist) proto on) (int_rows m.tree)) i _ refl refl)
+quiet_informed (events.Query question) contests m m' said turns q stands admitted b i = subst (Informed contests) (sym b.1) i
 quiet_informed other contests m m' said turns q stands admitted b i = absurd q
 
 pub quiet_stepped : {E : Type 0} (result : Result ℕ E) (event admitted : Event) (contests : Contested) (m m' : Moment) (before now : Journaled) → Stands m → refusal m.declared admitted ≡ None → admitted ≡ event → IfOk result (λ turns. Gives (HasStepped m event turns m') before now)

@@ -7,6 +7,7 @@ use Rattle.std.proofs.lemmas.List.{map-append}
 use Rattle.link_change.specs.Rows.{with_rows}
 use Rattle.journal_text.specs.declared.line.Line.TheVariants as lines
 use Rattle.event_text.specs.declared.event.Event.TheVariants as events
+use Rattle.event_text.specs.declared.event.Question.TheVariants as questions
 use Rattle.journal_laws.proofs.ShownRows.{IsShown, none_shown, one_shown, none_more, none_left, with_none}
 use Rattle.router_moments.specs.Blocks.{AreRows}
 use Rattle.router_moments.specs.Lookups.{listed_at, row_lines, Counts, ShowsRow, IsCountOf, IsNextPlace}
@@ -111,16 +112,16 @@ shows_unheard : (link : Link) (of : Option (Rows Value)) (said : List Line) → 
 shows_unheard link None said shows = subst AreUnheard (sym shows) (refl, tt)
 shows_unheard link (Some rows) said shows = subst AreUnheard (sym shows.2) (rows_unheard link shows.0 (length shows.0))
 
-pub show_stepped : (m : Moment) (link : Link) (of : Option (Rows Value)) (said : List Line) → Stands m → router_links m link ≡ of → Shows link of said → HasStepped m (events.Show link) 0 m said
+pub show_stepped : (m : Moment) (link : Link) (of : Option (Rows Value)) (said : List Line) → Stands m → router_links m link ≡ of → Shows link of said → HasStepped m (events.Query (questions.Show link)) 0 m said
 show_stepped m link of said stands is shows =
     let here : Shows link (router_links m link) said = subst (λ (o : Option (Rows Value)). Shows link o said) (sym is) shows in
-    steps_said m (events.Show link) 0 said stands (refl, refl, here) refl (shows_no_entries link of said shows, shows_unheard link of said shows)
+    steps_said m (events.Query (questions.Show link)) 0 said stands (refl, refl, here) refl (shows_no_entries link of said shows, shows_unheard link of said shows)
 
 -- ---- a lookup as an event
-pub ask_stepped : (m : Moment) (link : Link) (p : AddressPrefix) (of : Option (Rows Value)) → Stands m → router_links m link ≡ of → HasStepped m (events.Ask link p) 0 m (answer_lines link p of)
-ask_stepped m link p None stands is = steps_said m (events.Ask link p) 0 (lines.Absent ∷ []) stands (ap (answer_lines link p) (sym is), refl, refl) refl (refl, (refl, tt))
+pub ask_stepped : (m : Moment) (link : Link) (p : AddressPrefix) (of : Option (Rows Value)) → Stands m → router_links m link ≡ of → HasStepped m (events.Query (questions.Ask link p)) 0 m (answer_lines link p of)
+ask_stepped m link p None stands is = steps_said m (events.Query (questions.Ask link p)) 0 (lines.Absent ∷ []) stands (refl, refl, ap (answer_lines link p) (sym is)) refl (refl, (refl, tt))
 ask_stepped m link p (Some rows) stands is = record {
-  block = (ap (answer_lines link p) (sym is), refl, refl);
+  block = (refl, refl, ap (answer_lines link p) (sym is));
   live = live_state m;
   after = refl;
   keeps = record { leads = record { lawful = ((rows, is, refl), tt); ends = refl }; live = refl; stands = stands; heard = heard_quiet m m (answer_lines link p (Some rows)) (refl, tt) refl };

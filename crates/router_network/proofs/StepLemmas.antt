@@ -1,5 +1,6 @@
 -- What each event comes to.
-use Rattle.router_moments.proofs.Common.{sym, subst, ◌∙◌, ap, ◌≡◌, ℕ, refl, List, true, false, Bool, ◌++◌, cond, ◌<◌, AddressPrefix, Attrs, Message, Update, peer_at, DeclaredPeer, Event, Down, Bgp, Cover, Settled, Work, Journaled, flushed, with_lines, Line, Task, Rows, LiveState, changes_of, Says, width, Interior, ByPeer, EndsIf, HearsIf, first_held, FirstHeldTells, live_state, Moment, Gives, bound_of, all_phases, Tells, Stands, AllHaveExits, Pushes, HasStepped, Keeps, HaveFed}
+use Rattle.router_moments.proofs.Common.{sym, subst, ◌∙◌, ap, ◌≡◌, ℕ, refl, List, true, false, Bool, ◌++◌, cond, ◌<◌, AddressPrefix, Attrs, Message, Update, peer_at, DeclaredPeer, Event, Down, Bgp, Query, Work, Journaled, flushed, with_lines, Line, Task, Rows, LiveState, changes_of, Says, width, Interior, ByPeer, EndsIf, HearsIf, first_held, FirstHeldTells, live_state, Moment, Gives, bound_of, all_phases, Tells, Stands, AllHaveExits, Pushes, HasStepped, Keeps, HaveFed}
+use Rattle.event_text.specs.declared.event.Question.TheVariants.{Cover, Settled}
 use Rattle.std.proofs.Common.{◌^◌, [], ◌∷◌, Option, Some, Result}
 use Rattle.std.specs.Result.{IfOk}
 use Rattle.bgp_wire.specs.declared.notice.Notice.{Notice}
@@ -80,15 +81,15 @@ worked m m' task most turns before j j2 now stands g last is =
 
 -- ---- `cover`
 pub covered : (m : Moment) (addr : ℕ) (found : Option (AddressPrefix × Interior)) (subnet : AddressPrefix) (prefix : Option AddressPrefix) (before j now : Journaled) → Stands m → IsCover width (tables.get m.registry.rows) addr found subnet
-    → prefix ≡ matched found → j ≡ with_lines before (lines.Cover addr prefix subnet ∷ []) → now ≡ flushed j → Gives (HasStepped m (Cover addr) 0 m) before now
-covered m addr found subnet prefix before j now stands cover is pushed flush = steps_pushed m (Cover addr) (lines.Cover addr (matched found) subnet ∷ []) before j now stands
+    → prefix ≡ matched found → j ≡ with_lines before (lines.Cover addr prefix subnet ∷ []) → now ≡ flushed j → Gives (HasStepped m (Query (Cover addr)) 0 m) before now
+covered m addr found subnet prefix before j now stands cover is pushed flush = steps_pushed m (Query (Cover addr)) (lines.Cover addr (matched found) subnet ∷ []) before j now stands
     (refl, refl, record { found = found; subnet = subnet; cover = subst (λ (rows : Rows Interior). IsCover width rows addr found subnet) stands.registered cover; line = refl }) refl (refl, (refl, tt))
     (pushed ∙ ap (λ (p : Option AddressPrefix). with_lines before (lines.Cover addr p subnet ∷ [])) is) flush
 
 -- ---- `settled`
 pub settled : (m : Moment) (p : AddressPrefix) (answer : Option Task) (before j now : Journaled) → Stands m → AllHaveExits m → FirstHeldTells → answer ≡ first_held m p
-    → j ≡ with_lines before (lines.Settled p answer ∷ []) → now ≡ flushed j → Gives (HasStepped m (Settled p) 0 m) before now
-settled m p answer before j now stands all tells is = steps_pushed m (Settled p) (lines.Settled p answer ∷ []) before j now stands
+    → j ≡ with_lines before (lines.Settled p answer ∷ []) → now ≡ flushed j → Gives (HasStepped m (Query (Settled p)) 0 m) before now
+settled m p answer before j now stands all tells is = steps_pushed m (Query (Settled p)) (lines.Settled p answer ∷ []) before j now stands
     (refl, refl, record { answer = answer; tells = subst (Tells m p) (sym is) (tells m stands all p); line = refl }) refl (refl, (refl, tt))
 
 -- ---- what a message does

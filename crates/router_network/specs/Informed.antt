@@ -12,9 +12,9 @@ use Rattle.decision.specs.Branches.{AllRows}
 use Rattle.decision.specs.Contests.{Knows, Counts}
 use Rattle.hop_side.specs.Resolvers.{Resolvers, PeerRows, AllCounted, resolver_at, rows_by}
 use Rattle.hop_side.specs.Steps.{ComesOn}
-use Rattle.peer_side.specs.Peers.{filt_at}
+use Rattle.peer_side.specs.Peers.{Chains, filt_at}
 use Rattle.rib_route.specs.Rows.{Interior}
-use Rattle.rib_tree.specs.Trees.{int_rows, int_candidates}
+use Rattle.rib_tree.specs.Trees.{int_rows}
 use Rattle.router_moments.specs.Bests.{own_rows, lent_rows, lent_candidates}
 use Rattle.router_moments.specs.Moments.{Moment, own_of}
 use Rattle.router_network.specs.Reads.{ReadOver}
@@ -29,18 +29,28 @@ Contested = FinMap prefix_cmp Contest
 abbrev pub branch_rows : Moment → AllRows
 branch_rows m = lent_rows (own_of m) m.chains m.hops
 
--- and their candidates
+-- The candidates that it counts: the rows of this speaker's own, and the peers' candidates. Where nothing is redistributed an interior
+-- route is a candidate of a walk, but isn't counted.
+abbrev pub counted_over : Rows Route → Chains → ℕ → Candidates
+counted_over own a = lent_candidates (with_rows own) a
+
 abbrev pub branch_candidates : Moment → ℕ → Candidates
-branch_candidates m = lent_candidates (int_candidates m.tree) m.chains
+branch_candidates m = counted_over (own_of m) m.chains
 
 -- The state knows the rows of all branches, and their candidates are counted.
 pub record Informed (contests : Contested) (m : Moment) : Type 0 where
   pub knows : Knows contests (branch_rows m)
   pub counts : Counts contests (branch_candidates m)
 
--- the rows of all branches of what stands above `best`
+-- the rows of all branches of what stands above `best`, and their candidates
+abbrev pub own_above : {F : Type 0} → Above F → Rows Route
+own_above a = own_rows a.declared.speaker a.redist (int_rows a.tree)
+
 abbrev pub rows_above : {F : Type 0} → Above F → AllRows
-rows_above a = lent_rows (own_rows a.declared.speaker a.redist (int_rows a.tree)) a.chains a.hops
+rows_above a = lent_rows (own_above a) a.chains a.hops
+
+abbrev pub counted_above : {F : Type 0} → Above F → ℕ → Candidates
+counted_above a = counted_over (own_above a) a.chains
 
 -- whatever candidates were counted are counted then
 abbrev pub KeepsCounts : Contested → Contested → Type 0
@@ -74,27 +84,31 @@ pub record KnowsAbove (k : ℕ) (sent : Option (Change Route)) (contests : Conte
   pub there : KeepsPrefix sent contests
   pub peer : k ≢ 0
 
--- the rows of all branches over these of `int`
-abbrev pub rows_over_int : Rows Interior → Moment → AllRows
-rows_over_int int m = lent_rows (own_rows m.declared.speaker m.redist int) m.chains m.hops
+-- Behind a change of `red`, if one came: the state knows the rows over this speaker's own before it, and counted those.
+pub record KnowsOwn (sent : Option (Change Route)) (contests : Contested) (m : Moment) : Type 0 where
+  pub own : Rows Route
+  pub prefix : AddressPrefix
+  pub comes : IsSent own (own_of m) prefix sent
+  pub knows : Knows contests (lent_rows own m.chains m.hops)
+  pub counts : Counts contests (counted_over own m.chains)
 
--- And behind a change of `int`, if one came: the state knows the rows over those of `int` before it, and counted its candidates then; and
--- the forwarding side has what it has of the best routes over these.
-pub record InformedOver (sent : Option (Change Interior)) (contests : Contested) (m : Moment) : Type 0 where
+-- this speaker's own rows over these of `int`
+abbrev pub own_over : Rows Interior → Moment → Rows Route
+own_over int m = own_rows m.declared.speaker m.redist int
+
+-- And behind a change of `int`, if one came: the state knows the rows over those of `int` before it, and counted this speaker's own over
+-- these.
+pub record KnowsOver (sent : Option (Change Interior)) (contests : Contested) (m : Moment) : Type 0 where
   pub int : Rows Interior
   pub prefix : AddressPrefix
   pub comes : IsSent int (int_rows m.tree) prefix sent
-  pub knows : Knows contests (rows_over_int int m)
-  pub counts : Counts contests (lent_candidates (with_rows int) m.chains)
-  pub read : ReadOver int m
+  pub knows : Knows contests (lent_rows (own_over int m) m.chains m.hops)
+  pub counts : Counts contests (counted_over (own_over int m) m.chains)
 
--- the same without the candidates, where the change has a prefix that is kept
-pub record KnowsOver (change : Change Interior) (contests : Contested) (m : Moment) : Type 0 where
-  pub int : Rows Interior
-  pub prefix : AddressPrefix
-  pub comes : IsSent int (int_rows m.tree) prefix (Some change)
-  pub knows : Knows contests (rows_over_int int m)
-  pub there : IsSome (tables.get contests change.prefix)
+-- and the forwarding side has what it has of the best routes over these
+pub record InformedOver (sent : Option (Change Interior)) (contests : Contested) (m : Moment) : Type 0 where
+  pub over : KnowsOver sent contests m
+  pub read : ReadOver over.int m
 
 -- ---- candidates that come and go
 -- Whether branch k has a candidate at a prefix changed from the one to the other, and no other candidate came or went.

@@ -2,16 +2,17 @@
 
 ghost use Rattle.std.specs.Prelude.{◌≡◌, IfOk, is_some};
 ghost use Rattle.std.specs.Option.{option_copied};
-ghost use Rattle.rib_tree.specs.Trees.{int_rows};
-ghost use Rattle.router_moments.specs.Bests.{own_rows, lent_chain, lent_resolved, lent_rows};
+ghost use Rattle.router_moments.specs.Bests.{lent_chain, lent_resolved};
 ghost use Rattle.rib_split.specs.Splitting.{external_row};
+ghost use Rattle.router_network.specs.Informed.{own_above, rows_above};
 
-use addr4::{Addr, Memory, Prefix, Texts, V4};
+use addr4::{Addr, Memory, Place, Prefix, Texts, V4};
 use bgp_attr::{Route, SharedAttrs};
 use decision::Branches;
 use event_text::Declared;
 use hop_side::{Named, NextHops};
 use in_chain::Chain;
+use link_change::Upstream;
 use peer_side::Peers;
 use redist::Redist;
 use rib_route::External;
@@ -45,7 +46,7 @@ impl<F: Texts> Above<F> {
 
     /// The row of `red` at a prefix; none before `local`.
     pub(crate) fn own(&self, p: &Prefix<F>) -> Result<Option<Route<SharedAttrs<F>>>, Memory>
-        ensures { IfOk result (λ row. row ≡ own_rows self.now.declared.speaker self.now.redist (int_rows self.now.tree) p.now) }
+        ensures { IfOk result (λ row. row ≡ own_above self.now p.now) }
     {
         match self.declared.speaker() {
             Some(me) => self.redist.asked(&self.tree, *p, &me),
@@ -66,7 +67,7 @@ impl<F: Texts> Above<F> {
     /// What forwarding needs of the row of a branch at a prefix, if a peer sent it: no route of this speaker's own does. No row is
     /// made. Takes no memory.
     pub(crate) fn external(&self, branch: u8, p: &Prefix<F>) -> Option<External<Addr<F>>>
-        ensures { result ≡ external_row (lent_rows (own_rows self.now.declared.speaker self.now.redist (int_rows self.now.tree)) self.now.chains self.now.hops branch p.now) }
+        ensures { result ≡ external_row (rows_above self.now branch p.now) }
     {
         if branch == 0 {
             return None;
@@ -81,7 +82,7 @@ impl<F: Texts> Above<F> {
 
     /// Whether `red` has a row at a prefix. Takes no memory.
     fn has_own(&self, p: &Prefix<F>) -> bool
-        ensures { result ≡ is_some (own_rows self.now.declared.speaker self.now.redist (int_rows self.now.tree) p.now) }
+        ensures { result ≡ is_some (own_above self.now p.now) }
     {
         match self.declared.speaker() {
             Some(_) => self.redist.has(&self.tree.row(*p), *p),
@@ -101,12 +102,14 @@ impl<F: Texts> Above<F> {
 }
 
 impl<F: Texts> Branches<F> for Above<F> {
-    ghost use Rattle.rib_tree.specs.Trees.{int_rows, int_candidates};
-    ghost use Rattle.router_moments.specs.Bests.{own_rows, lent_rows, lent_candidates};
+    ghost use Rattle.rib_tree.specs.Trees.{int_candidates};
+    ghost use Rattle.router_network.specs.Informed.{rows_above, counted_above};
 
-    ghost rows = { λ a. lent_rows (own_rows a.declared.speaker a.redist (int_rows a.tree)) a.chains a.hops };
+    ghost rows = { λ a. rows_above a };
 
-    ghost candidates = { λ a. lent_candidates (int_candidates a.tree) a.chains };
+    ghost candidates = { λ a. counted_above a };
+
+    ghost beside = { λ a. int_candidates a.tree };
 
     fn asked(&self, branch: u8, p: &Prefix<F>) -> Result<Option<Route<SharedAttrs<F>>>, Memory> {
         if branch == 0 {
@@ -120,6 +123,10 @@ impl<F: Texts> Branches<F> for Above<F> {
             return self.has_own(p);
         }
         self.has_resolved(branch, p)
+    }
+
+    fn next_beside(&self, after: &Place<Prefix<F>>) -> Option<Prefix<F>> {
+        Upstream::next_candidate(&self.tree, after)
     }
 
     fn is_from(&self, branch: u8, number: u8) -> bool {

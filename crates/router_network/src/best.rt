@@ -17,7 +17,7 @@ use addr4::{Memory, Place, Prefix};
 use bgp_attr::{Route, SharedAttrs};
 use decision::Contests;
 use journal_text::Journal;
-use link_change::Change;
+use link_change::{Change, Upstream};
 use peer_out::Writes;
 
 impl<F: Writes> Network<F> {
@@ -54,7 +54,7 @@ impl<F: Writes> Network<F> {
 
     /// The same of a change that came.
     #[inline(never)]
-    fn decide_change(
+    pub(crate) fn decide_change(
         &mut self,
         number: u32,
         change: Change<Route<SharedAttrs<F>>, Prefix<F>>,
@@ -102,6 +102,7 @@ impl<F: Writes> Network<F> {
         ensures next { IsNextCandidate (candidates_of self.now) (key_of after) result }
         ensures covers { CoversRows (candidates_of self.now) (best_of self.now) }
     {
-        contests.next_candidate(&after)
+        let best = contests.best(&self.above);
+        best.next_candidate(&after)
     }
 }

@@ -11,45 +11,19 @@ ghost use Rattle.router_moments.specs.Works.{HasStepped};
 use crate::network::Network;
 use addr4::{Addr, Memory};
 use bgp_attr::Speaker;
+use event_text::WholeFile;
 use journal_text::Journal;
 use peer_out::Writes;
 
 impl<F: Writes> Network<F> {
-    /// AS numbers have four octets, in the whole file and in all messages (RFC 6793).
-    pub fn four_octets(&mut self, journal: &mut Journal<F>) -> Result<u128, Memory>
-        requires admitted { refusal self.old.declared events.As4 ≡ None }
+    /// A line says something of the whole file, by which all messages are read and written from then on.
+    pub fn whole_file(&mut self, word: WholeFile, journal: &mut Journal<F>) -> Result<u128, Memory>
+        requires admitted { refusal self.old.declared (events.Whole word) ≡ None }
         requires stands { Stands self.old }
-        ensures { IfOk result (λ turns. Gives (HasStepped self.old events.As4 turns self.new) journal.old journal.new) }
+        ensures { IfOk result (λ turns. Gives (HasStepped self.old (events.Whole word) turns self.new) journal.old journal.new) }
     {
-        let mut profile = self.profile();
-        profile.as4 = true;
-        self.set_profile(profile);
-        journal.flush()?;
-        Ok(0)
-    }
-
-    /// Errors in attributes are handled by the revised table (in the manner of RFC 7606).
-    pub fn revised(&mut self, journal: &mut Journal<F>) -> Result<u128, Memory>
-        requires admitted { refusal self.old.declared events.Revised ≡ None }
-        requires stands { Stands self.old }
-        ensures { IfOk result (λ turns. Gives (HasStepped self.old events.Revised turns self.new) journal.old journal.new) }
-    {
-        let mut profile = self.profile();
-        profile.revised = true;
-        self.set_profile(profile);
-        journal.flush()?;
-        Ok(0)
-    }
-
-    /// This speaker is a route reflector (RFC 4456).
-    pub fn reflect(&mut self, journal: &mut Journal<F>) -> Result<u128, Memory>
-        requires admitted { refusal self.old.declared events.Reflect ≡ None }
-        requires stands { Stands self.old }
-        ensures { IfOk result (λ turns. Gives (HasStepped self.old events.Reflect turns self.new) journal.old journal.new) }
-    {
-        let mut profile = self.profile();
-        profile.reflect = true;
-        self.set_profile(profile);
+        let profile = self.profile();
+        self.set_profile(word.said(profile));
         journal.flush()?;
         Ok(0)
     }

@@ -1,6 +1,6 @@
 //! Redistribution: the interior routes that this speaker announces as its own (RFC 4271, section 9.4).
 
-ghost use Rattle.std.specs.Prelude.{◌≡◌, [], None, IfOk, OnOk, IsSome};
+ghost use Rattle.std.specs.Prelude.{◌≡◌, [], Some, None, IfOk, OnOk, IsSome};
 ghost use Rattle.journal_text.specs.declared.link.Task.TheVariants as tasks;
 ghost use Rattle.journal_text.specs.Journals.{Adds};
 ghost use Rattle.event_text.specs.declared.event.Event.TheVariants as events;
@@ -9,10 +9,10 @@ ghost use Rattle.exit_side.specs.Exits.{IsExits};
 ghost use Rattle.router_moments.specs.declared.tasks.Phase.TheVariants as phases;
 ghost use Rattle.router_moments.specs.Stands.{Stands};
 ghost use Rattle.router_moments.specs.Turns.{next_task};
-ghost use Rattle.router_moments.specs.Works.{TakesTurn, HasStepped, Redistributes, SendsOwn};
-ghost use Rattle.decision.specs.Contests.{Knows};
-ghost use Rattle.router_network.specs.Informed.{Informed, KnowsBut, KnowsOver, KeepsCounts, branch_rows};
+ghost use Rattle.router_moments.specs.Works.{TakesTurn, HasStepped, Redistributes, SendsOwn, Decides};
+ghost use Rattle.router_network.specs.Informed.{Informed, KnowsOver, KnowsOwn};
 
+use crate::candidates::{enter, leave};
 use crate::hops::sent_of;
 use crate::network::Network;
 use addr4::{Addr, Memory, Prefix};
@@ -43,10 +43,9 @@ impl<F: Writes> Network<F> {
     ) -> Result<(), Memory>
         requires exits { IsExits self.old.exits }
         requires since { IsSome self.old.declared.speaker }
-        requires known { KnowsOver change.now contests.old self.old }
+        requires known { KnowsOver (Some change.now) contests.old self.old }
         ensures redistributes { OnOk result (Adds (Redistributes change.now self.old self.new) journal.old journal.new) }
-        ensures known { OnOk result (Knows contests.new (branch_rows self.new)) }
-        ensures counts { OnOk result (KeepsCounts contests.old contests.new) }
+        ensures informed { OnOk result (Informed contests.new self.new) }
     {
         let Some(me) = self.above.declared.speaker() else {
             unreachable!()
@@ -63,13 +62,36 @@ impl<F: Writes> Network<F> {
         journal: &mut Journal<F>,
     ) -> Result<(), Memory>
         requires exits { IsExits self.old.exits }
-        requires known { KnowsBut 0 sent contests.old self.old }
+        requires known { KnowsOwn sent contests.old self.old }
         ensures sends { OnOk result (Adds (SendsOwn sent self.old self.new) journal.old journal.new) }
-        ensures known { OnOk result (Knows contests.new (branch_rows self.new)) }
-        ensures counts { OnOk result (KeepsCounts contests.old contests.new) }
+        ensures informed { OnOk result (Informed contests.new self.new) }
     {
         journal.push_sent(Link::Red, &sent)?;
-        self.decide(0, sent, contests, journal)
+        match sent {
+            None => Ok(()),
+            Some(change) => self.decide_own(change, contests, journal),
+        }
+    }
+
+    /// What follows a change of `red`. A row there is a candidate that the decision counts: one that comes before it is decided, one
+    /// that goes after it.
+    fn decide_own(
+        &mut self,
+        change: Change<Route<SharedAttrs<F>>, Prefix<F>>,
+        contests: &mut Contests<F>,
+        journal: &mut Journal<F>,
+    ) -> Result<(), Memory>
+        requires exits { IsExits self.old.exits }
+        requires known { KnowsOwn (Some change) contests.old self.old }
+        ensures decides { OnOk result (Adds (Decides 0 (Some change) self.old self.new) journal.old journal.new) }
+        ensures informed { OnOk result (Informed contests.new self.new) }
+    {
+        let prefix = change.prefix;
+        let had = change.before.is_some();
+        let has = change.after.is_some();
+        enter(contests, prefix, had, has)?;
+        self.decide_change(0, change, contests, journal)?;
+        leave(contests, prefix, had, has)
     }
 
     /// One turn of the walk of redistribution, and the text of its lines.

@@ -2,6 +2,7 @@
 
 ghost use Rattle.std.specs.Prelude.{◌≡◌, OnOk, IfOk, IfSome, IsSome, Some, None};
 ghost use Rattle.event_text.specs.declared.event.Event.TheVariants as events;
+ghost use Rattle.event_text.specs.declared.event.Question.TheVariants as questions;
 ghost use Rattle.event_text.specs.Declarations.{refusal};
 ghost use Rattle.register_interest.specs.Covers.{matched};
 ghost use Rattle.register_interest.specs.Matches.{lent_match};
@@ -16,7 +17,6 @@ ghost use Rattle.router_moments.specs.Works.{Informs, MayFollow, Follows, Settle
 ghost use Rattle.router_network.specs.Informed.{Informed, InformedOver};
 ghost use Rattle.router_network.specs.Reads.{TakesInto};
 
-use crate::candidates::{enter, leave};
 use crate::network::Network;
 use crate::steps::ignored;
 use addr4::{Addr, Family, Memory, Prefix};
@@ -74,7 +74,7 @@ impl<F: Writes> Network<F> {
     /// 5.2.1).
     pub fn cover(&mut self, address: Addr<F>, journal: &mut Journal<F>) -> Result<u128, Memory>
         requires { Stands self.old }
-        ensures { IfOk result (λ turns. Gives (HasStepped self.old (events.Cover address) turns self.new) journal.old journal.new) }
+        ensures { IfOk result (λ turns. Gives (HasStepped self.old (events.Query (questions.Cover address)) turns self.new) journal.old journal.new) }
     {
         let (found, subnet) = self.registry.peek(address);
         journal.push_line(Line::Cover(address, prefix_of(&found), subnet))?;
@@ -162,12 +162,8 @@ impl<F: Writes> Network<F> {
         ensures follows { OnOk result (Adds (Follows (Some change.now) self.old self.new) journal.old journal.new) }
         ensures informed { OnOk result (Informed contests.new self.new) }
     {
-        let had = change.before.is_some();
-        let has = change.after.is_some();
-        enter(contests, change.prefix, had, has)?;
         self.inform(change)?;
         self.redistribute(change, contests, journal)?;
-        leave(contests, change.prefix, had, has)?;
         self.prepare()?;
         self.take_interior(change, contests, journal)
     }

@@ -5,6 +5,7 @@
 
 ghost use Rattle.std.specs.Prelude.{◌≡◌, ℕ, ◌<◌, ◌≤◌, IfOk, None, length};
 ghost use Rattle.event_text.specs.declared.event.Event.TheVariants as events;
+ghost use Rattle.event_text.specs.declared.event.Question.TheVariants as questions;
 ghost use Rattle.peer_side.specs.Peers.{chain_at};
 ghost use Rattle.router_moments.specs.declared.tasks.Phase.TheVariants as phases;
 ghost use Rattle.router_moments.specs.Moments.{Gives};
@@ -56,7 +57,7 @@ impl<F: AsksLosses> Network<F> {
         requires stands { Stands self.old }
         requires exits { AllHaveExits self.old }
         requires informed { Informed contests.now self.old }
-        ensures { IfOk result (λ turns. Gives (HasStepped self.old (events.Settled p) turns self.new) journal.old journal.new) }
+        ensures { IfOk result (λ turns. Gives (HasStepped self.old (events.Query (questions.Settled p)) turns self.new) journal.old journal.new) }
     {
         the_first_task_tells();
         self.prepare()?;

@@ -4,6 +4,7 @@ ghost use Rattle.std.specs.Prelude.{◌≡◌, [], ◌∷◌, OnOk, IfOk, None};
 ghost use Rattle.journal_text.specs.declared.line.Line.TheVariants as lines;
 ghost use Rattle.journal_text.specs.Journals.{flushed, with_lines};
 ghost use Rattle.event_text.specs.declared.event.Event.TheVariants as events;
+ghost use Rattle.event_text.specs.declared.event.Question.TheVariants as questions;
 ghost use Rattle.event_text.specs.Declarations.{refusal};
 ghost use Rattle.router_moments.specs.Moments.{Gives};
 ghost use Rattle.router_moments.specs.Stands.{Stands, AllHaveExits};
@@ -98,7 +99,7 @@ impl<F: Writes> Network<F> {
     ) -> Result<u128, Memory>
         requires stands { Stands self.old }
         requires informed { Informed contests.now self.old }
-        ensures { IfOk result (λ turns. Gives (HasStepped self.old (events.Ask link p) turns self.new) journal.old journal.new) }
+        ensures { IfOk result (λ turns. Gives (HasStepped self.old (events.Query (questions.Ask link p)) turns self.new) journal.old journal.new) }
     {
         self.prepare()?;
         self.ask(link, p, contests, journal)?;
@@ -115,7 +116,7 @@ impl<F: Writes> Network<F> {
     ) -> Result<u128, Memory>
         requires stands { Stands self.old }
         requires informed { Informed contests.now self.old }
-        ensures { IfOk result (λ turns. Gives (HasStepped self.old (events.Show link) turns self.new) journal.old journal.new) }
+        ensures { IfOk result (λ turns. Gives (HasStepped self.old (events.Query (questions.Show link)) turns self.new) journal.old journal.new) }
     {
         self.prepare()?;
         self.show(link, contests, journal)?;

@@ -7,7 +7,7 @@ ghost use Rattle.std.specs.Prelude.{◌≡◌, ◌<◌, length, IfOk, OnOk};
 ghost use Rattle.std.specs.Option.{option_copied};
 ghost use Rattle.bench_rows.specs.Tables.{table_at, rows_in, Sets};
 
-use addr4::{Memory, Prefix, Row, V4};
+use addr4::{Memory, Place, Prefix, Row, V4};
 use bgp_attr::Route;
 use decision::Branches;
 use safe_table::Table;
@@ -55,11 +55,13 @@ impl TableBranches {
 }
 
 impl Branches<V4> for TableBranches {
-    ghost use Rattle.bench_rows.specs.Tables.{rows_in, candidates_in};
+    ghost use Rattle.bench_rows.specs.Tables.{rows_in, candidates_in, no_candidates};
 
     ghost rows = { λ s. rows_in s.tables.items };
 
     ghost candidates = { λ s. candidates_in (rows_in s.tables.items) };
+
+    ghost beside = { λ s. no_candidates };
 
     fn asked(&self, branch: u8, p: &Prefix) -> Result<Option<Route>, Memory> {
         let Some(table) = self.table(branch) else {
@@ -76,6 +78,10 @@ impl Branches<V4> for TableBranches {
             return false;
         };
         table.get(*p).is_some()
+    }
+
+    fn next_beside(&self, _after: &Place<Prefix>) -> Option<Prefix> {
+        None
     }
 
     fn is_from(&self, _branch: u8, _number: u8) -> bool {

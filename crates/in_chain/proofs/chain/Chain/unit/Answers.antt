@@ -15,5 +15,5 @@ pub returns-else-number-self-2-clause-one_empty : goal.returns-else-number-self-
 returns-else-number-self-2-clause-one_empty g c =
     on_ok_weaker c.walk.result (λ same. subst (λ (i : Incoming). OneEmptyAtMost i.tables.deletions) (sym same) (none_is_one _ c.requires.full)) c.walk.ensures.incoming
 
-pub returns-in-Nh-clause-one_empty : goal.returns-in-Nh-clause-one_empty
-returns-in-Nh-clause-one_empty g c = none_is_one _ c.requires.full
+pub returns-in_default-clause-one_empty : goal.returns-in_default-clause-one_empty
+returns-in_default-clause-one_empty g c = none_is_one _ c.requires.full

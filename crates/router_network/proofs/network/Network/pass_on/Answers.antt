@@ -5,25 +5,11 @@ use Rattle.rib_exit.proofs.LawLemmas.{on_ok}
 use Rattle.router_moments.proofs.RouteLemmas.{followed}
 use Rattle.router_network.specs.Informed.{Informed}
 use Rattle.router_network.proofs.IntReads.{int_readers}
-use Rattle.router_network.proofs.IntShifts.{int_shifts, int_has_shift, int_known, int_has_shifted, int_informed}
+use Rattle.router_network.proofs.KnownRows.{over_told}
 use Rattle.router_network.proofs.network.Network.pass_on.Goals as goal
 
-pub enter-requires : goal.enter-requires
-enter-requires g c = int_has_shift c.args.change.now c.is_some-had.result c.is_some-has.result c.args.contests.now c.args.self.now c.is_some-had.ensures c.is_some-has.ensures c.requires.informed
-
 pub redistribute-requires-clause-known : goal.redistribute-requires-clause-known
-redistribute-requires-clause-known g c =
-    let change = c.args.change.now in
-    let over = c.requires.informed in
-    int_known change c.is_some-had.result c.is_some-has.result c.args.contests.now c.args.self.now c.is_some-had.ensures c.is_some-has.ensures over c.enter.new.contests c.inform.new.self c.in_ok-inform.ensures
-    (c.in_ok-enter.ensures.known _ over.knows) (c.in_ok-enter.ensures.counts 0 _ _ (int_shifts change c.is_some-had.result c.is_some-has.result c.args.contests.now c.args.self.now c.is_some-had.ensures c.is_some-has.ensures over) over.counts)
-
-pub leave-requires : goal.leave-requires
-leave-requires g c =
-    let change = c.args.change.now in
-    let over = c.requires.informed in
-    int_has_shifted change c.is_some-had.result c.is_some-has.result c.args.contests.now c.args.self.now c.is_some-had.ensures c.is_some-has.ensures over c.enter.new.contests c.redistribute.new.contests
-    (c.in_ok-enter.ensures.counts 0 _ _ (int_shifts change c.is_some-had.result c.is_some-has.result c.args.contests.now c.args.self.now c.is_some-had.ensures c.is_some-has.ensures over) over.counts) c.in_ok-redistribute.ensures.counts
+redistribute-requires-clause-known g c = over_told c.args.change.now c.args.contests.now c.args.self.now c.inform.new.self c.requires.informed c.in_ok-inform.ensures
 
 pub take_interior-requires-clause-readers : goal.take_interior-requires-clause-readers
 take_interior-requires-clause-readers g c =
@@ -31,14 +17,7 @@ take_interior-requires-clause-readers g c =
     subst HaveReaders (sym c.prepare.ensures) (int_readers c.args.change.now c.args.contests.now c.args.self.now c.inform.new.self c.redistribute.new.self own.0 c.requires.informed c.in_ok-inform.ensures own.2 c.requires.follow.exits)
 
 pub take_interior-requires-clause-informed : goal.take_interior-requires-clause-informed
-take_interior-requires-clause-informed g c =
-    let change = c.args.change.now in
-    let over = c.requires.informed in
-    subst (Informed c.leave.new.contests) (sym c.prepare.ensures)
-    (int_informed change c.is_some-had.result c.is_some-has.result c.args.contests.now c.args.self.now c.is_some-had.ensures c.is_some-has.ensures over c.enter.new.contests c.redistribute.new.contests c.leave.new.contests c.inform.new.self c.redistribute.new.self
-    c.in_ok-redistribute.ensures.redistributes.0 c.in_ok-inform.ensures c.in_ok-redistribute.ensures.redistributes.2
-    (c.in_ok-enter.ensures.counts 0 _ _ (int_shifts change c.is_some-had.result c.is_some-has.result c.args.contests.now c.args.self.now c.is_some-had.ensures c.is_some-has.ensures over) over.counts) c.in_ok-redistribute.ensures.counts
-    c.in_ok-redistribute.ensures.known c.in_ok-leave.ensures.counts c.in_ok-leave.ensures.known)
+take_interior-requires-clause-informed g c = subst (Informed c.redistribute.new.contests) (sym c.prepare.ensures) c.in_ok-redistribute.ensures.informed
 
 pub returns-clause-follows : goal.returns-clause-follows
 returns-clause-follows g c =
@@ -48,12 +27,4 @@ returns-clause-follows g c =
     c.take_interior.ensures
 
 pub returns-clause-informed : goal.returns-clause-informed
-returns-clause-informed g c =
-    let change = c.args.change.now in
-    let over = c.requires.informed in
-    on_ok c.take_interior.result _
-    (subst (Informed c.leave.new.contests) (sym c.prepare.ensures)
-    (int_informed change c.is_some-had.result c.is_some-has.result c.args.contests.now c.args.self.now c.is_some-had.ensures c.is_some-has.ensures over c.enter.new.contests c.redistribute.new.contests c.leave.new.contests c.inform.new.self c.redistribute.new.self
-    c.in_ok-redistribute.ensures.redistributes.0 c.in_ok-inform.ensures c.in_ok-redistribute.ensures.redistributes.2
-    (c.in_ok-enter.ensures.counts 0 _ _ (int_shifts change c.is_some-had.result c.is_some-has.result c.args.contests.now c.args.self.now c.is_some-had.ensures c.is_some-has.ensures over) over.counts) c.in_ok-redistribute.ensures.counts
-    c.in_ok-redistribute.ensures.known c.in_ok-leave.ensures.counts c.in_ok-leave.ensures.known))
+returns-clause-informed g c = on_ok c.take_interior.result _ (subst (Informed c.redistribute.new.contests) (sym c.prepare.ensures) c.in_ok-redistribute.ensures.informed)

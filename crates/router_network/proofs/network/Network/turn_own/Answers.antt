@@ -1,7 +1,7 @@
 use Rattle.router_moments.proofs.Common.{sym, ◌∙◌, refl}
 use Rattle.router_moments.proofs.HopTurns.{exits_sound}
 use Rattle.router_moments.proofs.OwnTurns.{none_own, own_took}
-use Rattle.router_network.proofs.KnownRows.{walk_known, walk_informed}
+use Rattle.router_network.proofs.KnownRows.{walk_known}
 use Rattle.router_network.proofs.network.Network.turn_own.Goals as goal
 
 pub returns-in_default-clause-taken : goal.returns-in_default-clause-taken
@@ -20,4 +20,4 @@ send_own-requires-clause-known g c =
     walk_known c.in-Some.me c.args.contests.now c.args.self.now _ c.unit.new.self c.in_ok-turn.turn c.sent_of.result c.in_default-turn.not-Nothing c.self.view_is (sym c.speaker.ensures ∙ c.in-Some.is) c.in_ok-turn.ensures.taken c.sent_of.ensures c.requires.informed
 
 pub returns-clause-informed : goal.returns-clause-informed
-returns-clause-informed g c = walk_informed c.args.contests.now c.send_own.new.contests c.args.self.now _ c.unit.new.self c.send_own.new.self c.send_own.new.self.exits c.self.view_is c.in_ok-send_own.ensures.sends.2.decides.after c.requires.informed c.in_ok-send_own.ensures.counts c.in_ok-send_own.ensures.known
+returns-clause-informed g c = c.in_ok-send_own.ensures.informed
